@@ -17,3 +17,4 @@ pub mod Tables
 pub mod MarkRows
 pub mod Shown
 pub mod Working
+pub mod OpenFiles

@@ -1,7 +1,8 @@
 -- Statements that change no frame and no place that is kept, which are all but those of control. WHAT SUCH A STATEMENT MAY CHANGE of a
 -- partition is a record of its own, which is put back in one place. So by its type it leaves the partition itself and its terminal, where
--- it stands, its frames and the place that is kept, the platter that it starts with, the lines that it was given, and what was asked of
--- it.
+-- it stands, its frames and the place that is kept, the files that it has open and the devices that it holds, the platter that it starts
+-- with, the lines that it was given, and what was asked of it. One on data files changes which files are open besides as it finishes,
+-- and one that takes or frees devices which of them are held.
 use Rattle.std.specs.Prelude.{◌≡◌, ℕ, Bool, true, List, Option, Some, None}
 use Rattle.b2_base.specs.declared.files.Slot.{Slot}
 use Rattle.b2_dec.specs.declared.number.Mode.{Mode}
@@ -11,7 +12,7 @@ use Rattle.b2_vars.specs.Assigned.{Assigned}
 use Rattle.b2_vars.specs.Tables.{VarsState}
 use Rattle.b2_access.specs.AnswerKinds.{delays}
 use Rattle.b2_access.specs.Homes.{FinishesWithin, OutcomeIn, PlaceIn, PlannedIn, PlansWithin}
-use Rattle.b2_access.specs.Keeping.{FinishesInPlace, FinishesKeepNone, PlansInPlace, PlansKeepNone}
+use Rattle.b2_access.specs.Keeping.{FinishesInPlace, FinishesKeepFiles, FinishesKeepHeld, FinishesKeepNone, PlansInPlace, PlansKeepFiles, PlansKeepHeld, PlansKeepNone}
 use Rattle.b2_access.specs.Lending.{SeenLent}
 use Rattle.b2_access.specs.OwnTerminal.{FinishesAtTerminal, PlannedAt, PlansAtTerminal}
 use Rattle.b2_access.specs.Partition.{terminal_address}
@@ -28,8 +29,6 @@ use Rattle.b2_access.specs.declared.private.Private.{Private}
 pub record Work : Type 0 where
   pub mode : Mode
   pub vars : VarsState
-  pub slots : List (Option Slot)
-  pub held : List (List ℕ)
   pub print : List ℕ
   pub disk : Option (List ℕ)
   pub term_column : ℕ
@@ -46,8 +45,6 @@ abbrev pub work_of : Private → Work
 work_of me = record {
   mode = me.mode;
   vars = me.vars;
-  slots = me.slots;
-  held = me.held;
   print = me.print;
   disk = me.disk;
   term_column = me.term_column;
@@ -66,12 +63,13 @@ abbrev pub waiting_after : Option (List ℕ) → PendingOutput → PendingOutput
 waiting_after None before = before
 waiting_after (Some text) before = Some (terminal_address, text)
 
-abbrev pub put_back : Work → Private → Private
-put_back w me = record me {
+-- what was changed, the files that are open then, and the devices that are held then
+abbrev pub put_all : Work → List (Option Slot) → List (List ℕ) → Private → Private
+put_all w slots held me = record me {
   mode = w.mode;
   vars = w.vars;
-  slots = w.slots;
-  held = w.held;
+  slots = slots;
+  held = held;
   print = w.print;
   disk = w.disk;
   term_column = w.term_column;
@@ -84,6 +82,10 @@ put_back w me = record me {
   literal = w.literal;
   prompted = w.prompted;
 }
+
+-- files that were open stay so, and devices that were held
+abbrev pub put_back : Work → Private → Private
+put_back w me = put_all w me.slots me.held me
 
 -- a statement that has ended, and what it changed
 pub record Worked : Type 0 where
@@ -119,12 +121,54 @@ abbrev pub as_planned : Private → SeenLent → Working → Planning
 as_planned me s (Ends w) = done s (ended me w)
 as_planned me s (Plans p) = record { me = me; globals = s.globals; planned = p }
 
--- A WAY OF PLANNING, AND ONE OF FINISHING
+-- A STATEMENT ON DATA FILES as it finishes: what it changed, and the files that are open then
+pub record FileWork : Type 0 where
+  pub work : Work
+  pub slots : List (Option Slot)
+
+abbrev pub file_work_of : Private → FileWork
+file_work_of me = record { work = work_of me; slots = me.slots }
+
+abbrev pub put_files : FileWork → Private → Private
+put_files w me = put_all w.work w.slots me.held me
+
+pub record FileWorked : Type 0 where
+  pub work : FileWork
+  pub outcome : Outcome
+
+abbrev pub leaves_files : Private → Outcome → FileWorked
+leaves_files me o = record { work = file_work_of me; outcome = o }
+
+-- ONE THAT TAKES OR FREES DEVICES: what it changed, and the devices that are held then
+pub record HolderWork : Type 0 where
+  pub work : Work
+  pub held : List (List ℕ)
+
+abbrev pub holder_work_of : Private → HolderWork
+holder_work_of me = record { work = work_of me; held = me.held }
+
+abbrev pub put_holdings : HolderWork → Private → Private
+put_holdings w me = put_all w.work me.slots w.held me
+
+pub record HolderWorked : Type 0 where
+  pub work : HolderWork
+  pub outcome : Outcome
+
+abbrev pub leaves_holdings : Private → Outcome → HolderWorked
+leaves_holdings me o = record { work = holder_work_of me; outcome = o }
+
+-- A WAY OF PLANNING, AND THREE OF FINISHING
 abbrev pub plans_by : (Private → SeenLent → Working) → Private → SeenLent → Planning
 plans_by way me s = as_planned me s (way me s)
 
 abbrev pub finishes_by : (Access → Answer → Private → SeenLent → Worked) → Access → Answer → Private → SeenLent → Finishing
 finishes_by way x a me s = finished s (ended me (way x a me s))
+
+abbrev pub files_finish_by : (Access → Answer → Private → SeenLent → FileWorked) → Access → Answer → Private → SeenLent → Finishing
+files_finish_by way x a me s = finished s (record { me = put_files (way x a me s).work me; outcome = (way x a me s).outcome })
+
+abbrev pub holders_finish_by : (Access → Answer → Private → SeenLent → HolderWorked) → Access → Answer → Private → SeenLent → Finishing
+holders_finish_by way x a me s = finished s (record { me = put_holdings (way x a me s).work me; outcome = (way x a me s).outcome })
 
 -- WHAT THEY STILL HAVE TO SHOW. What is planned leads to the home of the place and marks no other, and asks at the own terminal alone;
 -- what finishes leads to that home; and an answer that delays changes nothing.
@@ -134,21 +178,31 @@ PlansEachWithin way = (among : ℕ → Bool) (me : Private) (s : SeenLent) → P
 abbrev pub PlansEachAtTerminal : (Private → SeenLent → Working) → Type 0
 PlansEachAtTerminal way = (me : Private) (s : SeenLent) → PlannedAt me.term (planned_of (way me s))
 
-abbrev pub LeadsWithin : (Access → Answer → Private → SeenLent → Worked) → Type 0
-LeadsWithin way = (among : ℕ → Bool) (x : Access) (a : Answer) (me : Private) (s : SeenLent) → PlaceIn among me.place → OutcomeIn among (way x a me s).outcome
+abbrev pub LeadsWithin : (Access → Answer → Private → SeenLent → Outcome) → Type 0
+LeadsWithin leads = (among : ℕ → Bool) (x : Access) (a : Answer) (me : Private) (s : SeenLent) → PlaceIn among me.place → OutcomeIn among (leads x a me s)
 
-abbrev pub ChangesNoWork : (Access → Answer → Private → SeenLent → Worked) → Type 0
-ChangesNoWork way = (x : Access) (a : Answer) (me : Private) (s : SeenLent) → delays a ≡ true → (way x a me s).work ≡ work_of me
+abbrev pub ChangesNothing : {W : Type 0} → (Private → W) → (Access → Answer → Private → SeenLent → W) → Type 0
+ChangesNothing {W} of_it work = (x : Access) (a : Answer) (me : Private) (s : SeenLent) → delays a ≡ true → work x a me s ≡ of_it me
 
--- SO IT HOLDS OF EACH, BY ITS FORM
+-- SO IT HOLDS OF EACH, BY ITS FORM; and what each leaves of the open files and of the devices that are held
 abbrev pub PlansArePutBack : Type 0
 PlansArePutBack =
     (way : Private → SeenLent → Working)
     → PlansInPlace (plans_by way) × PlansKeepNone (plans_by way) × PlansBeforeChanges (plans_by way) × PlansToShow (plans_by way)
     × (PlansEachWithin way → PlansWithin (plans_by way)) × (PlansEachAtTerminal way → PlansAtTerminal (plans_by way))
+    × PlansKeepFiles (plans_by way) × PlansKeepHeld (plans_by way)
+
+-- whichever of the three it is, by what it changes, where it leads, and how it finishes
+abbrev pub IsPutBack : {W : Type 0} → (Private → W) → (Access → Answer → Private → SeenLent → W) → (Access → Answer → Private → SeenLent → Outcome) → (Access → Answer → Private → SeenLent → Finishing) → Type 0
+IsPutBack of_it work leads finish =
+    FinishesInPlace finish × FinishesKeepNone finish × FinishesAtTerminal finish × FinishesToShow finish
+    × (LeadsWithin leads → FinishesWithin finish) × (ChangesNothing of_it work → FinishesUnchanged finish)
 
 abbrev pub FinishesArePutBack : Type 0
 FinishesArePutBack =
-    (way : Access → Answer → Private → SeenLent → Worked)
-    → FinishesInPlace (finishes_by way) × FinishesKeepNone (finishes_by way) × FinishesAtTerminal (finishes_by way) × FinishesToShow (finishes_by way)
-    × (LeadsWithin way → FinishesWithin (finishes_by way)) × (ChangesNoWork way → FinishesUnchanged (finishes_by way))
+    ((way : Access → Answer → Private → SeenLent → Worked)
+    → IsPutBack work_of (λ x a me s. (way x a me s).work) (λ x a me s. (way x a me s).outcome) (finishes_by way) × FinishesKeepFiles (finishes_by way) × FinishesKeepHeld (finishes_by way))
+    × ((way : Access → Answer → Private → SeenLent → FileWorked)
+    → IsPutBack file_work_of (λ x a me s. (way x a me s).work) (λ x a me s. (way x a me s).outcome) (files_finish_by way) × FinishesKeepHeld (files_finish_by way))
+    × ((way : Access → Answer → Private → SeenLent → HolderWorked)
+    → IsPutBack holder_work_of (λ x a me s. (way x a me s).work) (λ x a me s. (way x a me s).outcome) (holders_finish_by way) × FinishesKeepFiles (holders_finish_by way))

@@ -16,12 +16,13 @@ pub fn law_a_start_keeps_none()
 
 /// A statement that changes no frame and no place that is kept, whatever it plans, leaves the partition in its place and at its
 /// terminal, keeps no place, and has changed nothing where it asks for an access; it names no other partition where it leads to
-/// none.
+/// none. The files that are open stay so, and the devices that are held.
 pub fn law_plans_are_put_back()
     ensures { PlansArePutBack }
 {}
 
-/// And so does one that finishes; it changes nothing where its work stays as it was.
+/// And so does one that finishes; it changes nothing where its work stays as it was. One on data files leaves the devices that are held,
+/// one that takes or frees devices the files that are open, and every other both.
 pub fn law_finishes_are_put_back()
     ensures { FinishesArePutBack }
 {}

@@ -3,6 +3,7 @@ use Rattle.std.specs.Prelude.{◌≡◌, ℕ, Bool, List, false}
 use Rattle.b2_atom.specs.declared.rows.TheConstants as row
 use Rattle.b2_access.specs.LeftAlone.{LeaveTheRest}
 use Rattle.b2_access.specs.Lending.{SeenLent}
+use Rattle.b2_access.specs.OpenFiles.{FinishesKeepOpenFiles, PlansKeepOpenFiles}
 use Rattle.b2_access.specs.OwnDevices.{PlansListed}
 use Rattle.b2_access.specs.Planning.{Finishing, Planning}
 use Rattle.b2_access.specs.LegalPlans.{PlansLegally}
@@ -27,3 +28,9 @@ pub record AreLawful (ways : Ways) : Type 0 where
 -- And over the devices that there are: a statement of any row plans by the table, which lists what it asks for.
 abbrev pub AskForListed : (List Device → Ways) → Type 0
 AskForListed ways = (r : ℕ) → PlansListed (λ devices. (ways devices).plan r)
+
+-- Where the files that a partition has open are on platters that are listed for it, at their first sectors or after them, a statement of
+-- any row leaves them so, as it plans, and as it finishes by an answer that fits an access to what is listed.
+pub record KeepOpenFiles (ways : List Device → Ways) : Type 0 where
+  pub as_planned : (r : ℕ) → PlansKeepOpenFiles (λ devices. (ways devices).plan r)
+  pub as_finished : (devices : List Device) (r : ℕ) → FinishesKeepOpenFiles ((ways devices).finish r)

@@ -6,7 +6,7 @@ ghost use Rattle.b2_access.specs.Answering.{can_answer};
 ghost use Rattle.b2_access.specs.Found.{IsFound, seen_found};
 ghost use Rattle.b2_access.specs.Lending.{globals_lent, seen_lent};
 ghost use Rattle.b2_access.specs.Planning.{done};
-ghost use Rattle.b2_language.specs.Languages.{AreLawful, AskForListed, Ways};
+ghost use Rattle.b2_language.specs.Languages.{AreLawful, AskForListed, KeepOpenFiles, Ways};
 
 use b2_access::{Access, Answer, DeviceTable, Found, Lent, Outcome, Planned, Private};
 use b2_base::NoMemory;
@@ -88,4 +88,7 @@ pub trait Language {
 
     /// Its statements ask for devices that the table lists for their partition, and for no others.
     ghost asks_listed: { AskForListed ways };
+
+    /// They keep the files that are open on platters that the table lists for their partition, at their first sectors or after them.
+    ghost keeps_open: { KeepOpenFiles ways };
 }

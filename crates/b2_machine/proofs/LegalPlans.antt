@@ -25,7 +25,7 @@ courses (planned.Done o) b p me home h = tt
 courses (planned.Ask a) b p me home h = h
 
 module _ (ways : Ways) (lawful : AreLawful ways) where
-  planned_by : (b : Builder) (p : Place) (me : Private) (s : SeenLent) → IsLegalPlan (plan_by ways b p me s).planned
+  pub planned_by : (b : Builder) (p : Place) (me : Private) (s : SeenLent) → IsLegalPlan (plan_by ways b p me s).planned
   planned_by (builder.Listing from to) p me s = listed (is_some p.line) (from, to) me s
   planned_by (builder.Language r) p me s = lawful.plans_legally r me s
   planned_by builder.Nobody p me s = tt

@@ -8,6 +8,7 @@ pub mod Listings
 pub mod LocalSteps
 pub mod StepHomes
 pub mod KeptPlace
+pub mod OwnRules
 pub mod StepTerminal
 pub mod StepDevices
 pub mod StepOutput
@@ -15,3 +16,4 @@ pub mod AtOnce
 pub mod Begins
 pub mod Counted
 pub mod Unchanged
+pub mod StepOpenFiles

@@ -35,7 +35,7 @@ begun_listed devices who (planned.Ask a) b p me home h = h
 
 module _ (ways : List Device → Ways) (listed : AskForListed ways) (devices : List Device) where
   -- statements
-  planned_listed : (b : Builder) (p : Place) (me : Private) (s : SeenLent) → PlannedListed devices me.part (plan_by (ways devices) b p me s).planned
+  pub planned_listed : (b : Builder) (p : Place) (me : Private) (s : SeenLent) → PlannedListed devices me.part (plan_by (ways devices) b p me s).planned
   planned_listed (builder.Listing from to) p me s = listing_listed devices (is_some p.line) (from, to) me s
   planned_listed (builder.Language r) p me s = listed r devices me s
   planned_listed builder.Nobody p me s = tt

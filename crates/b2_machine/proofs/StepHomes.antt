@@ -216,7 +216,7 @@ module _ (ways : Ways) (lawful : AreLawful ways) (among : ℕ → Bool) where
   FinishingIn x = IsWithin among x.me × OutcomeIn among x.outcome
 
   finish_in : (b : Builder) (x : Access) (a : Answer) (me : Private) (s : SeenLent) → Within me → FinishingIn (finish_by ways b x a me s)
-  finish_in (builder.Listing from to) x a me s w = (within among me (shown x a me).work w, shown_leads among (column_shown x a) me)
+  finish_in (builder.Listing from to) x a me s w = (within among me (shown x a me).work me.slots me.held w, shown_leads among (column_shown x a) me)
   finish_in (builder.Language r) x a me s w = (lawful.leave_the_rest r).finishes_within among x a me s w
   finish_in builder.Nobody x a me s w = (w, tt)
 

@@ -1,16 +1,10 @@
 -- A step asks at the terminal of its partition alone, and leaves which one that is.
-use Rattle.std.proofs.Common.{◌≡◌, ◌∙◌, refl, ℕ, ◌&&◌, not, nat_lt, Bool, true, false, if◌then◌else◌, List, length, Option, Some, None, is_some, Result, Ok, Err}
+use Rattle.std.proofs.Common.{◌≡◌, ◌∙◌, refl, ap, ℕ, Bool, true, false, if◌then◌else◌, List, Option, Some, None, is_some}
 use Rattle.std.specs.Str.{bytes_eq}
-use Rattle.b2_flow.specs.Stacks.{most_frames}
 use Rattle.b2_flow.specs.declared.frame.Place.{Place}
 use Rattle.b2_syntax.specs.Reading.{reads}
-use Rattle.b2_syntax.specs.declared.Entered.{Entered}
-use Rattle.b2_syntax.specs.declared.Entered.TheVariants as entered
-use Rattle.b2_syntax.specs.declared.LineErr.{LineErr}
-use Rattle.b2_syntax.specs.declared.LineErr.TheVariants as refusal
 use Rattle.b2_text.specs.Program.{Lines}
 use Rattle.b2_text.specs.Spots.{first_opening, is_mark}
-use Rattle.b2_text.specs.declared.spots.Spot.{Spot}
 use Rattle.b2_access.specs.Lending.{SeenLent}
 use Rattle.b2_access.specs.Loans.{Loan}
 use Rattle.b2_access.specs.OwnTerminal.{AskedAt, NamesAlone, PlannedAt}
@@ -23,7 +17,6 @@ use Rattle.b2_access.specs.declared.accesses.Access.{Access}
 use Rattle.b2_access.specs.declared.accesses.Access.TheVariants as access
 use Rattle.b2_access.specs.declared.accesses.Answer.{Answer}
 use Rattle.b2_access.specs.declared.accesses.Answer.TheVariants as answer
-use Rattle.b2_access.specs.declared.planned.Outcome.{Outcome}
 use Rattle.b2_access.specs.declared.planned.Outcome.TheVariants as outcome
 use Rattle.b2_access.specs.declared.planned.Planned.{Planned}
 use Rattle.b2_access.specs.declared.planned.Planned.TheVariants as planned
@@ -32,17 +25,16 @@ use Rattle.b2_access.proofs.Choice.{either}
 use Rattle.b2_access.proofs.OwnTerminal.{names_none, names_own}
 use Rattle.b2_language.specs.Languages.{AreLawful, Ways}
 use Rattle.b2_access.specs.Marks.{typed_by_mark}
-use Rattle.b2_language.specs.Following.{following_place}
 use Rattle.b2_machine.specs.Endings.{counts, repeats}
-use Rattle.b2_machine.specs.Keys.{calls_where, pressed_by}
+use Rattle.b2_machine.specs.Keys.{pressed}
 use Rattle.b2_machine.specs.Listed.{range_listed, lists}
 use Rattle.b2_machine.specs.Messages.{prints_text, shows_text}
-use Rattle.b2_machine.specs.Moving.{ends_by, ends_onward, error_place, faults, goes_to, jumps, place_onward}
+use Rattle.b2_machine.specs.Moving.{ends_by, ends_onward}
 use Rattle.b2_machine.specs.Statements.{Begun, begins, begins_where, begun_by, builder_of, finish_by, finishes, plan_by}
 use Rattle.b2_machine.specs.Step.{StepEnd, carries_out, enters_or_goes_on, halts_or_acts, lent, line_read, runs_or_reads, seen_by, shows_or_goes_on, step, text_in, types_or_goes_on}
 use Rattle.b2_machine.specs.Touched.{Asking, StepsAskAtTerminal, access_asked, asking, asks_at, asks_to_enter, asks_to_show, asks_to_type, asks_unless_halted}
-use Rattle.b2_machine.specs.Typing.{on_own_line, put_by, puts_numbered, shown_by, shows_pending, takes, takes_or_refuses, typed_by_key}
-use Rattle.b2_machine.specs.declared.ends.Stepped.{Stepped}
+use Rattle.b2_machine.specs.Typing.{on_own_line, put_by, puts_numbered, shown_by, shows_pending, takes_or_refuses, typed_by_key}
+use Rattle.b2_machine.proofs.OwnRules.{Own, StaysOwn, ended_stays, line_stays, onward_stays, pressed_stays, put_stays, shown_stays, typed_stays}
 use Rattle.b2_machine.specs.declared.moving.Onward.{Onward}
 use Rattle.b2_machine.specs.declared.statements.Builder.{Builder}
 use Rattle.b2_machine.specs.declared.statements.Builder.TheVariants as builder
@@ -53,72 +45,15 @@ use Rattle.b2_machine.specs.declared.statements.Progress.TheVariants as progress
 abbrev SameTerminal : Private → Private → Type 0
 SameTerminal me after = after.term ≡ me.term
 
--- what is shown, typed and entered
-shown_stays : (x : Access) (a : Answer) (me : Private) → SameTerminal me (shown_by x a me).me
-shown_stays (access.Show term bytes column) answer.Done me = refl
-shown_stays (access.PrintTo addr bytes column) answer.Done me = refl
-shown_stays x a me = refl
+same_terminal : (me after : Private) → StaysOwn me after → SameTerminal me after
+same_terminal me after is = ap (λ (o : Own). o.term) is
 
+-- what is shown
 pending_names : (device text : List ℕ) (me : Private) → NamesAlone me.term (shows_pending device text me)
 pending_names device text me =
     either (NamesAlone me.term) (bytes_eq device terminal_address) _ _
     (names_own me.term (shows_text (on_own_line me.term_column text) me) refl)
     (names_none me.term (prints_text device text me) refl)
-
-typed_stays : (a : Answer) (me : Private) → SameTerminal me (typed_by_key a me).me
-typed_stays answer.Done me = refl
-typed_stays a me = refl
-
-put_stays : (a : Answer) (me : Private) → SameTerminal me (put_by a me).me
-put_stays answer.Done me = refl
-put_stays (answer.Locked q) me = refl
-put_stays (answer.Refused code) me = refl
-put_stays a me = refl
-
-takes_stays : (e : Entered) (me : Private) → SameTerminal me (takes e me)
-takes_stays entered.Empty me = refl
-takes_stays (entered.Delete n) me = refl
-takes_stays (entered.Numbered n atoms) me = refl
-takes_stays (entered.Immediate atoms) me = refl
-
-line_stays : (r : Result Entered LineErr) (me : Private) → SameTerminal me (takes_or_refuses r me)
-line_stays (Ok e) me = takes_stays e me
-line_stays (Err (refusal.At code column)) me = refl
-line_stays (Err refusal.NoMemory) me = refl
-
--- special function keys
-called_stays : (o : Option Spot) (me : Private) → SameTerminal me (calls_where o me)
-called_stays None me = refl
-called_stays (Some spot) me = either (SameTerminal me) (nat_lt (length me.stack) most_frames) _ _ refl refl
-
-pressed_stays : (text : Option (List ℕ)) (o : Option Spot) (me : Private) → SameTerminal me (pressed_by text o me)
-pressed_stays (Some text) o me = refl
-pressed_stays None o me = called_stays o me
-
--- where it goes on
-goes_stays : (o : Option Place) (me : Private) → SameTerminal me (goes_to o me).me
-goes_stays None me = refl
-goes_stays (Some q) me = refl
-
-jumped_stays : (p q : Place) (me : Private) (home : Lines) → SameTerminal me (jumps p q me home)
-jumped_stays p q me home = either (SameTerminal me) (not (is_some p.line) && is_some q.line) _ _ refl refl
-
-faulted_stays : (code : ℕ) (o : Option Place) (p : Place) (me : Private) → SameTerminal me (faults code o p me).me
-faulted_stays code None p me = refl
-faulted_stays code (Some q) p me = refl
-
-ended_stays : (same : Stepped) (o : Outcome) (p : Place) (me : Private) (home : Lines) → SameTerminal me (ends_by same o p me home).me
-ended_stays same outcome.Next p me home = goes_stays (following_place p me home) me
-ended_stays same (outcome.Jump q) p me home = jumped_stays p q me home
-ended_stays same (outcome.Failed code) p me home = faulted_stays code (error_place code p me home) p me
-ended_stays same outcome.Repeat p me home = refl
-ended_stays same outcome.Break p me home = goes_stays (following_place p me home) me
-ended_stays same outcome.Ready p me home = refl
-
-onward_stays : (same : Stepped) (o : Outcome) (w : Onward) (p : Place) (me : Private) (home : Lines) → SameTerminal me (ends_onward same o w p me home).me
-onward_stays same outcome.Next w p me home = goes_stays (place_onward home p w) me
-onward_stays same outcome.Break w p me home = goes_stays (place_onward home p w) me
-onward_stays same o w p me home = ended_stays same o p me home
 
 -- statements
 abbrev PlanningAt : ℕ → Planning → Type 0
@@ -137,7 +72,7 @@ abbrev BegunAt : ℕ → Begun → Type 0
 BegunAt t b = (b.me.term ≡ t) × AskedAt t (access_asked b.progress)
 
 begun_at : (t : ℕ) (x : Planned) (b : Builder) (p : Place) (me : Private) (home : Lines) → me.term ≡ t → PlannedAt t x → BegunAt t (begun_by x b p me home)
-begun_at t (planned.Done o) b p me home is h = (ended_stays counts o p me home ∙ is, tt)
+begun_at t (planned.Done o) b p me home is h = (same_terminal me (ends_by counts o p me home).me (ended_stays counts o p me home) ∙ is, tt)
 begun_at t (planned.Ask a) b p me home is h = (is, h)
 
 begins_at : (ways : Ways) (lawful : AreLawful ways) (u : Option Statement) (p : Place) (me : Private) (s : SeenLent) → BegunAt me.term (begins_where ways u p me s)
@@ -155,7 +90,7 @@ finish_stays ways lawful builder.Nobody x a me s = refl
 finished_stays : (ways : Ways) (lawful : AreLawful ways) (b : Builder) (x : Access) (a : Answer) (w : Onward) (p : Place) (me : Private) (s : SeenLent) → SameTerminal me (finishes ways b x a w p me s).me
 finished_stays ways lawful b x a w p me s =
     let y = finish_by ways b x a me s in
-    onward_stays (repeats a) y.outcome w p y.me s.home.lines ∙ finish_stays ways lawful b x a me s
+    same_terminal y.me (ends_onward (repeats a) y.outcome w p y.me s.home.lines).me (onward_stays (repeats a) y.outcome w p y.me s.home.lines) ∙ finish_stays ways lawful b x a me s
 
 module _ (ways : Ways) (lawful : AreLawful ways) {M : Type 0} (store : M → StoreState) (serving : ServingOf M) (lending : Loan M) where
   -- after a step, and what it asked for
@@ -167,8 +102,10 @@ module _ (ways : Ways) (lawful : AreLawful ways) {M : Type 0} (store : M → Sto
   by_test t false e f x y h k = k
 
   read_stays : (x : Answer) (me : Private) (m : M) → SameTerminal me (line_read store serving lending x me m).me
-  read_stays (answer.Line bytes) me m = line_stays (reads bytes) (record me { term_column = 0 })
-  read_stays (answer.Special n) me m = pressed_stays (typed_by_mark n (text_in (store m) me.part).lines) (first_opening (is_mark n) (text_in (store m) me.part).lines) me
+  read_stays (answer.Line bytes) me m = same_terminal me (takes_or_refuses (reads bytes) (record me { term_column = 0 })) (line_stays (reads bytes) (record me { term_column = 0 }))
+  read_stays (answer.Special n) me m =
+      let own = (text_in (store m) me.part).lines in
+      same_terminal me (pressed n own me) (pressed_stays (typed_by_mark n own) (first_opening (is_mark n) own) me)
   read_stays x me m = refl
 
   carried_stays : (c : Progress) (p : Place) (me : Private) (m : M) → SameTerminal me (carries_out ways store serving lending c p me m).me
@@ -187,17 +124,22 @@ module _ (ways : Ways) (lawful : AreLawful ways) {M : Type 0} (store : M → Sto
       (carried_stays b.progress p b.me (lent store serving lending me m) ∙ h.0, h.1)
 
   at_number : (x : Option (ℕ × Option (List ℕ))) (me : Private) (m : M) → StepAt me.term (enters_or_goes_on ways store serving lending x me m) (asks_to_enter ways x me (store m))
-  at_number (Some line) me m = (put_stays (serving m me.part (puts_numbered line)).answer me, names_none me.term (puts_numbered line) refl)
+  at_number (Some line) me m =
+      let a = (serving m me.part (puts_numbered line)).answer in
+      (same_terminal me (put_by a me).me (put_stays a me), names_none me.term (puts_numbered line) refl)
   at_number None me m = at_place me.place me m
 
   at_literal : (x : Option (List ℕ)) (me : Private) (m : M) → StepAt me.term (types_or_goes_on ways store serving lending x me m) (asks_to_type ways x me (store m))
-  at_literal (Some text) me m = (typed_stays (serving m me.part (access.Insert me.term text)).answer me, names_own me.term (access.Insert me.term text) refl)
+  at_literal (Some text) me m =
+      let a = (serving m me.part (access.Insert me.term text)).answer in
+      (same_terminal me (typed_by_key a me).me (typed_stays a me), names_own me.term (access.Insert me.term text) refl)
   at_literal None me m = at_number me.numbered me m
 
   at_output : (x : Option (List ℕ × List ℕ)) (me : Private) (m : M) → StepAt me.term (shows_or_goes_on ways store serving lending x me m) (asks_to_show ways x me (store m))
   at_output (Some text) me m =
       let a = shows_pending text.0 text.1 me in
-      (shown_stays a (serving m me.part a).answer me, pending_names text.0 text.1 me)
+      let x = (serving m me.part a).answer in
+      (same_terminal me (shown_by a x me).me (shown_stays a x me), pending_names text.0 text.1 me)
   at_output None me m = at_literal me.literal me m
 
   at_halt : (me : Private) (m : M) → StepAt me.term (halts_or_acts ways store serving lending me m) (asks_unless_halted ways me (store m))

@@ -90,7 +90,7 @@ module _ (ways : Ways) (lawful : AreLawful ways) (before : Private) where
   listed true range s = tt
   listed false range s = refl
 
-  plans : (b : Builder) (p : Place) (s : SeenLent) → UnchangedIfAsks before (plan_by ways b p before s).me (plan_by ways b p before s).planned
+  pub plans : (b : Builder) (p : Place) (s : SeenLent) → UnchangedIfAsks before (plan_by ways b p before s).me (plan_by ways b p before s).planned
   plans (builder.Listing from to) p s = listed (is_some p.line) (from, to) s
   plans (builder.Language r) p s = (lawful.leave_the_rest r).plans_before_changes before s
   plans builder.Nobody p s = tt

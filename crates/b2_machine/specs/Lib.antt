@@ -10,4 +10,5 @@ pub mod Step
 pub mod Turn
 pub mod Stays
 pub mod Touched
+pub mod OpenFiles
 pub mod Counting

@@ -4,6 +4,7 @@ ghost use Rattle.b2_access.specs.declared.devices.Device.{Device};
 ghost use Rattle.b2_access.specs.Partition.{KeepsNone};
 ghost use Rattle.b2_access.specs.declared.private.Private.{Private};
 ghost use Rattle.b2_machine.specs.Counting.{StepsCountOrEnd, UncountedStepsChangeNothing};
+ghost use Rattle.b2_machine.specs.OpenFiles.{StepsKeepOpenFiles};
 ghost use Rattle.b2_machine.specs.Step.{step};
 ghost use Rattle.b2_machine.specs.Touched.{StepsAreLocal, StepsAskAtTerminal, StepsAskForListed, StepsShowAtTerminal, StepsStayWithin};
 
@@ -41,6 +42,12 @@ pub fn law_a_step_shows_at_its_terminal<L: Language, S: Shared>()
 /// or for the terminal.
 pub fn law_a_step_asks_for_listed_devices<L: Language>()
     ensures { StepsAskForListed L.ways }
+{}
+
+/// Where each file that a partition has open is on a platter that the table lists for it, at its first sector or after it, that is so after
+/// a step, if what may be asked for is answered by what fits.
+pub fn law_a_step_keeps_open_files<L: Language, S: Shared>()
+    ensures { StepsKeepOpenFiles L.ways S.store S.serving S.lending }
 {}
 
 /// A step that doesn't count ends its turn. So each turn has at most one, its last.

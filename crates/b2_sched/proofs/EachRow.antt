@@ -20,16 +20,17 @@ module _ (P : ℕ → Private → Type 0) where
   pub each_row : (p : ℕ) (x : Private) (rows : List (ℕ × Private)) → P p x → EachIs rows → EachIs (with_row p rows x)
   each_row p x rows new old q me is = row_holds (λ you. P q you) q p x rows (λ e. subst (λ k. P k x) (sym e) new) (λ you there. old q you there) me is
 
+  -- another own state of one that is present, where such a change keeps it
+  pub each_changed : (f : Private → Private) → ((p : ℕ) (me : Private) → P p me → P p (f me)) → (p : ℕ) (o : Option Private) (rows : List (ℕ × Private)) → row_of p rows ≡ o → EachIs rows → EachIs (row_changed p o f rows)
+  each_changed f keeps p None rows is old = old
+  each_changed f keeps p (Some me) rows is old = each_row p (f me) rows (keeps p me (old p me is)) old
+
   pub record IsKept : Type 0 where
     pub halt : (p : ℕ) (me : Private) → P p me → P p (asked_to_halt me)
     pub reset : (p : ℕ) (me : Private) → P p me → P p (asked_to_reset me)
     pub turn : (devices : List Device) (p n : ℕ) (me : Private) (s : StoreState) → P p me → P p (turn_of devices n me s).me
 
   module _ (kept : IsKept) where
-    each_changed : (f : Private → Private) → ((p : ℕ) (me : Private) → P p me → P p (f me)) → (p : ℕ) (o : Option Private) (rows : List (ℕ × Private)) → row_of p rows ≡ o → EachIs rows → EachIs (row_changed p o f rows)
-    each_changed f keeps p None rows is old = old
-    each_changed f keeps p (Some me) rows is old = each_row p (f me) rows (keeps p me (old p me is)) old
-
     each_turned : (p n : ℕ) (o : Option Private) (w : WorldState) → private_of p w ≡ o → EachIs w.privates → EachIs (with_turn p o n w).privates
     each_turned p n None w is old = old
     each_turned p n (Some me) w is old = each_row p (turn_of w.devices n me w.store).me w.privates (kept.turn w.devices p n me w.store (old p me is)) old

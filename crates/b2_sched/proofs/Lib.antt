@@ -28,3 +28,4 @@ pub mod LegalSteps
 pub mod HeldSteps
 pub mod HeldTurns
 pub mod FilesLeft
+pub mod OpenFiles

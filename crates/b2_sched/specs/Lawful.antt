@@ -1,10 +1,11 @@
 -- What holds of the statements of each crate holds of the language: by the family of their row, and by nothing else.
 use Rattle.std.proofs.Common.{◌≡◌, ℕ, Bool, true, false, true≢false, ◌&&◌, ◌||◌, not, List, refl, sym}
 use Rattle.b2_access.specs.LeftAlone.{LeaveTheRest}
+use Rattle.b2_access.specs.OpenFiles.{FinishesKeepOpenFiles, PlansKeepOpenFiles}
 use Rattle.b2_access.specs.OwnDevices.{PlansListed}
 use Rattle.b2_access.specs.declared.devices.Device.{Device}
 use Rattle.b2_access.specs.LegalPlans.{PlansLegally}
-use Rattle.b2_language.specs.Languages.{AreLawful, AskForListed}
+use Rattle.b2_language.specs.Languages.{AreLawful, AskForListed, KeepOpenFiles}
 use Rattle.b2_stmt.specs.Clearing.{asks_access}
 use Rattle.b2_stmt.specs.Plan as stmt
 use Rattle.b2_stmt.proofs.LeftAlone as stmt_laws
@@ -17,6 +18,7 @@ use Rattle.b2_stmt_disk.proofs.Listed as stmt_disk_listed
 use Rattle.b2_stmt_file.specs.Plan as stmt_file
 use Rattle.b2_stmt_file.proofs.LeftAlone as stmt_file_laws
 use Rattle.b2_stmt_file.proofs.Listed as stmt_file_listed
+use Rattle.b2_stmt_file.proofs.OpenFiles as stmt_file_open
 use Rattle.b2_stmt_io.specs.Plan as stmt_io
 use Rattle.b2_stmt_io.proofs.LeftAlone as stmt_io_laws
 use Rattle.b2_stmt_io.proofs.Listed as stmt_io_listed
@@ -30,6 +32,7 @@ use Rattle.b2_stmt_program.proofs.Listed as stmt_program_listed
 use Rattle.b2_stmt_var.specs.Plan as stmt_var
 use Rattle.b2_stmt_var.proofs.LeftAlone as stmt_var_laws
 use Rattle.b2_sched.specs.Choice.{basic, family_of, finish_by, is_at_once, is_built, plan_by}
+use Rattle.b2_sched.specs.KeptFiles as kept
 use Rattle.b2_sched.specs.Legal.{arrays_legally, control_legally, devices_legally, disks_legally, files_legally, packed_legally, programs_legally, terminal_legally, variables_legally}
 use Rattle.b2_sched.specs.Listed.{arrays_listed, control_listed, packed_listed, variables_listed}
 use Rattle.b2_sched.specs.declared.choice.Family.{Family}
@@ -76,6 +79,34 @@ plan_listed family.Disks = stmt_disk_listed.asked_are_listed
 
 pub basic_asks_for_listed : AskForListed basic
 basic_asks_for_listed r = plan_listed (family_of r)
+
+-- Where files are open, they stay so.
+plan_open : (f : Family) → PlansKeepOpenFiles (λ devices. plan_by devices f)
+plan_open family.Variables = kept.variables_plan_open
+plan_open family.Control = kept.control_plans_open
+plan_open family.Printing = kept.terminal_plans_open
+plan_open family.Terminal = kept.terminal_plans_open
+plan_open family.Arrays = kept.arrays_plan_open
+plan_open family.Packed = kept.packed_plan_open
+plan_open family.Files = stmt_file_open.plans_keep_open_files
+plan_open family.Programs = kept.programs_plan_open
+plan_open family.Devices = kept.devices_plan_open
+plan_open family.Disks = kept.disks_plan_open
+
+finish_open : (f : Family) → FinishesKeepOpenFiles (finish_by f)
+finish_open family.Variables = kept.variables_finish_open
+finish_open family.Control = kept.control_finishes_open
+finish_open family.Printing = kept.printing_finishes_open
+finish_open family.Terminal = kept.terminal_finishes_open
+finish_open family.Arrays = kept.arrays_finish_open
+finish_open family.Packed = kept.packed_finish_open
+finish_open family.Files = stmt_file_open.finishes_keep_open_files
+finish_open family.Programs = kept.programs_finish_open
+finish_open family.Devices = kept.devices_finish_open
+finish_open family.Disks = kept.disks_finish_open
+
+pub basic_keeps_open_files : KeepOpenFiles basic
+basic_keeps_open_files = record { as_planned = λ r. plan_open (family_of r); as_finished = λ devices r. finish_open (family_of r) }
 
 built_by : (a b c d e f g h i j : Bool) → (a || (b && not c)) ≡ true → (a || b || d || e || f || g || h || i || j) ≡ true
 built_by true b c d e f g h i j is = refl

@@ -1,6 +1,7 @@
 pub mod Choice
 pub mod Legal
 pub mod Listed
+pub mod KeptFiles
 pub mod Lawful
 pub mod Turns
 pub mod Marking
@@ -13,4 +14,5 @@ pub mod Groups
 pub mod Devices
 pub mod Holding
 pub mod Files
+pub mod OpenFiles
 pub mod Clean

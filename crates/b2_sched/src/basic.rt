@@ -12,7 +12,7 @@ pub struct Basic;
 
 impl Language for Basic {
     ghost use Rattle.b2_sched.specs.Choice.{basic, is_at_once};
-    ghost use Rattle.b2_sched.specs.Lawful.{at_once_is_built, basic_asks_for_listed, basic_is_lawful};
+    ghost use Rattle.b2_sched.specs.Lawful.{at_once_is_built, basic_asks_for_listed, basic_is_lawful, basic_keeps_open_files};
 
     ghost ways = { basic };
 
@@ -114,4 +114,6 @@ impl Language for Basic {
     ghost lawful = { basic_is_lawful };
 
     ghost asks_listed = { basic_asks_for_listed };
+
+    ghost keeps_open = { basic_keeps_open_files };
 }

@@ -9,6 +9,7 @@ ghost use Rattle.b2_sched.specs.Groups.{CleanGroupsAreAsAlone, GroupsRelyOnTheir
 ghost use Rattle.b2_sched.specs.Holding.{HeldUntilFreed, OthersLeaveHeld, OthersReadNothing, OthersWait};
 ghost use Rattle.b2_sched.specs.Laws.{RunsByActions, LeavesOthers, KeepsPresent, RoundsAscend, CountsTurns, NoPlaceIsKept, RunsKeepToTheirGrant, TurnsCountAllButOne};
 ghost use Rattle.b2_sched.specs.Marking.{TurnsMarkTheirSteps};
+ghost use Rattle.b2_sched.specs.OpenFiles.{OpenFilesAreListed};
 ghost use Rattle.b2_sched.specs.Start.{CanStart};
 
 /// A run is one list of actions, of which each is a key, a front, a halt, a reset or a turn.
@@ -105,6 +106,12 @@ pub fn law_a_group_can_start_alone()
 /// for all of them, or for this one alone.
 pub fn law_a_run_touches_listed_devices()
     ensures { RunsTouchListedDevices }
+{}
+
+/// Whatever was run from a boot with sound platters, by steps that ask for what carries what its types allow: each file that a partition has
+/// open is on a platter that the boot lists for it, with its place at its first sector or after it.
+pub fn law_open_files_are_listed()
+    ensures { OpenFilesAreListed }
 {}
 
 /// Whatever happens, and whichever partitions take turns, from sound platters a data file keeps its records, up to a place and up to its

@@ -1,12 +1,12 @@
 -- CLEAR and CLEAR P: what they ask of the store, and how they finish.
-use Rattle.std.specs.Prelude.{ℕ, ◌==◌, ◌||◌, Bool, [], ◌∷◌, ◌++◌, codes, Option, None, Some, unwrap_or, if◌then◌else◌}
+use Rattle.std.specs.Prelude.{ℕ, ◌==◌, ◌||◌, Bool, true, [], ◌∷◌, ◌++◌, codes, Option, None, Some, unwrap_or, if◌then◌else◌}
 use Rattle.std.specs.FinMap as map
 use Rattle.b2_base.specs.Byte as byte
 use Rattle.b2_base.specs.declared.codes.TheConstants.{A08_TEXT_BORROWED}
 use Rattle.b2_atom.specs.Tree.{Trees}
 use Rattle.b2_atom.specs.Tree.Trees.{Put}
 use Rattle.b2_atom.specs.declared.rows.TheConstants as row
-use Rattle.b2_access.specs.Partition.{no_files, terminal_address, without_frames}
+use Rattle.b2_access.specs.Partition.{terminal_address, without_frames}
 use Rattle.b2_access.specs.declared.accesses.Access.{Access}
 use Rattle.b2_access.specs.declared.accesses.Access.TheVariants as access
 use Rattle.b2_access.specs.declared.accesses.Answer.{Answer}
@@ -32,18 +32,22 @@ asks_access r = r == row.CLEAR || r == row.CLEAR_P
 abbrev pub asked_access : ℕ → Trees → Option Access
 asked_access r t = if r == row.CLEAR then Some (access.ClearAll None 0) else (if r == row.CLEAR_P then Some (asks_to_erase t) else None)
 
--- all is cleared: the text and the `@` variables by the access, and then the variables and the frames; no data file is open, and the
--- terminal and the platter with which the partition started are selected again; the devices that it has taken stay so
+-- all is cleared: the text and the `@` variables by the access, and then the variables and the frames; the terminal and the platter with
+-- which the partition started are selected again; the devices that it has taken stay so
 abbrev pub cleared : Private → Private
-cleared me = record (without_frames me) { vars = record me.vars { table = map.empty }; slots = no_files; print = terminal_address; disk = me.boot_disk }
+cleared me = record (without_frames me) { vars = record me.vars { table = map.empty }; print = terminal_address; disk = me.boot_disk }
 
--- and it is shown to be ready
+-- it is shown to be ready
 abbrev pub ready_after : Private → Control
 ready_after me = record (control_of me) { work = record (work_of me) { shows = Some (codes "READY" ++ byte.newline ∷ []) } }
 
+-- and no data file is open
+abbrev pub all_closed : Control → Control
+all_closed c = record c { closes = true }
+
 -- how a statement finishes that clears text: the frames go with the lines; A08 where another stands inside it; else the step is repeated
 abbrev pub clearing_ends : ClearCame → Private → Steered
-clearing_ends AllCleared me = record { control = ready_after (cleared me); outcome = outcome.Ready }
+clearing_ends AllCleared me = record { control = all_closed (ready_after (cleared me)); outcome = outcome.Ready }
 clearing_ends LinesErased me = record { control = control_of (without_frames me); outcome = outcome.Ready }
 clearing_ends TextLocked me = unsteered me (outcome.Failed A08_TEXT_BORROWED)
 clearing_ends ClearLater me = unsteered me outcome.Repeat

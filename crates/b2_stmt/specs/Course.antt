@@ -46,7 +46,7 @@ stops_program shown p after me = record {
 
 -- the program begins anew: the variables that aren't common, the frames, the last code, the place of READ and what was kept go
 abbrev pub begun_anew : Private → Control
-begun_anew me = record {
+begun_anew me = record (control_of me) {
   work = record (work_of me) { vars = record me.vars { table = common_only me.vars.table }; last = 0; next_data = None; args = None };
   kept = None;
   stack = [];

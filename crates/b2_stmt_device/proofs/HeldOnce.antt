@@ -1,5 +1,5 @@
 -- A partition holds no device twice: a statement that takes or frees devices leaves it so.
-use Rattle.std.proofs.Common.{◌≡◌, ◌∙◌, refl, ap, ℕ, nat_le, ◌==◌, ◌&&◌, ◌||◌, not, Bool, true, false, if◌then◌else◌, List, [], ◌∷◌, ◌++◌, length, Option, Some, None, Result, Ok, Err}
+use Rattle.std.proofs.Common.{◌≡◌, ◌∙◌, refl, ap, ℕ, nat_le, ◌==◌, ◌&&◌, ◌||◌, not, Bool, true, false, if◌then◌else◌, List, [], ◌∷◌, ◌++◌, length, Option, Some, None}
 use Rattle.std.specs.List.{list_any}
 use Rattle.std.specs.Str.{bytes_eq}
 use Rattle.b2_atom.specs.declared.rows.TheConstants as row
@@ -7,20 +7,18 @@ use Rattle.b2_flow.specs.declared.frame.Place.{Place}
 use Rattle.b2_text.specs.Program.{Lines}
 use Rattle.b2_access.specs.Devices.{are_distinct}
 use Rattle.b2_access.specs.Lending.{SeenLent}
-use Rattle.b2_access.specs.Placed.{Statement}
 use Rattle.b2_access.specs.Views.{TakingCame, DevicesTaken, DeviceBusy, TakingLater, devices_freed, taking_came}
-use Rattle.b2_access.specs.Working.{Worked, Working, as_planned, stops}
+use Rattle.b2_access.specs.Working.{HolderWorked}
 use Rattle.b2_access.specs.declared.accesses.Access.{Access}
 use Rattle.b2_access.specs.declared.accesses.Answer.{Answer}
-use Rattle.b2_access.specs.declared.devices.Device.{Device}
 use Rattle.b2_access.specs.declared.private.Private.{Private}
 use Rattle.b2_access.proofs.Choice.{either}
 use Rattle.b2_access.proofs.Courses.{each_course}
+use Rattle.b2_access.proofs.Working.{plans_keep_held}
 use Rattle.b2_stmt_device.specs.Freeing.{freeing_ends}
 use Rattle.b2_stmt_device.specs.Held.{is_among, with_device, with_devices, without_devices}
 use Rattle.b2_stmt_device.specs.Laws.{DevicesAreHeldOnce, HoldsOnce}
-use Rattle.b2_stmt_device.specs.Plan.{course_of, does, ends, finishes, is_refused, repeats, works}
-use Rattle.b2_stmt_device.specs.Selecting.{device_selected, selected}
+use Rattle.b2_stmt_device.specs.Plan.{ends, finishes, is_refused, repeats, works}
 use Rattle.b2_stmt_device.specs.Taking.{line_if_busy, taking_ends}
 
 neither : (a b : Bool) → (a || b) ≡ false → (a ≡ false) × (b ≡ false)
@@ -80,15 +78,10 @@ fewer addrs (x ∷ held) h =
     either (λ (left : List (List ℕ)). are_distinct left ≡ true) (is_among x addrs) (without_devices addrs held) (x ∷ without_devices addrs held) rest
     (both (list_any (bytes_eq x) (without_devices addrs held)) (are_distinct (without_devices addrs held)) (none_left x addrs held e.0) rest)
 
--- so each statement, as it plans and as it finishes
+-- so each statement as it finishes
 module _ (me : Private) (once : HoldsOnce me) where
-  Once : Worked → Type 0
+  Once : HolderWorked → Type 0
   Once w = are_distinct w.work.held ≡ true
-
-  once_selected : (r : Result (List ℕ) ℕ) → Once (selected r me)
-  unfolding Once
-  once_selected (Ok a) = once
-  once_selected (Err code) = once
 
   once_taken : (c : TakingCame) (line : Option ℕ) (lines : Lines) (p : Place) → Once (taking_ends c line lines p me)
   unfolding Once
@@ -101,11 +94,6 @@ module _ (me : Private) (once : HoldsOnce me) where
   once_freed (Some addrs) = fewer addrs me.held once
   once_freed None = once
 
-  once_planned : (devices : List Device) (s : SeenLent) (u : Statement) → HoldsOnce (as_planned me s (course_of devices u me)).me
-  unfolding Once
-  once_planned devices s u =
-      either (λ (k : Working). HoldsOnce (as_planned me s k).me) (u.row == row.SELECT_PRINT) _ _ (once_selected (device_selected devices me.part u.tree)) once
-
   once_ended : (x : Access) (a : Answer) (s : SeenLent) → Once (ends x a me s)
   unfolding Once
   once_ended x a s =
@@ -113,10 +101,10 @@ module _ (me : Private) (once : HoldsOnce me) where
       (λ p is u. either Once (u.row == row.OPEN) _ _ (once_taken (taking_came x a) (line_if_busy u.tree) s.home.lines p)
       (either Once (u.row == row.CLOSE) _ _ (once_freed (devices_freed x a)) once))
 
-  once_through : (devices : List Device) (s : SeenLent) → HoldsOnce (as_planned me s (works devices me s)).me
-  once_through devices s =
-      each_course is_refused stops (does devices me s) me s (λ (k : Working). HoldsOnce (as_planned me s k).me) once once (λ p is u. once_planned devices s u)
-
+-- what it plans leaves what is held
 pub held_once : DevicesAreHeldOnce
 unfolding Once
-held_once = (λ devices me s once. once_through me once devices s, λ x a me s once. once_ended me once x a s)
+held_once = (
+  (λ devices me s once. ap are_distinct (plans_keep_held (works devices) me s).1 ∙ once),
+  (λ x a me s once. once_ended me once x a s),
+)

@@ -8,7 +8,7 @@ use Rattle.b2_access.specs.Homes.{FinishesWithin, OutcomeIn, PlaceIn, PlannedIn,
 use Rattle.b2_access.specs.Lending.{SeenLent}
 use Rattle.b2_access.specs.Places.{line_start}
 use Rattle.b2_access.specs.Views.{TakingCame, DevicesTaken, DeviceBusy, TakingLater, devices_freed, taking_came}
-use Rattle.b2_access.specs.Working.{Worked}
+use Rattle.b2_access.specs.Working.{HolderWorked}
 use Rattle.b2_access.specs.declared.accesses.Access.{Access}
 use Rattle.b2_access.specs.declared.accesses.Answer.{Answer}
 use Rattle.b2_access.specs.declared.devices.Device.{Device}
@@ -23,7 +23,7 @@ use Rattle.b2_stmt_device.specs.Taking.{goes_where_busy, line_if_busy, taking_en
 use Rattle.b2_stmt_device.proofs.Planned.{each_planned}
 
 module _ (among : ℕ → Bool) where
-  Leads : Worked → Type 0
+  Leads : HolderWorked → Type 0
   Leads w = OutcomeIn among w.outcome
 
   there_in : (line : Option (List ℕ)) (p : Place) (n : ℕ) → PlaceIn among (Some p) → OutcomeIn among (where_there line (line_start p n))
@@ -59,4 +59,4 @@ plans_within devices =
 
 pub finishes_within : FinishesWithin finish
 unfolding Leads
-finishes_within = form.finishes_within ends (λ among x a me s k. place_in among x a me s k)
+finishes_within = form.holders_finish_within ends (λ among x a me s k. place_in among x a me s k)

@@ -22,16 +22,16 @@ plans_at_terminal devices =
     (λ me s. each_planned devices me s (PlannedAt me.term) tt tt (λ code. tt) (λ a fits. names_no_terminal devices me.part me.term a fits))
 
 pub finishes_in_place : FinishesInPlace finish
-finishes_in_place = form.finishes_in_place ends
+finishes_in_place = form.holders_finish_in_place ends
 
 pub finishes_keep_none : FinishesKeepNone finish
-finishes_keep_none = form.finishes_keep_none ends
+finishes_keep_none = form.holders_finish_keep_none ends
 
 pub finishes_at_terminal : FinishesAtTerminal finish
-finishes_at_terminal = form.finishes_at_terminal ends
+finishes_at_terminal = form.holders_finish_at_terminal ends
 
 pub plans_to_show : (devices : List Device) → PlansToShow (plan devices)
 plans_to_show devices = form.plans_to_show (works devices)
 
 pub finishes_to_show : FinishesToShow finish
-finishes_to_show = form.finishes_to_show ends
+finishes_to_show = form.holders_finish_to_show ends

@@ -3,7 +3,7 @@ use Rattle.std.specs.Prelude.{ℕ, ◌==◌, List, [], ◌∷◌, Option, Some, 
 use Rattle.b2_base.specs.declared.codes.TheConstants.{P48_DEVICE}
 use Rattle.b2_atom.specs.Tree.{Trees}
 use Rattle.b2_atom.specs.Tree.Trees.{Put, In}
-use Rattle.b2_access.specs.Working.{Worked, work_of}
+use Rattle.b2_access.specs.Working.{HolderWorked, holder_work_of}
 use Rattle.b2_access.specs.declared.accesses.Access.{Access}
 use Rattle.b2_access.specs.declared.accesses.Access.TheVariants as access
 use Rattle.b2_access.specs.declared.devices.Device.{Device}
@@ -43,5 +43,5 @@ abbrev pub goes_freed : Option (List (List ℕ)) → Outcome
 goes_freed None = outcome.Repeat
 goes_freed (Some addrs) = outcome.Next
 
-abbrev pub freeing_ends : Option (List (List ℕ)) → Private → Worked
-freeing_ends o me = record { work = record (work_of me) { held = held_freed o me.held }; outcome = goes_freed o }
+abbrev pub freeing_ends : Option (List (List ℕ)) → Private → HolderWorked
+freeing_ends o me = record { work = record (holder_work_of me) { held = held_freed o me.held }; outcome = goes_freed o }

@@ -7,7 +7,7 @@ use Rattle.b2_access.specs.Lending.{SeenLent}
 use Rattle.b2_access.specs.Placed.{Statement}
 use Rattle.b2_access.specs.Planning.{Finishing, Planning}
 use Rattle.b2_access.specs.Views.{devices_freed, taking_came}
-use Rattle.b2_access.specs.Working.{Ends, Plans, Worked, Working, finishes_by, leaves, plans_by, stops}
+use Rattle.b2_access.specs.Working.{Ends, HolderWorked, Plans, Working, holders_finish_by, leaves_holdings, plans_by, stops}
 use Rattle.b2_access.specs.declared.accesses.Access.{Access}
 use Rattle.b2_access.specs.declared.accesses.Answer.{Answer}
 use Rattle.b2_access.specs.declared.devices.Device.{Device}
@@ -48,22 +48,22 @@ abbrev pub plan : List Device → Private → SeenLent → Planning
 plan devices me s = plans_by (works devices) me s
 
 -- how a statement finishes by the answer to the access that it asked for
-abbrev pub finishes : Access → Answer → Private → SeenLent → Statement → Here → Worked
+abbrev pub finishes : Access → Answer → Private → SeenLent → Statement → Here → HolderWorked
 finishes x a me s u h =
     if u.row == row.OPEN then taking_ends (taking_came x a) (line_if_busy u.tree) s.home.lines h.place me
     else (if u.row == row.CLOSE then freeing_ends (devices_freed x a) me
-    else leaves me outcome.Repeat)
+    else leaves_holdings me outcome.Repeat)
 
 -- elsewhere the step is repeated
-abbrev pub repeats : Private → Outcome → Worked
-repeats me o = leaves me outcome.Repeat
+abbrev pub repeats : Private → Outcome → HolderWorked
+repeats me o = leaves_holdings me outcome.Repeat
 
 -- how the statement at a partition's place finishes
-abbrev pub ends : Access → Answer → Private → SeenLent → Worked
+abbrev pub ends : Access → Answer → Private → SeenLent → HolderWorked
 ends x a me s = course is_refused (repeats me) (finishes x a me s) me.place me s
 
 abbrev pub finish : Access → Answer → Private → SeenLent → Finishing
-finish x a me s = finishes_by ends x a me s
+finish x a me s = holders_finish_by ends x a me s
 
 -- the rows that this crate builds
 abbrev pub is_built : ℕ → Bool

@@ -8,7 +8,7 @@ use Rattle.b2_rows.specs.LineNumbers.{line_in}
 use Rattle.b2_text.specs.Program.{Lines}
 use Rattle.b2_access.specs.Going.{to_line}
 use Rattle.b2_access.specs.Views.{TakingCame, DevicesTaken, DeviceBusy, TakingLater}
-use Rattle.b2_access.specs.Working.{Worked, work_of}
+use Rattle.b2_access.specs.Working.{HolderWorked, holder_work_of}
 use Rattle.b2_access.specs.declared.accesses.Access.{Access}
 use Rattle.b2_access.specs.declared.accesses.Access.TheVariants as access
 use Rattle.b2_access.specs.declared.devices.Device.{Device}
@@ -47,5 +47,5 @@ goes_taken (DevicesTaken addrs) line lines p = outcome.Next
 goes_taken DeviceBusy line lines p = goes_where_busy line lines p
 goes_taken TakingLater line lines p = outcome.Repeat
 
-abbrev pub taking_ends : TakingCame → Option ℕ → Lines → Place → Private → Worked
-taking_ends c line lines p me = record { work = record (work_of me) { held = held_taken c me.held }; outcome = goes_taken c line lines p }
+abbrev pub taking_ends : TakingCame → Option ℕ → Lines → Place → Private → HolderWorked
+taking_ends c line lines p me = record { work = record (holder_work_of me) { held = held_taken c me.held }; outcome = goes_taken c line lines p }

@@ -14,7 +14,7 @@ use Rattle.b2_access.specs.Going.{to_goal, to_place, where_there}
 use Rattle.b2_access.specs.Places.{line_after, line_start}
 use Rattle.b2_access.specs.Lending.{SeenLent}
 use Rattle.b2_access.specs.Views.{loading_came, opening_came, place_came}
-use Rattle.b2_access.specs.Working.{Worked}
+use Rattle.b2_access.specs.Working.{FileWorked}
 use Rattle.b2_access.specs.declared.accesses.Access.{Access}
 use Rattle.b2_access.specs.declared.accesses.Answer.{Answer}
 use Rattle.b2_access.specs.declared.devices.Device.{Device}
@@ -31,7 +31,7 @@ use Rattle.b2_stmt_file.specs.declared.coming.Came.TheVariants as came
 use Rattle.b2_stmt_file.proofs.Planned.{each_ended, each_planned}
 
 module _ (among : ℕ → Bool) where
-  Leads : Worked → Type 0
+  Leads : FileWorked → Type 0
   Leads w = OutcomeIn among w.outcome
 
   -- where a goal leads
@@ -87,4 +87,4 @@ plans_within devices =
 
 pub finishes_within : FinishesWithin finish
 unfolding Leads
-finishes_within = form.finishes_within ends (λ among x a me s k. place_in among x a me s)
+finishes_within = form.files_finish_within ends (λ among x a me s k. place_in among x a me s)

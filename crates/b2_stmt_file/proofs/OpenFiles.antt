@@ -3,7 +3,6 @@ use Rattle.std.proofs.Common.{◌==◌, ℕ, zero, suc, List, [], ◌∷◌, Opt
 use Rattle.b2_base.specs.declared.files.Slot.{Slot}
 use Rattle.b2_atom.specs.Tree.{Trees}
 use Rattle.b2_atom.specs.Tree.Trees.{Put, In}
-use Rattle.b2_atom.specs.declared.rows.TheConstants as row
 use Rattle.b2_access.specs.Devices.{is_platter_for}
 use Rattle.b2_access.specs.Fitting.{AnswerFits}
 use Rattle.b2_access.specs.Lending.{SeenLent}
@@ -11,7 +10,7 @@ use Rattle.b2_access.specs.OpenFiles.{AreOpenFor, FinishesKeepOpenFiles, HasOpen
 use Rattle.b2_access.specs.OwnDevices.{ReachesListed}
 use Rattle.b2_access.specs.Placed.{Statement}
 use Rattle.b2_access.specs.Views.{loading_came, opening_came, place_came}
-use Rattle.b2_access.specs.Working.{Worked, Working, as_planned, stops}
+use Rattle.b2_access.specs.Working.{FileWorked}
 use Rattle.b2_access.specs.declared.accesses.Access.{Access}
 use Rattle.b2_access.specs.declared.accesses.Access.TheVariants as access
 use Rattle.b2_access.specs.declared.accesses.Answer.{Answer}
@@ -20,10 +19,12 @@ use Rattle.b2_access.specs.declared.devices.Device.{Device}
 use Rattle.b2_access.specs.declared.private.Private.{Private}
 use Rattle.b2_access.proofs.Choice.{either}
 use Rattle.b2_access.proofs.Courses.{each_course}
+use Rattle.b2_access.proofs.OpenFiles.{plans_keep_open}
+use Rattle.b2_access.proofs.Working.{plans_keep_files}
 use Rattle.b2_stmt_file.specs.Coming.{by_loading, by_opening, by_place, file_ends, slots_after}
 use Rattle.b2_stmt_file.specs.Loading.{loading_ends}
 use Rattle.b2_stmt_file.specs.Opening.{slot_opened}
-use Rattle.b2_stmt_file.specs.Plan.{does, ended_of, ends, finish, finishes, is_refused, plan, repeats}
+use Rattle.b2_stmt_file.specs.Plan.{ended_of, ends, finish, finishes, is_refused, plan, repeats, works}
 use Rattle.b2_stmt_file.specs.Saving as save
 use Rattle.b2_stmt_file.specs.declared.coming.Came.{Came}
 use Rattle.b2_stmt_file.specs.declared.coming.Came.TheVariants as came
@@ -66,7 +67,7 @@ module _ (devices : List Device) (who : ℕ) where
   loading_open x a listed fits = tt
 
 module _ (devices : List Device) (x : Access) (a : Answer) (me : Private) (s : SeenLent) (listed : ReachesListed devices me.part x) (fits : AnswerFits x a) (open_now : HasOpenFiles devices me) where
-  Leaves : Worked → Type 0
+  Leaves : FileWorked → Type 0
   Leaves w = AreOpenFor devices me.part w.work.slots
 
   ends_open : (n : ℕ) (c : Came) → IsOpenCame devices me.part c → Leaves (file_ends n c me)
@@ -93,13 +94,11 @@ module _ (devices : List Device) (x : Access) (a : Answer) (me : Private) (s : S
   after_place : AreOpenFor devices me.part (ends x a me s).work.slots
   unfolding Leaves
   after_place =
-      let F : Worked → Type 0 = λ w. AreOpenFor devices me.part w.work.slots in
+      let F : FileWorked → Type 0 = λ w. AreOpenFor devices me.part w.work.slots in
       each_course is_refused (repeats me) (finishes x a me s) me s F open_now open_now (λ p is u. statement_open u)
 
 pub plans_keep_open_files : PlansKeepOpenFiles plan
-plans_keep_open_files devices me s h =
-    let F : Working → Type 0 = λ k. HasOpenFiles devices (as_planned me s k).me in
-    each_course is_refused stops (does devices me s) me s F h h (λ p is u. either F (u.row == row.IF_END) _ _ h h)
+plans_keep_open_files = plans_keep_open plan (λ devices. plans_keep_files (works devices))
 
 pub finishes_keep_open_files : FinishesKeepOpenFiles finish
 finishes_keep_open_files devices x a me s listed fits h = after_place devices x a me s listed fits h

@@ -14,7 +14,7 @@ use Rattle.b2_access.specs.Lending.{SeenLent}
 use Rattle.b2_access.specs.Partition.{setting_of}
 use Rattle.b2_access.specs.Planning.{goes_or}
 use Rattle.b2_access.specs.Views.{loading_came, opening_came}
-use Rattle.b2_access.specs.Working.{Worked, leaves, work_of}
+use Rattle.b2_access.specs.Working.{FileWorked, leaves_files, work_of}
 use Rattle.b2_access.specs.declared.accesses.Access.{Access}
 use Rattle.b2_access.specs.declared.accesses.Access.TheVariants as access
 use Rattle.b2_access.specs.declared.accesses.Answer.{Answer}
@@ -56,13 +56,16 @@ takes_by c values ts w = unchanged w
 
 -- How it finishes: the place in the file moves, and the flag of IF END changes, before a receiver takes a value; and both stay so
 -- where one then fails.
-abbrev pub loaded : ℕ → Came → WorkLeft → Private → Worked
-loaded n c r me = record { work = record (work_of me) { vars = r.work.own; slots = slots_after n c me.slots; at_end = end_after c me.at_end }; outcome = goes_or (outcome_of c) r.code }
+abbrev pub loaded : ℕ → Came → WorkLeft → Private → FileWorked
+loaded n c r me = record {
+  work = record { work = record (work_of me) { vars = r.work.own; at_end = end_after c me.at_end }; slots = slots_after n c me.slots };
+  outcome = goes_or (outcome_of c) r.code;
+}
 
-abbrev pub load_ends : Came → List Value → Trees → Private → SeenLent → Worked
+abbrev pub load_ends : Came → List Value → Trees → Private → SeenLent → FileWorked
 load_ends c values operands me s = loaded (slot_loaded operands) c (takes_by c values (items_loaded operands) (work_in (setting_of me) s.home me.vars)) me
 
-abbrev pub loading_ends : Access → Answer → Trees → Private → SeenLent → Worked
+abbrev pub loading_ends : Access → Answer → Trees → Private → SeenLent → FileWorked
 loading_ends x a (Put word (Put dc (In k operands end))) me s =
     if k == 1 then file_ends (slot_opened operands) (by_opening (opening_came x a)) me else load_ends (by_loading (loading_came x a)) (values_in (loading_came x a)) operands me s
-loading_ends x a t me s = leaves me outcome.Repeat
+loading_ends x a t me s = leaves_files me outcome.Repeat

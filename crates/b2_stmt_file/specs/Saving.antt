@@ -15,7 +15,7 @@ use Rattle.b2_rows.specs.Rows.{tree_at}
 use Rattle.b2_expr.specs.Answers.{◌>>=◌}
 use Rattle.b2_expr.specs.Scope.{Context}
 use Rattle.b2_access.specs.Views.{opening_came, place_came}
-use Rattle.b2_access.specs.Working.{Worked}
+use Rattle.b2_access.specs.Working.{FileWorked}
 use Rattle.b2_access.specs.declared.accesses.Access.{Access}
 use Rattle.b2_access.specs.declared.accesses.Access.TheVariants as access
 use Rattle.b2_access.specs.declared.accesses.Answer.{Answer}
@@ -60,5 +60,5 @@ came_of x a (Put word (Put dc (In k operands end))) = if k == 1 then by_opening 
 came_of x a t = came.Later
 
 -- how it finishes
-abbrev pub saving_ends : Access → Answer → Trees → Private → Worked
+abbrev pub saving_ends : Access → Answer → Trees → Private → FileWorked
 saving_ends x a t me = file_ends (slot_of t) (came_of x a t) me

@@ -1,5 +1,19 @@
-use Rattle.b2_access.proofs.Working.{finishes_at_terminal, finishes_in_place, finishes_keep_none, finishes_to_show, finishes_unchanged, finishes_within}
+use Rattle.b2_access.proofs.Working as form
 use Rattle.b2_access.proofs.laws.law_finishes_are_put_back.Goals as goal
 
 pub returns : goal.returns
-returns c way = (finishes_in_place way, finishes_keep_none way, finishes_at_terminal way, finishes_to_show way, finishes_within way, finishes_unchanged way)
+returns c = (
+  (λ way. (
+    (form.finishes_in_place way, form.finishes_keep_none way, form.finishes_at_terminal way, form.finishes_to_show way, form.finishes_within way, form.finishes_unchanged way),
+    form.finishes_keep_files way,
+    form.finishes_keep_held way,
+  )),
+  (λ way. (
+    (form.files_finish_in_place way, form.files_finish_keep_none way, form.files_finish_at_terminal way, form.files_finish_to_show way, form.files_finish_within way, form.files_finish_unchanged way),
+    form.files_finish_keep_held way,
+  )),
+  (λ way. (
+    (form.holders_finish_in_place way, form.holders_finish_keep_none way, form.holders_finish_at_terminal way, form.holders_finish_to_show way, form.holders_finish_within way, form.holders_finish_unchanged way),
+    form.holders_finish_keep_files way,
+  )),
+)

@@ -1,0 +1,123 @@
+-- Each file that a partition of a world has open is on a platter that the boot lists for it, at its first sector or after it.
+use Rattle.std.specs.Prelude.{◌≡◌, ℕ, zero, suc, ◌==◌, Bool, true, false, cond, List, [], ◌∷◌, map, Option, Some, None, is_some, refl}
+use Rattle.std.proofs.Common.{sym, ap, subst, ◌∙◌}
+use Rattle.b2_term.specs.Terminal.{TerminalState, keyed}
+use Rattle.b2_access.specs.OpenFiles.{HasOpenFiles}
+use Rattle.b2_access.specs.Rows.{row_of}
+use Rattle.b2_access.specs.Serving.{itself}
+use Rattle.b2_access.specs.Store.{StoreState, content}
+use Rattle.b2_access.specs.declared.accesses.Access.{Access}
+use Rattle.b2_access.specs.declared.devices.Device.{Device}
+use Rattle.b2_access.specs.declared.objects.Object.TheVariants as object
+use Rattle.b2_access.specs.declared.private.Private.{Private}
+use Rattle.b2_access.proofs.OpenFiles.{none_open}
+use Rattle.b2_boot.specs.declared.boot.BootPartition.{BootPartition}
+use Rattle.b2_machine.proofs.StepOpenFiles.{steps_keep_open_files}
+use Rattle.b2_machine.specs.OpenFiles.{FitsFrom}
+use Rattle.b2_machine.specs.Touched.{asking}
+use Rattle.b2_machine.specs.Turn.{counted_on, ended_turn, turn_from, unless_ended}
+use Rattle.b2_machine.specs.declared.ends.Why.{Why}
+use Rattle.b2_store.specs.Changes.{with_terminal}
+use Rattle.b2_store.specs.DiskWork.{serves}
+use Rattle.b2_store.specs.Files.{AreSound}
+use Rattle.b2_store.proofs.Answered.{answers-fit}
+use Rattle.b2_store.proofs.Sound.{platters-stay-sound}
+use Rattle.b2_sched.proofs.EachRow.{EachIs, each_changed, each_row}
+use Rattle.b2_sched.proofs.Folds.{keeps_devices}
+use Rattle.b2_sched.proofs.GroupRows.{is_it}
+use Rattle.b2_sched.proofs.Lasting.{by_actions}
+use Rattle.b2_sched.proofs.LegalSteps.{IsLegalIfAny, steps_ask_legally}
+use Rattle.b2_sched.proofs.StepEnds.{left_where, step_left}
+use Rattle.b2_sched.specs.Choice.{basic}
+use Rattle.b2_sched.specs.EachStep.{AtEachStep, EachInAction, EachInTurn, EachOf}
+use Rattle.b2_sched.specs.Lawful.{basic_asks_for_listed, basic_is_lawful, basic_keeps_open_files}
+use Rattle.b2_sched.specs.Laws.{all_actions}
+use Rattle.b2_sched.specs.OpenFiles.{AsksProperly, IsProperIfAny, OpenFilesAreListed}
+use Rattle.b2_sched.specs.Start.{booted, private_row}
+use Rattle.b2_sched.specs.Turns.{after_loan, step_of}
+use Rattle.b2_sched.specs.World.{WorldState, Action, Key, Front, Halt, Reset, Turn, asked_to_halt, asked_to_reset, does, does_all, private_of, with_turn}
+
+-- a step, and a turn: platters stay sound, and so what is answered fits
+fits : (s : StoreState) → AreSound s → FitsFrom serves s
+fits s sound who a legal = answers-fit s who a legal (λ addr image there. (sound addr image there).0)
+
+left_sound : (x : Option Access) (who : ℕ) (s : StoreState) → IsLegalIfAny x → IsProperIfAny x → AreSound s → AreSound (left_where x who s)
+left_sound None who s legal proper sound = sound
+left_sound (Some x) who s legal proper sound = platters-stay-sound who x s legal proper sound
+
+module _ (devices : List Device) where
+  abbrev Both : Private → StoreState → Type 0
+  Both me s = HasOpenFiles devices me × AreSound s
+
+  in_step : (me : Private) (s : StoreState) → AsksProperly devices me s → Both me s → Both (step_of devices me s).me (step_of devices me s).after
+  in_step me s proper k =
+      let x = asking (basic devices) me s in (
+        steps_keep_open_files basic basic_is_lawful basic_asks_for_listed basic_keeps_open_files itself serves after_loan devices me s (fits s k.1) k.0,
+        subst AreSound (sym (step_left (basic devices) me s)) (left_sound x.access x.who s (steps_ask_legally (basic devices) (basic_is_lawful devices) me s) proper k.1),
+      )
+
+  abbrev BothAfter : ℕ → Private → StoreState → ℕ → Type 0
+  BothAfter n me s steps = Both (turn_from (basic devices) itself serves after_loan n me s steps).me (turn_from (basic devices) itself serves after_loan n me s steps).after
+
+  in_turn : (n : ℕ) (me : Private) (s : StoreState) (steps : ℕ) → EachInTurn AsksProperly devices n me s → Both me s → BothAfter n me s steps
+  unfolding turn_from
+  in_turn zero me s steps h k = k
+  in_turn (suc n) me s steps h k =
+      let x = step_of devices me s in
+      by x.end.why refl (in_step me s h.0 k) (λ on. in_turn n x.me x.after (counted_on steps x.end) (h.1 on) (in_step me s h.0 k))
+    where
+      by : (o : Option Why) → (step_of devices me s).end.why ≡ o → Both (step_of devices me s).me (step_of devices me s).after
+          → ((step_of devices me s).end.why ≡ None → BothAfter n (step_of devices me s).me (step_of devices me s).after (counted_on steps (step_of devices me s).end))
+          → Both (unless_ended o (λ w. ended_turn (counted_on steps (step_of devices me s).end) w (step_of devices me s).me (step_of devices me s).after) (turn_from (basic devices) itself serves after_loan n (step_of devices me s).me (step_of devices me s).after (counted_on steps (step_of devices me s).end))).me
+          (unless_ended o (λ w. ended_turn (counted_on steps (step_of devices me s).end) w (step_of devices me s).me (step_of devices me s).after) (turn_from (basic devices) itself serves after_loan n (step_of devices me s).me (step_of devices me s).after (counted_on steps (step_of devices me s).end))).after
+      by None is here later = later is
+      by (Some why) is here later = here
+
+-- a world
+abbrev IsOpen : List Device → ℕ → Private → Type 0
+IsOpen devices p me = HasOpenFiles devices me
+
+abbrev AllOpen : WorldState → Type 0
+AllOpen w = EachIs (IsOpen w.devices) w.privates × AreSound w.store
+
+sound_terminal : (o : Option TerminalState) (t : ℕ) (f : TerminalState → TerminalState) (s : StoreState) → AreSound s → AreSound (with_terminal o t f s)
+sound_terminal None t f s sound = sound
+sound_terminal (Some x) t f s sound = sound
+
+turned : (p n : ℕ) (o : Option Private) (w : WorldState) → private_of p w ≡ o → EachOf AsksProperly w.devices n o w.store → AllOpen w → AllOpen (with_turn p o n w)
+turned p n None w is h k = k
+turned p n (Some me) w is h k =
+    let after = in_turn w.devices n me w.store 0 h (k.0 p me is, k.1) in
+    (each_row (IsOpen w.devices) p (turn_from (basic w.devices) itself serves after_loan n me w.store 0).me w.privates after.0 k.0, after.1)
+
+in_action : (x : Action) (w : WorldState) → EachInAction AsksProperly x w → AllOpen w → AllOpen (does x w)
+in_action (Key t key) w h k = (k.0, sound_terminal (content w.store (object.Terminal t)) t (keyed key) w.store k.1)
+in_action (Front t p) w h k = (k.0, sound_terminal (content w.store (object.Terminal t)) t (λ x. record x { front = p }) w.store k.1)
+in_action (Halt p) w h k = (each_changed (IsOpen w.devices) asked_to_halt (λ q me open_now. open_now) p (private_of p w) w.privates refl k.0, k.1)
+in_action (Reset p) w h k = (each_changed (IsOpen w.devices) asked_to_reset (λ q me open_now. open_now) p (private_of p w) w.privates refl k.0, k.1)
+in_action (Turn p n) w h k = turned p n (private_of p w) w refl h k
+
+in_actions : (xs : List Action) (w : WorldState) → AtEachStep AsksProperly xs w → AllOpen w → AllOpen (does_all xs w)
+in_actions [] w h k = k
+in_actions (x ∷ rest) w h k = in_actions rest (does x w) h.1 (in_action x w h.0 k)
+
+all_keep_devices : (xs : List Action) (w : WorldState) → (does_all xs w).devices ≡ w.devices
+all_keep_devices [] w = refl
+all_keep_devices (x ∷ xs) w = all_keep_devices xs (does x w) ∙ keeps_devices x w
+
+-- at the start of a boot no file is open
+first_by : (devices : List Device) (x : BootPartition) (xs : List BootPartition) (p : ℕ) (me : Private) → (row_of p (map private_row xs) ≡ Some me → IsOpen devices p me) → (b : Bool)
+    → cond b (Some (private_row x).1) (row_of p (map private_row xs)) ≡ Some me → IsOpen devices p me
+first_by devices x xs p me later true is = subst (IsOpen devices p) (is_it (private_row x).1 me is) (none_open devices x.number 16)
+first_by devices x xs p me later false is = later is
+
+booted_open : (devices : List Device) (ps : List BootPartition) → EachIs (IsOpen devices) (map private_row ps)
+booted_open devices [] p me is = let clash : false ≡ true = ap (λ (o : Option Private). is_some o) is in cc
+booted_open devices (x ∷ xs) p me is = first_by devices x xs p me (booted_open devices xs p me) (x.number == p) is
+
+pub open_files_are_listed : OpenFilesAreListed
+open_files_are_listed b images log sound proper p me is =
+    let w = booted b images in
+    let acts = all_actions b.quota log in
+    let after = (in_actions acts w proper (booted_open w.devices b.partitions, sound)).0 in
+    subst (λ (ds : List Device). HasOpenFiles ds me) (all_keep_devices acts w) (after p me (ap (private_of p) (sym (by_actions log w)) ∙ is))
