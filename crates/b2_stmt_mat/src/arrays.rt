@@ -1,5 +1,5 @@
 // Whole arrays among variables.
-ghost use Rattle.std.specs.Prelude.{◌≡◌, ◌<◌, true, false, length, get_or, drop, IfOk, OnOk, None};
+ghost use Rattle.std.specs.Prelude.{◌≡◌, ◌<◌, true, false, length, get_or, drop, replicate, IfOk, OnOk, None};
 ghost use Rattle.b2_atom.specs.Leaves.{leaf_width};
 ghost use Rattle.b2_atom.specs.declared.words.Origin.TheVariants.{Atoms};
 ghost use Rattle.b2_rows.specs.Leaves.{is_leaf, leaf_bytes};
@@ -103,7 +103,8 @@ fn copy_numbers(vars: &Vars, v: Var, into: &mut [Dec])
 
 /// As many zeros.
 pub fn zeros(alloc: Global, count: usize) -> Result<Vec<Dec>, NoMemory>
-    ensures { IfOk result (λ numbers. length numbers.items ≡ count) }
+    ensures zeros { IfOk result (λ numbers. numbers.items ≡ replicate count zero_number) }
+    ensures count { IfOk result (λ numbers. length numbers.items ≡ count) }
 {
     let numbers = vec![in alloc; Dec::zero(); count]?;
     Ok(numbers)
