@@ -21,4 +21,4 @@ returns-in-Terminal-clause-planned c =
     let found = c.requires.found in
     let globals = globals_lent c.args.lent.now in
     let family = ap (λ (k : Family). plan_by c.args.devices.now k c.args.me.now (seen_lent c.args.lent.now)) (sym c.family_of.ensures ∙ c.in-Terminal.is) in
-    ok_map c.plan_found-2.result _ _ (λ p is. planned_where_found c.args.devices.now f.place c.args.me.now (seen_lent c.args.lent.now) f.line.now (statement_found f) (record { me = c.plan_found-2.new.me; globals = globals; planned = p }) found.stands found.program found.line found.statement family is) (c.plan_found-2.ensures.planned c.args.lent.now.own.now globals)
+    ok_map c.plan_found-in-Terminal.result _ _ (λ p is. planned_where_found c.args.devices.now f.place c.args.me.now (seen_lent c.args.lent.now) f.line.now (statement_found f) (record { me = c.plan_found-in-Terminal.new.me; globals = globals; planned = p }) found.stands found.program found.line found.statement family is) (c.plan_found-in-Terminal.ensures.planned c.args.lent.now.own.now globals)
