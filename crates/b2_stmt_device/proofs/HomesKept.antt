@@ -8,24 +8,21 @@ use Rattle.b2_access.specs.Homes.{FinishesWithin, OutcomeIn, PlaceIn, PlannedIn,
 use Rattle.b2_access.specs.Lending.{SeenLent}
 use Rattle.b2_access.specs.Places.{line_start}
 use Rattle.b2_access.specs.Views.{TakingCame, DevicesTaken, DeviceBusy, TakingLater, devices_freed, taking_came}
-use Rattle.b2_access.specs.Working.{HolderWorked}
 use Rattle.b2_access.specs.declared.accesses.Access.{Access}
 use Rattle.b2_access.specs.declared.accesses.Answer.{Answer}
 use Rattle.b2_access.specs.declared.devices.Device.{Device}
+use Rattle.b2_access.specs.declared.planned.Outcome.{Outcome}
 use Rattle.b2_access.specs.declared.private.Private.{Private}
 use Rattle.b2_access.proofs.Choice.{either}
 use Rattle.b2_access.proofs.Courses.{each_course}
 use Rattle.b2_access.proofs.Working as form
 use Rattle.b2_drive.proofs.Asked.{marks_no_home}
-use Rattle.b2_stmt_device.specs.Freeing.{freeing_ends}
-use Rattle.b2_stmt_device.specs.Plan.{ends, finish, finishes, is_refused, plan, repeats, works}
-use Rattle.b2_stmt_device.specs.Taking.{goes_where_busy, line_if_busy, taking_ends}
+use Rattle.b2_stmt_device.specs.Freeing.{goes_freed}
+use Rattle.b2_stmt_device.specs.Plan.{ends, finish, goes, is_refused, plan, repeats, works}
+use Rattle.b2_stmt_device.specs.Taking.{goes_taken, goes_where_busy, line_if_busy}
 use Rattle.b2_stmt_device.proofs.Planned.{each_planned}
 
 module _ (among : ℕ → Bool) where
-  Leads : HolderWorked → Type 0
-  Leads w = OutcomeIn among w.outcome
-
   there_in : (line : Option (List ℕ)) (p : Place) (n : ℕ) → PlaceIn among (Some p) → OutcomeIn among (where_there line (line_start p n))
   there_in None p n k = tt
   there_in (Some line) p n k = k
@@ -34,23 +31,21 @@ module _ (among : ℕ → Bool) where
   busy_in None lines p k = tt
   busy_in (Some n) lines p k = there_in (line_at n lines) p n k
 
-  taking_in : (c : TakingCame) (line : Option ℕ) (lines : Lines) (p : Place) (me : Private) → PlaceIn among (Some p) → Leads (taking_ends c line lines p me)
-  unfolding Leads
-  taking_in (DevicesTaken addrs) line lines p me k = tt
-  taking_in DeviceBusy line lines p me k = busy_in line lines p k
-  taking_in TakingLater line lines p me k = tt
+  taking_in : (c : TakingCame) (line : Option ℕ) (lines : Lines) (p : Place) → PlaceIn among (Some p) → OutcomeIn among (goes_taken c line lines p)
+  taking_in (DevicesTaken addrs) line lines p k = tt
+  taking_in DeviceBusy line lines p k = busy_in line lines p k
+  taking_in TakingLater line lines p k = tt
 
-  freeing_in : (o : Option (List (List ℕ))) (me : Private) → Leads (freeing_ends o me)
-  unfolding Leads
-  freeing_in None me = tt
-  freeing_in (Some addrs) me = tt
+  freeing_in : (o : Option (List (List ℕ))) → OutcomeIn among (goes_freed o)
+  freeing_in None = tt
+  freeing_in (Some addrs) = tt
 
-  place_in : (x : Access) (a : Answer) (me : Private) (s : SeenLent) → PlaceIn among me.place → Leads (ends x a me s)
-  unfolding Leads
+  place_in : (x : Access) (a : Answer) (me : Private) (s : SeenLent) → PlaceIn among me.place → OutcomeIn among (ends x a me s).outcome
   place_in x a me s k =
-      each_course is_refused (repeats me) (finishes x a me s) me s Leads tt tt
-      (λ p is u. either Leads (u.row == row.OPEN) _ _ (taking_in (taking_came x a) (line_if_busy u.tree) s.home.lines p me (subst (λ (o : Option Place). PlaceIn among o) is k))
-      (either Leads (u.row == row.CLOSE) _ _ (freeing_in (devices_freed x a) me) tt))
+      let F : Outcome → Type 0 = OutcomeIn among in
+      each_course is_refused repeats (goes x a s) me s F tt tt
+      (λ p is u. either F (u.row == row.OPEN) _ _ (taking_in (taking_came x a) (line_if_busy u.tree) s.home.lines p (subst (λ (o : Option Place). PlaceIn among o) is k))
+      (either F (u.row == row.CLOSE) _ _ (freeing_in (devices_freed x a)) tt))
 
 pub plans_within : (devices : List Device) → PlansWithin (plan devices)
 plans_within devices =
@@ -58,5 +53,4 @@ plans_within devices =
     (λ among me s k. each_planned devices me s (PlannedIn among) tt tt (λ code. tt) (λ a fits. marks_no_home devices me.part among a fits))
 
 pub finishes_within : FinishesWithin finish
-unfolding Leads
 finishes_within = form.holders_finish_within ends (λ among x a me s k. place_in among x a me s k)

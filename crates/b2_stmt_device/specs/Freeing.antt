@@ -3,7 +3,6 @@ use Rattle.std.specs.Prelude.{ℕ, ◌==◌, List, [], ◌∷◌, Option, Some, 
 use Rattle.b2_base.specs.declared.codes.TheConstants.{P48_DEVICE}
 use Rattle.b2_atom.specs.Tree.{Trees}
 use Rattle.b2_atom.specs.Tree.Trees.{Put, In}
-use Rattle.b2_access.specs.Working.{HolderWorked, holder_work_of}
 use Rattle.b2_access.specs.declared.accesses.Access.{Access}
 use Rattle.b2_access.specs.declared.accesses.Access.TheVariants as access
 use Rattle.b2_access.specs.declared.devices.Device.{Device}
@@ -13,7 +12,7 @@ use Rattle.b2_access.specs.declared.planned.Planned.{Planned}
 use Rattle.b2_access.specs.declared.planned.Planned.TheVariants as planned
 use Rattle.b2_access.specs.declared.private.Private.{Private}
 use Rattle.b2_drive.specs.Asking.{asks_or_fails}
-use Rattle.b2_stmt_device.specs.Held.{are_listed, those_listed, without_devices}
+use Rattle.b2_stmt_device.specs.Held.{are_listed, those_listed}
 use Rattle.b2_stmt_device.specs.Lists.{devices_in}
 
 -- the devices that are named, None where none is
@@ -34,14 +33,7 @@ abbrev pub plans_to_free : List Device → Private → Option (List (List ℕ)) 
 plans_to_free devices me None = frees_held (those_listed devices me.part me.held)
 plans_to_free devices me (Some addrs) = asks_or_fails (asks_to_free devices me.part addrs)
 
--- what is held then, and where the step goes on
-abbrev pub held_freed : Option (List (List ℕ)) → List (List ℕ) → List (List ℕ)
-held_freed None held = held
-held_freed (Some addrs) held = without_devices addrs held
-
+-- where the step goes on then
 abbrev pub goes_freed : Option (List (List ℕ)) → Outcome
 goes_freed None = outcome.Repeat
 goes_freed (Some addrs) = outcome.Next
-
-abbrev pub freeing_ends : Option (List (List ℕ)) → Private → HolderWorked
-freeing_ends o me = record { work = record (holder_work_of me) { held = held_freed o me.held }; outcome = goes_freed o }

@@ -7,7 +7,7 @@ use Rattle.b2_access.specs.Lending.{SeenLent}
 use Rattle.b2_access.specs.Placed.{Statement}
 use Rattle.b2_access.specs.Planning.{Finishing, Planning}
 use Rattle.b2_access.specs.Views.{devices_freed, taking_came}
-use Rattle.b2_access.specs.Working.{Ends, HolderWorked, Plans, Working, holders_finish_by, leaves_holdings, plans_by, stops}
+use Rattle.b2_access.specs.Working.{Ends, HolderWorked, Plans, Working, holder_work_of, holders_finish_by, plans_by, stops}
 use Rattle.b2_access.specs.declared.accesses.Access.{Access}
 use Rattle.b2_access.specs.declared.accesses.Answer.{Answer}
 use Rattle.b2_access.specs.declared.devices.Device.{Device}
@@ -17,9 +17,10 @@ use Rattle.b2_access.specs.declared.planned.Planned.{Planned}
 use Rattle.b2_access.specs.declared.planned.Planned.TheVariants as planned
 use Rattle.b2_access.specs.declared.private.Private.{Private}
 use Rattle.b2_drive.specs.Asking.{asks_or_fails}
-use Rattle.b2_stmt_device.specs.Freeing.{devices_to_free, freeing_ends, plans_to_free}
+use Rattle.b2_stmt_device.specs.Freeing.{devices_to_free, goes_freed, plans_to_free}
+use Rattle.b2_stmt_device.specs.Held.{held_after}
 use Rattle.b2_stmt_device.specs.Selecting.{device_selected, selected}
-use Rattle.b2_stmt_device.specs.Taking.{asks_to_take, line_if_busy, taking_ends}
+use Rattle.b2_stmt_device.specs.Taking.{asks_to_take, goes_taken, line_if_busy}
 
 -- all may stand in a line of the program, and in an immediate line
 abbrev pub is_refused : ℕ → Bool → Bool
@@ -47,20 +48,20 @@ works devices me s = course is_refused stops (does devices me s) me.place me s
 abbrev pub plan : List Device → Private → SeenLent → Planning
 plan devices me s = plans_by (works devices) me s
 
--- how a statement finishes by the answer to the access that it asked for
-abbrev pub finishes : Access → Answer → Private → SeenLent → Statement → Here → HolderWorked
-finishes x a me s u h =
-    if u.row == row.OPEN then taking_ends (taking_came x a) (line_if_busy u.tree) s.home.lines h.place me
-    else (if u.row == row.CLOSE then freeing_ends (devices_freed x a) me
-    else leaves_holdings me outcome.Repeat)
+-- where the step goes on once a statement was answered; elsewhere it is repeated
+abbrev pub goes : Access → Answer → SeenLent → Statement → Here → Outcome
+goes x a s u h =
+    if u.row == row.OPEN then goes_taken (taking_came x a) (line_if_busy u.tree) s.home.lines h.place
+    else (if u.row == row.CLOSE then goes_freed (devices_freed x a)
+    else outcome.Repeat)
 
--- elsewhere the step is repeated
-abbrev pub repeats : Private → Outcome → HolderWorked
-repeats me o = leaves_holdings me outcome.Repeat
+abbrev pub repeats : Outcome → Outcome
+repeats o = outcome.Repeat
 
--- how the statement at a partition's place finishes
+-- how the statement at a partition's place finishes: what is held then is by the access and its answer alone, and where the step goes on
+-- by the statement too
 abbrev pub ends : Access → Answer → Private → SeenLent → HolderWorked
-ends x a me s = course is_refused (repeats me) (finishes x a me s) me.place me s
+ends x a me s = record { work = record (holder_work_of me) { held = held_after x a me.held }; outcome = course is_refused repeats (goes x a s) me.place me s }
 
 abbrev pub finish : Access → Answer → Private → SeenLent → Finishing
 finish x a me s = holders_finish_by ends x a me s

@@ -8,14 +8,12 @@ use Rattle.b2_rows.specs.LineNumbers.{line_in}
 use Rattle.b2_text.specs.Program.{Lines}
 use Rattle.b2_access.specs.Going.{to_line}
 use Rattle.b2_access.specs.Views.{TakingCame, DevicesTaken, DeviceBusy, TakingLater}
-use Rattle.b2_access.specs.Working.{HolderWorked, holder_work_of}
 use Rattle.b2_access.specs.declared.accesses.Access.{Access}
 use Rattle.b2_access.specs.declared.accesses.Access.TheVariants as access
 use Rattle.b2_access.specs.declared.devices.Device.{Device}
 use Rattle.b2_access.specs.declared.planned.Outcome.{Outcome}
 use Rattle.b2_access.specs.declared.planned.Outcome.TheVariants as outcome
-use Rattle.b2_access.specs.declared.private.Private.{Private}
-use Rattle.b2_stmt_device.specs.Held.{are_listed, with_devices}
+use Rattle.b2_stmt_device.specs.Held.{are_listed}
 use Rattle.b2_stmt_device.specs.Lists.{devices_in}
 
 -- the devices, and the line that may be named before them
@@ -36,16 +34,8 @@ abbrev pub goes_where_busy : Option ℕ → Lines → Place → Outcome
 goes_where_busy None lines p = outcome.Repeat
 goes_where_busy (Some n) lines p = to_line lines p n
 
--- what is held then, and where the step goes on
-abbrev pub held_taken : TakingCame → List (List ℕ) → List (List ℕ)
-held_taken (DevicesTaken addrs) held = with_devices held addrs
-held_taken DeviceBusy held = held
-held_taken TakingLater held = held
-
+-- and by what came of taking
 abbrev pub goes_taken : TakingCame → Option ℕ → Lines → Place → Outcome
 goes_taken (DevicesTaken addrs) line lines p = outcome.Next
 goes_taken DeviceBusy line lines p = goes_where_busy line lines p
 goes_taken TakingLater line lines p = outcome.Repeat
-
-abbrev pub taking_ends : TakingCame → Option ℕ → Lines → Place → Private → HolderWorked
-taking_ends c line lines p me = record { work = record (holder_work_of me) { held = held_taken c me.held }; outcome = goes_taken c line lines p }

@@ -6,7 +6,7 @@ ghost use Rattle.b2_atom.specs.declared.rows.TheConstants as row;
 ghost use Rattle.b2_rows.specs.Rows.{is_part, tree_at};
 ghost use Rattle.b2_stmt_device.specs.Freeing as spec;
 
-use crate::held::{are_listed, those_listed, without_devices};
+use crate::held::{are_listed, those_listed};
 use crate::lists::devices_at;
 use b2_access::{Access, Answer, DeviceTable, Outcome, Planned, Private};
 use b2_base::codes::P48_DEVICE;
@@ -61,20 +61,16 @@ pub(crate) fn plan_to_free(devices: &DeviceTable, me: &Private, unit: &[u8]) -> 
     }
 }
 
-/// How the statement ends, by the access that it asked for and its answer, which is one that the access can have.
-pub(crate) fn end_freeing(held: &mut AddrList, access: &Access, answer: &Answer) -> Outcome
+/// Where the statement goes on, by the access that it asked for and its answer, which is one that the access can have.
+pub(crate) fn after_freeing(access: &Access, answer: &Answer) -> Outcome
     requires possible { can_answer access.now answer.now ≡ true }
-    ensures held { held.new ≡ spec.held_freed (devices_freed access.now answer.now) held.old }
-    ensures outcome { result ≡ spec.goes_freed (devices_freed access.now answer.now) }
+    ensures { result ≡ spec.goes_freed (devices_freed access.now answer.now) }
 {
-    match access {
-        Access::CloseDevices { addrs } => match answer {
-            Answer::Done => {
-                *held = without_devices(held, addrs.addresses());
-                Outcome::Next
-            }
-            _ => Outcome::Repeat,
-        },
+    let Access::CloseDevices { .. } = access else {
+        return Outcome::Repeat;
+    };
+    match answer {
+        Answer::Done => Outcome::Next,
         _ => Outcome::Repeat,
     }
 }

@@ -3,7 +3,7 @@ ghost use Rattle.std.specs.Prelude.{◌≡◌};
 ghost use Rattle.b2_access.specs.OwnDevices.{is_device_for};
 ghost use Rattle.b2_stmt_device.specs.Held as spec;
 
-use b2_access::DeviceTable;
+use b2_access::{Access, Answer, DeviceTable};
 use b2_base::{Addr, AddrList, Part};
 
 /// As many devices as a partition can hold: all that there can be.
@@ -31,7 +31,7 @@ fn add_device(held: &mut AddrList, a: Addr)
 }
 
 /// Adds devices.
-pub(crate) fn add_devices(held: &mut AddrList, addrs: &[Addr])
+fn add_devices(held: &mut AddrList, addrs: &[Addr])
     ensures { held.new ≡ spec.with_devices held.old addrs.now }
 {
     for a in addrs {
@@ -40,7 +40,7 @@ pub(crate) fn add_devices(held: &mut AddrList, addrs: &[Addr])
 }
 
 /// What is held but for some devices.
-pub(crate) fn without_devices(held: &AddrList, addrs: &[Addr]) -> AddrList
+fn without_devices(held: &AddrList, addrs: &[Addr]) -> AddrList
     ensures { result ≡ spec.without_devices addrs.now held.now }
 {
     let mut left = AddrList::new();
@@ -50,6 +50,20 @@ pub(crate) fn without_devices(held: &AddrList, addrs: &[Addr]) -> AddrList
         }
     }
     left
+}
+
+/// Keeps what is held after an access, by it and its answer.
+pub(crate) fn keep_held(held: &mut AddrList, access: &Access, answer: &Answer)
+    ensures { held.new ≡ spec.held_after access.now answer.now held.old }
+{
+    let Answer::Done = answer else {
+        return;
+    };
+    match access {
+        Access::OpenDevices { addrs } => add_devices(held, addrs.addresses()),
+        Access::CloseDevices { addrs } => *held = without_devices(held, addrs.addresses()),
+        _ => {}
+    }
 }
 
 /// Whether a partition may use a device, of either kind.

@@ -4,9 +4,10 @@ ghost use Rattle.b2_access.specs.Answering.{can_answer};
 ghost use Rattle.b2_access.specs.Lending.{globals_lent, seen_lent};
 ghost use Rattle.b2_stmt_device.specs.Plan as spec;
 
-use crate::freeing::{end_freeing, plan_to_free};
+use crate::freeing::{after_freeing, plan_to_free};
+use crate::held::keep_held;
 use crate::selecting::{device_selected, select};
-use crate::taking::{after_taking, ask_to_take, keep_taken, line_if_busy};
+use crate::taking::{after_taking, ask_to_take, line_if_busy};
 use b2_access::{
     Access, Answer, DeviceTable, Lent, Outcome, Planned, Private, failed, statement_placed,
 };
@@ -54,7 +55,7 @@ pub fn plan(
 }
 
 /// How the statement at the place of a partition finishes, by the access that it asked for and its answer, which is one that the
-/// access can have.
+/// access can have. What is held then is by these two alone.
 pub fn finish(
     alloc: Global,
     me: &mut Private,
@@ -68,6 +69,7 @@ pub fn finish(
     ensures same_reference { lent.new.globals.ghost_name ≡ lent.old.globals.ghost_name }
     ensures part { me.new.part ≡ me.old.part }
 {
+    keep_held(&mut me.held, access, answer);
     let Some(place) = me.place else {
         return Ok(Outcome::Repeat);
     };
@@ -77,11 +79,9 @@ pub fn finish(
     match unit.row {
         rows::OPEN => {
             let line = line_if_busy(unit.bytes);
-            let goes = after_taking(lent.home, &place, access, answer, line);
-            keep_taken(&mut me.held, access, answer);
-            Ok(goes)
+            Ok(after_taking(lent.home, &place, access, answer, line))
         }
-        rows::CLOSE => Ok(end_freeing(&mut me.held, access, answer)),
+        rows::CLOSE => Ok(after_freeing(access, answer)),
         _ => Ok(Outcome::Repeat),
     }
 }

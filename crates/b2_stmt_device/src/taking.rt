@@ -6,7 +6,7 @@ ghost use Rattle.b2_atom.specs.declared.rows.TheConstants as row;
 ghost use Rattle.b2_rows.specs.Rows.{is_part, tree_at};
 ghost use Rattle.b2_stmt_device.specs.Taking as spec;
 
-use crate::held::{add_devices, are_listed};
+use crate::held::are_listed;
 use crate::lists::devices_at;
 use b2_access::{Access, Answer, DeviceTable, Outcome, to_line};
 use b2_base::codes::P48_DEVICE;
@@ -64,21 +64,6 @@ fn where_busy(home: &Text, place: Place, line: Option<u16>) -> Outcome
     match line {
         Some(n) => to_line(home, place, n),
         None => Outcome::Repeat,
-    }
-}
-
-/// Keeps the devices that were taken, by the access that was asked for and its answer, which is one that the access can have.
-pub(crate) fn keep_taken(held: &mut AddrList, access: &Access, answer: &Answer)
-    requires possible { can_answer access.now answer.now ≡ true }
-    ensures { held.new ≡ spec.held_taken (taking_came access.now answer.now) held.old }
-{
-    let Access::OpenDevices { addrs } = access else {
-        return;
-    };
-    match answer {
-        Answer::Done => add_devices(held, addrs.addresses()),
-        Answer::Wait(_) => {}
-        _ => unreachable!(),
     }
 }
 
