@@ -53,7 +53,7 @@ module _ (among : ℕ → Bool) where
 pub plans_within : (devices : List Device) → PlansWithin (plan devices)
 plans_within devices =
     form.plans_within (works devices)
-    (λ among me s k. each_planned devices me s (PlannedIn among) tt tt (λ code. tt) (λ a fits. marks_no_home devices me.part among a fits))
+    (λ among me s k. each_planned devices me s (PlannedIn among) tt tt (λ code. tt) (λ a fits stays. marks_no_home devices me.part among a fits))
 
 pub finishes_within : FinishesWithin finish
 unfolding Leads

@@ -7,4 +7,4 @@ use Rattle.b2_stmt_disk.specs.Plan.{works}
 use Rattle.b2_stmt_disk.proofs.Planned.{each_planned}
 
 pub plans_legally : StatementsPlanLegally
-plans_legally devices me s = as_it_comes IsLegalPlan me s (works devices me s) (each_planned devices me s IsLegalPlan tt tt (λ code. tt) (λ a fits. Fits.legal fits))
+plans_legally devices me s = as_it_comes IsLegalPlan me s (works devices me s) (each_planned devices me s IsLegalPlan tt tt (λ code. tt) (λ a fits stays. Fits.legal fits))

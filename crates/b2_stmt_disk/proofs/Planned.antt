@@ -1,5 +1,5 @@
 -- What statements on disks plan: they end at once, or ask for an access at platters that the partition may use; and how they finish.
-use Rattle.std.specs.Prelude.{◌≡◌, ◌≢◌, ℕ, ◌==◌, ◌||◌, Bool, true, false, if◌then◌else◌, List, Option, Some, None, Result, Ok, Err, refl}
+use Rattle.std.specs.Prelude.{◌≡◌, ◌≢◌, ℕ, ◌==◌, ◌||◌, Bool, true, false, if◌then◌else◌, List, [], Option, Some, None, Result, Ok, Err, refl}
 use Rattle.std.specs.Str.{bytes_eq}
 use Rattle.std.proofs.Common.{true≢false, sym, ◌∙◌}
 use Rattle.std.proofs.lemmas.Slice.Eq.{bytes_eq-Decides}
@@ -12,6 +12,7 @@ use Rattle.b2_expr.specs.Scope.{Context}
 use Rattle.b2_expr.specs.Value.{context_of}
 use Rattle.b2_expr.specs.Workspace.{work_in}
 use Rattle.b2_access.specs.Devices.{is_platter_for}
+use Rattle.b2_access.specs.Holding.{holders_changed}
 use Rattle.b2_access.specs.Lending.{SeenLent}
 use Rattle.b2_access.specs.Partition.{setting_of}
 use Rattle.b2_access.specs.Placed.{Statement}
@@ -42,8 +43,8 @@ use Rattle.b2_stmt_disk.specs.Scratching.{asks_to_format, asks_to_scratch, secto
 differ : (a b : List ℕ) → bytes_eq a b ≡ false → a ≢ b
 differ a b is same = absurd (true≢false (sym ((bytes_eq-Decides a b).1 same) ∙ is))
 
--- what holds of each refusal, and of each access that fits
-module _ (F : Planned → Type 0) (d : DrivesSeen) (failed : (code : ℕ) → F (planned.Done (outcome.Failed code))) (asks : (a : Access) → Fits d.devices d.who a → F (planned.Ask a)) where
+-- what holds of each refusal, and of each access that fits and takes and frees no device
+module _ (F : Planned → Type 0) (d : DrivesSeen) (failed : (code : ℕ) → F (planned.Done (outcome.Failed code))) (asks : (a : Access) → Fits d.devices d.who a → holders_changed a ≡ [] → F (planned.Ask a)) where
   Asked : Result Access ℕ → Type 0
   Asked r = F (asks_or_fails r)
 
@@ -63,14 +64,14 @@ module _ (F : Planned → Type 0) (d : DrivesSeen) (failed : (code : ℕ) → F 
   unfolding Asked
   limits_asked e (Put word (In n drive operands)) =
       at_drive drive (λ addr. named_file e operands >>= (λ name. Ok (access.Limits addr name)))
-      (λ addr listed. at_value (named_file e operands) (λ name. Ok (access.Limits addr name)) (λ name. asks (access.Limits addr name) (record { listed = (listed, tt); terminal = refl; homes = refl; legal = tt })))
+      (λ addr listed. at_value (named_file e operands) (λ name. Ok (access.Limits addr name)) (λ name. asks (access.Limits addr name) (record { listed = (listed, tt); terminal = refl; homes = refl; legal = tt }) refl))
   limits_asked e t = failed S20_VARIABLE
 
   scratch_asked : (e : Context) (t : Trees) → Asked (asks_to_scratch d e t)
   unfolding Asked
   scratch_asked e (Put word (In n drive (In m name end))) =
       at_drive drive (λ addr. name_given e name >>= (λ x. Ok (access.Scratch addr x)))
-      (λ addr listed. at_value (name_given e name) (λ x. Ok (access.Scratch addr x)) (λ x. asks (access.Scratch addr x) (record { listed = (listed, tt); terminal = refl; homes = refl; legal = tt })))
+      (λ addr listed. at_value (name_given e name) (λ x. Ok (access.Scratch addr x)) (λ x. asks (access.Scratch addr x) (record { listed = (listed, tt); terminal = refl; homes = refl; legal = tt }) refl))
   scratch_asked e t = failed S18_ALPHA
 
   format_asked : (e : Context) (t : Trees) → Asked (asks_to_format d e t)
@@ -78,12 +79,12 @@ module _ (F : Planned → Type 0) (d : DrivesSeen) (failed : (code : ℕ) → F 
   format_asked e (Put scratch (Put disk (In n drive (Put ls (Put is (In m index (Put comma (Put end (Put equals (In k last more)))))))))) =
       at_drive drive (λ addr. sectors_given e index >>= (λ i. sectors_given e last >>= (λ l. Ok (access.Format addr i l))))
       (λ addr listed. at_value (sectors_given e index) (λ i. sectors_given e last >>= (λ l. Ok (access.Format addr i l)))
-      (λ i. at_value (sectors_given e last) (λ l. Ok (access.Format addr i l)) (λ l. asks (access.Format addr i l) (record { listed = (listed, tt); terminal = refl; homes = refl; legal = tt }))))
+      (λ i. at_value (sectors_given e last) (λ l. Ok (access.Format addr i l)) (λ l. asks (access.Format addr i l) (record { listed = (listed, tt); terminal = refl; homes = refl; legal = tt }) refl)))
   format_asked e t = failed S17_NUMERIC
 
   list_asked : (t : Trees) → Asked (asks_to_list d t)
   unfolding Asked
-  list_asked (Put list (Put dc (In n drive end))) = at_drive drive (λ addr. Ok (access.ListDisk addr)) (λ addr listed. asks (access.ListDisk addr) (record { listed = (listed, tt); terminal = refl; homes = refl; legal = tt }))
+  list_asked (Put list (Put dc (In n drive end))) = at_drive drive (λ addr. Ok (access.ListDisk addr)) (λ addr listed. asks (access.ListDisk addr) (record { listed = (listed, tt); terminal = refl; homes = refl; legal = tt }) refl)
   list_asked t = failed S23_DEVICE
 
   -- two platters that differ
@@ -91,8 +92,8 @@ module _ (F : Planned → Type 0) (d : DrivesSeen) (failed : (code : ℕ) → F 
       → Asked (if same then Err P34_RANGE else Ok (moves a name b))
   unfolding Asked
   apart_asked true a name b is listed also = failed P34_RANGE
-  apart_asked false a None b is listed also = asks (access.MovePlatter a b) (record { listed = (listed, (also, tt)); terminal = refl; homes = refl; legal = differ a b is })
-  apart_asked false a (Some name) b is listed also = asks (access.MoveFile a name b) (record { listed = (listed, (also, tt)); terminal = refl; homes = refl; legal = differ a b is })
+  apart_asked false a None b is listed also = asks (access.MovePlatter a b) (record { listed = (listed, (also, tt)); terminal = refl; homes = refl; legal = differ a b is }) refl
+  apart_asked false a (Some name) b is listed also = asks (access.MoveFile a name b) (record { listed = (listed, (also, tt)); terminal = refl; homes = refl; legal = differ a b is }) refl
 
   move_asked : (e : Context) (t : Trees) → Asked (asks_to_move d e t)
   unfolding Asked
@@ -113,7 +114,7 @@ module _ (F : Planned → Type 0) (d : DrivesSeen) (failed : (code : ℕ) → F 
 
 -- so also of what the statement at a place plans
 module _ (devices : List Device) (me : Private) (s : SeenLent) (F : Planned → Type 0) (next : F (planned.Done outcome.Next)) (ready : F (planned.Done outcome.Ready)) (failed : (code : ℕ) → F (planned.Done (outcome.Failed code)))
-    (asks : (a : Access) → Fits devices me.part a → F (planned.Ask a)) where
+    (asks : (a : Access) → Fits devices me.part a → holders_changed a ≡ [] → F (planned.Ask a)) where
   Each : Working → Type 0
   Each k = F (planned_of k)
 

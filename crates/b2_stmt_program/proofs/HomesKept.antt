@@ -21,7 +21,7 @@ use Rattle.b2_stmt_program.proofs.Planned.{each_planned}
 pub plans_within : (devices : List Device) → PlansWithin (plan devices)
 plans_within devices =
     form.plans_within (works devices)
-    (λ among me s k. each_planned devices me s (PlannedIn among) tt (λ code. tt) (λ a fits. marks_no_home devices me.part among a fits))
+    (λ among me s k. each_planned devices me s (PlannedIn among) tt (λ code. tt) (λ a fits stays. marks_no_home devices me.part among a fits))
 
 module _ (among : ℕ → Bool) where
   -- what a statement leaves names only these

@@ -26,7 +26,7 @@ plans_keep_none devices = form.plans_keep_none (works devices)
 pub plans_at_terminal : (devices : List Device) → PlansAtTerminal (plan devices)
 plans_at_terminal devices =
     form.plans_at_terminal (works devices)
-    (λ me s. each_planned devices me s (PlannedAt me.term) tt (λ code. tt) (λ a fits. names_no_terminal devices me.part me.term a fits))
+    (λ me s. each_planned devices me s (PlannedAt me.term) tt (λ code. tt) (λ a fits stays. names_no_terminal devices me.part me.term a fits))
 
 pub finishes_in_place : FinishesInPlace finish
 finishes_in_place x a me s = refl

@@ -9,4 +9,4 @@ use Rattle.b2_stmt_program.proofs.Planned.{each_planned}
 pub asked_are_listed : AskedDevicesAreListed
 asked_are_listed devices me s =
     as_it_comes (PlannedListed devices me.part) me s (works devices me s)
-    (each_planned devices me s (PlannedListed devices me.part) tt (λ code. tt) (λ a fits. Fits.listed fits))
+    (each_planned devices me s (PlannedListed devices me.part) tt (λ code. tt) (λ a fits stays. Fits.listed fits))

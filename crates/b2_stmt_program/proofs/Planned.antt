@@ -1,5 +1,5 @@
 -- What statements on programs on disks plan: they ask for an access at a platter that the partition may use; and how they finish.
-use Rattle.std.specs.Prelude.{ℕ, ◌==◌, ◌||◌, Bool, is_some, List, None, Result, Ok, refl}
+use Rattle.std.specs.Prelude.{◌≡◌, ℕ, ◌==◌, ◌||◌, Bool, is_some, List, [], None, Result, Ok, refl}
 use Rattle.b2_base.specs.declared.codes.TheConstants.{S18_ALPHA, S26_PROGRAM_ONLY, S27_LEFT_OUT}
 use Rattle.b2_atom.specs.Tree.{Trees}
 use Rattle.b2_atom.specs.Tree.Trees.{Done, Put, In}
@@ -8,6 +8,7 @@ use Rattle.b2_expr.specs.Answers.{◌>>=◌}
 use Rattle.b2_expr.specs.Scope.{Context}
 use Rattle.b2_expr.specs.Value.{context_of}
 use Rattle.b2_expr.specs.Workspace.{work_in}
+use Rattle.b2_access.specs.Holding.{holders_changed}
 use Rattle.b2_access.specs.Lending.{SeenLent}
 use Rattle.b2_access.specs.Partition.{setting_of}
 use Rattle.b2_access.specs.Working.{Working, planned_of, stops}
@@ -28,8 +29,8 @@ use Rattle.b2_stmt_program.specs.Loading.{asks_to_load}
 use Rattle.b2_stmt_program.specs.Plan.{asked_of, does, is_refused, works}
 use Rattle.b2_stmt_program.specs.Saving.{asks_to_save, lines_saved, old_named, saves}
 
--- what holds of each refusal, and of each access that fits
-module _ (F : Planned → Type 0) (d : DrivesSeen) (failed : (code : ℕ) → F (planned.Done (outcome.Failed code))) (asks : (a : Access) → Fits d.devices d.who a → F (planned.Ask a)) where
+-- what holds of each refusal, and of each access that fits and takes and frees no device
+module _ (F : Planned → Type 0) (d : DrivesSeen) (failed : (code : ℕ) → F (planned.Done (outcome.Failed code))) (asks : (a : Access) → Fits d.devices d.who a → holders_changed a ≡ [] → F (planned.Ask a)) where
   Asked : Result Access ℕ → Type 0
   Asked r = F (asks_or_fails r)
 
@@ -39,7 +40,7 @@ module _ (F : Planned → Type 0) (d : DrivesSeen) (failed : (code : ℕ) → F 
       after_drive F d failed drive (λ addr. old_named e (In k old Done) >>= (λ o. name_given e name >>= (λ x. Ok (saves addr o x (lines_saved lines)))))
       (λ addr listed. after_value F d failed (old_named e (In k old Done)) (λ o. name_given e name >>= (λ x. Ok (saves addr o x (lines_saved lines))))
       (λ o. after_value F d failed (name_given e name) (λ x. Ok (saves addr o x (lines_saved lines)))
-      (λ x. asks (saves addr o x (lines_saved lines)) (record { listed = (listed, tt); terminal = refl; homes = refl; legal = tt }))))
+      (λ x. asks (saves addr o x (lines_saved lines)) (record { listed = (listed, tt); terminal = refl; homes = refl; legal = tt }) refl)))
   save_asked e t = failed S18_ALPHA
 
   load_asked : (e : Context) (program : Bool) (t : Trees) → Asked (asks_to_load d e program t)
@@ -47,7 +48,7 @@ module _ (F : Planned → Type 0) (d : DrivesSeen) (failed : (code : ℕ) → F 
   load_asked e program (Put word (In k run (In n drive (In m name end)))) =
       after_drive F d failed drive (λ addr. name_given e name >>= (λ x. Ok (access.LoadProgram addr x (k == 1 || program) None 0)))
       (λ addr listed. after_value F d failed (name_given e name) (λ x. Ok (access.LoadProgram addr x (k == 1 || program) None 0))
-      (λ x. asks (access.LoadProgram addr x (k == 1 || program) None 0) (record { listed = (listed, tt); terminal = refl; homes = refl; legal = tt })))
+      (λ x. asks (access.LoadProgram addr x (k == 1 || program) None 0) (record { listed = (listed, tt); terminal = refl; homes = refl; legal = tt }) refl))
   load_asked e program t = failed S18_ALPHA
 
   each_asked : (e : Context) (program : Bool) (r : ℕ) (t : Trees) → F (asks_or_fails (asked_of d e program r t))
@@ -58,7 +59,7 @@ module _ (F : Planned → Type 0) (d : DrivesSeen) (failed : (code : ℕ) → F 
 
 -- so also of what the statement at a place plans
 module _ (devices : List Device) (me : Private) (s : SeenLent) (F : Planned → Type 0) (ready : F (planned.Done outcome.Ready)) (failed : (code : ℕ) → F (planned.Done (outcome.Failed code)))
-    (asks : (a : Access) → Fits devices me.part a → F (planned.Ask a)) where
+    (asks : (a : Access) → Fits devices me.part a → holders_changed a ≡ [] → F (planned.Ask a)) where
   Each : Working → Type 0
   Each k = F (planned_of k)
 
