@@ -38,6 +38,10 @@ keeps_devices (Halt p) w = refl
 keeps_devices (Reset p) w = refl
 keeps_devices (Turn p n) w = turned_devices p n (private_of p w) w
 
+pub all_keep_devices : (xs : List Action) (w : WorldState) → (does_all xs w).devices ≡ w.devices
+all_keep_devices [] w = refl
+all_keep_devices (x ∷ xs) w = all_keep_devices xs (does x w) ∙ keeps_devices x w
+
 -- along a round
 pub turn_first : (quota p : ℕ) (w : WorldState) → p < 17 → does_all (turns_from quota (p + 1) (17 - (p + 1))) (does (Turn p quota) w) ≡ does_all (turns_from quota p (17 - p)) w
 turn_first quota p w below = let left : suc (17 - (p + 1)) ≡ 17 - p = omega arith in ap (λ n. does_all (turns_from quota p n) w) left

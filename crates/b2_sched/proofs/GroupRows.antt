@@ -29,15 +29,19 @@ put_there : (x me : Private) (o : Option Private) → option_map (λ _. x) o ≡
 put_there x me None e = let clash : false ≡ true = ap (λ (o : Option Private). is_some o) e in cc
 put_there x me (Some y) e = is_it x me e
 
--- what holds of an own state, and of another one that it got
-pub row_holds : (P : Private → Type 0) (q p : ℕ) (x : Private) (xs : List (ℕ × Private)) → (q ≡ p → P x) → ((me : Private) → row_of q xs ≡ Some me → P me) → (me : Private) → row_of q (with_row p xs x) ≡ Some me → P me
-row_holds P q p x xs holds held me is = by (q == p) refl
+-- what holds of an own state that was got, and of those that others have
+pub row_comes : (P : Private → Type 0) (q p : ℕ) (x : Private) (xs : List (ℕ × Private)) → (q ≡ p → P x) → (q ≢ p → (me : Private) → row_of q xs ≡ Some me → P me) → (me : Private) → row_of q (with_row p xs x) ≡ Some me → P me
+row_comes P q p x xs holds held me is = by (q == p) refl
   where
     by : (b : Bool) → (q == p) ≡ b → P me
     by true e =
         let at_p : row_of p (with_row p xs x) ≡ Some me = subst (λ k. row_of k (with_row p xs x) ≡ Some me) (same_number q p e) is in
         subst P (put_there x me (row_of p xs) (sym (numbered_same p x xs) ∙ at_p)) (holds (same_number q p e))
-    by false e = held me (sym (numbered_other q p x (other_number q p e) xs) ∙ is)
+    by false e = held (other_number q p e) me (sym (numbered_other q p x (other_number q p e) xs) ∙ is)
+
+-- and of all, also of the one that got it
+pub row_holds : (P : Private → Type 0) (q p : ℕ) (x : Private) (xs : List (ℕ × Private)) → (q ≡ p → P x) → ((me : Private) → row_of q xs ≡ Some me → P me) → (me : Private) → row_of q (with_row p xs x) ≡ Some me → P me
+row_holds P q p x xs holds held me is = row_comes P q p x xs holds (λ apart. held) me is
 
 module _ (g : Group) where
   is_another : (p q : ℕ) → g p ≡ false → g q ≡ true → q ≢ p

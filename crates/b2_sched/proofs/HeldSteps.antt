@@ -37,7 +37,7 @@ use Rattle.b2_sched.specs.Turns.{after_loan, step_noted, step_of}
 
 -- ---- an access of the holder leaves the device held, or frees it
 
-hog_is : (a d : List ℕ) → object.Hog a ≡ object.Hog d → a ≡ d
+pub hog_is : (a d : List ℕ) → object.Hog a ≡ object.Hog d → a ≡ d
 hog_is a d same = cc
 
 -- who takes devices holds each of them, and what it held before
@@ -57,7 +57,7 @@ unless_held a p None g s held after = after
 unless_held a p (Some x) g s held after = held
 
 -- nobody stops one that frees devices
-freed_by_any : (addrs : List (List ℕ)) (s : StoreState) → holders (map hold_freed addrs) s ≡ []
+pub freed_by_any : (addrs : List (List ℕ)) (s : StoreState) → holders (map hold_freed addrs) s ≡ []
 freed_by_any [] s = refl
 freed_by_any (d ∷ addrs) s = freed_by_any addrs s
 
@@ -66,7 +66,7 @@ freeing_done who addrs s =
     ap (λ (ps : List ℕ). (unless_stopped (stop_by (first_other who ps) None) (performs (frees who addrs) s) s).answer) (freed_by_any addrs s)
     ∙ ap (λ (g : Gives StoreState). g.answer) (freed who addrs s)
 
-is_among : (a : List ℕ) (addrs : List (List ℕ)) → Decided (IsAddressIn a addrs)
+pub is_among : (a : List ℕ) (addrs : List (List ℕ)) → Decided (IsAddressIn a addrs)
 is_among a [] = inr (λ i. i)
 is_among a (d ∷ addrs) = by (same_object (object.Hog a) (object.Hog d)) (is_among a addrs)
   where

@@ -30,7 +30,7 @@ use Rattle.b2_sched.specs.Turns.{after_loan, step_noted, step_of, steps_in_turn}
 use Rattle.b2_sched.specs.World.{WorldState, Action, Key, Front, Halt, Reset, Turn, does, does_all, dropped_by, private_of, tallied, with_turn}
 
 -- what holds however a turn goes on
-by_end : {A : Type 0} (P : A → Type 0) (why : Option Why) (ends : Why → A) (on : A) → ((w : Why) → P (ends w)) → P on → P (unless_ended why ends on)
+pub by_end : {A : Type 0} (P : A → Type 0) (why : Option Why) (ends : Why → A) (on : A) → ((w : Why) → P (ends w)) → P on → P (unless_ended why ends on)
 by_end P None ends on h k = k
 by_end P (Some w) ends on h k = h w
 
@@ -129,7 +129,7 @@ abbrev AreAtHome : WorldState → Type 0
 AreAtHome w = EachIs IsHome w.privates
 
 -- a terminal changes, and what belongs to a device stays
-terminal_leaves : (o : Object) (a : List ℕ) → device_of o ≡ Some a → (c : Option TerminalState) (t : ℕ) (f : TerminalState → TerminalState) (s : StoreState) → content (with_terminal c t f s) o ≡ content s o
+pub terminal_leaves : (o : Object) (a : List ℕ) → device_of o ≡ Some a → (c : Option TerminalState) (t : ℕ) (f : TerminalState → TerminalState) (s : StoreState) → content (with_terminal c t f s) o ≡ content s o
 terminal_leaves o a is None t f s = refl
 terminal_leaves o a is (Some x) t f s = content_other (object.Terminal t) o (f x) s (λ e. let clash : Some a ≡ None = sym is ∙ ap device_of e in cc)
 

@@ -27,5 +27,9 @@ pub mod StepEnds
 pub mod LegalSteps
 pub mod HeldSteps
 pub mod HeldTurns
+pub mod HeldAccesses
+pub mod HeldList
+pub mod HeldFamilies
+pub mod HeldWorlds
 pub mod FilesLeft
 pub mod OpenFiles

@@ -23,7 +23,7 @@ use Rattle.b2_store.specs.Files.{AreSound}
 use Rattle.b2_store.proofs.Answered.{answers-fit}
 use Rattle.b2_store.proofs.Sound.{platters-stay-sound}
 use Rattle.b2_sched.proofs.EachRow.{EachIs, each_changed, each_row}
-use Rattle.b2_sched.proofs.Folds.{keeps_devices}
+use Rattle.b2_sched.proofs.Folds.{all_keep_devices}
 use Rattle.b2_sched.proofs.GroupRows.{is_it}
 use Rattle.b2_sched.proofs.Lasting.{by_actions}
 use Rattle.b2_sched.proofs.LegalSteps.{IsLegalIfAny, steps_ask_legally}
@@ -100,10 +100,6 @@ in_action (Turn p n) w h k = turned p n (private_of p w) w refl h k
 in_actions : (xs : List Action) (w : WorldState) → AtEachStep AsksProperly xs w → AllOpen w → AllOpen (does_all xs w)
 in_actions [] w h k = k
 in_actions (x ∷ rest) w h k = in_actions rest (does x w) h.1 (in_action x w h.0 k)
-
-all_keep_devices : (xs : List Action) (w : WorldState) → (does_all xs w).devices ≡ w.devices
-all_keep_devices [] w = refl
-all_keep_devices (x ∷ xs) w = all_keep_devices xs (does x w) ∙ keeps_devices x w
 
 -- at the start of a boot no file is open
 first_by : (devices : List Device) (x : BootPartition) (xs : List BootPartition) (p : ℕ) (me : Private) → (row_of p (map private_row xs) ≡ Some me → IsOpen devices p me) → (b : Bool)

@@ -6,7 +6,6 @@ use Rattle.b2_access.specs.AccessRows.{reach}
 use Rattle.b2_access.specs.Devices.{is_platter_for, is_printer_for}
 use Rattle.b2_access.specs.Holding.{device_of}
 use Rattle.b2_access.specs.OwnDevices.{AreListed, is_device_for, is_listed_for}
-use Rattle.b2_access.specs.Pending.{IsForTerminal}
 use Rattle.b2_access.specs.Reach.{DevicePart, DeviceReach, HoldFreed, HoldTaken, WithPlatter, WithPrinter, Reach, device_objects, objects_reached, part_objects, terminal_objects, text_objects, variable_objects}
 use Rattle.b2_access.specs.Serving.{itself}
 use Rattle.b2_access.specs.Store.{StoreState}
@@ -49,10 +48,10 @@ as_printer true c is = refl
 as_printer false c is = is
 
 -- a partition names itself alone as a home, and what waits to be shown is for its terminal
-abbrev IsFit : ℕ → Private → Type 0
+abbrev pub IsFit : ℕ → Private → Type 0
 IsFit p me = ShowsAtTerminal p me × IsHome p me
 
-always_fit : IsKept IsFit
+pub always_fit : IsKept IsFit
 always_fit = record {
   halt = λ p me h. (always_shows.halt p me h.0, keeps_home.halt p me h.1);
   reset = λ p me h. (always_shows.reset p me h.0, keeps_home.reset p me h.1);
@@ -152,7 +151,7 @@ module _ (table : List Device) (p : ℕ) where
   no_steps : StepsFine []
   no_steps = All-nil (TouchesListed table)
 
-  fit_after : (me : Private) (s : StoreState) → IsFit p me → IsFit p (step_of table me s).me
+  pub fit_after : (me : Private) (s : StoreState) → IsFit p me → IsFit p (step_of table me s).me
   fit_after me s fit = (
     still_for_terminal (basic table) (basic_is_lawful table) itself serves after_loan me (step_of table me s).me (step_shows (basic table) (basic_is_lawful table) itself serves after_loan me s) fit.0,
     (steps_stay_within (basic table) (basic_is_lawful table) itself serves after_loan (just p) me s fit.1).0,

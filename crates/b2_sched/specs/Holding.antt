@@ -1,24 +1,34 @@
--- What a partition can rely on that holds a device, whichever others take turns.
-use Rattle.std.specs.Prelude.{◌≡◌, ◌≢◌, ◌⊎◌, ℕ, true, List, [], ◌∷◌, Some}
+-- What a partition can rely on that holds a device, whichever others take turns; and that its list of devices is what it holds.
+use Rattle.std.specs.Prelude.{◌≡◌, ◌≢◌, ◌⊎◌, ◌≤◌, ℕ, true, List, [], ◌∷◌, length, Option, Some, None}
 use Rattle.b2_access.specs.AccessRows.{reach}
 use Rattle.b2_access.specs.AnswerKinds.{is_wait}
+use Rattle.b2_access.specs.Devices.{are_distinct}
 use Rattle.b2_access.specs.Holding.{AgreeBut, Asks, IsAddressIn, device_of}
+use Rattle.b2_access.specs.Lending.{SeenLent}
+use Rattle.b2_access.specs.OwnDevices.{is_device_for}
+use Rattle.b2_access.specs.Planning.{Finishing}
 use Rattle.b2_access.specs.Store.{StoreState, content}
 use Rattle.b2_access.specs.declared.accesses.Access.{Access}
 use Rattle.b2_access.specs.declared.accesses.Access.TheVariants as access
+use Rattle.b2_access.specs.declared.accesses.Answer.{Answer}
 use Rattle.b2_access.specs.declared.accesses.Answer.TheVariants as answer
 use Rattle.b2_access.specs.declared.devices.Device.{Device}
 use Rattle.b2_access.specs.declared.objects.Object.{Object}
 use Rattle.b2_access.specs.declared.objects.Object.TheVariants as object
+use Rattle.b2_access.specs.declared.planned.Planned.{Planned}
+use Rattle.b2_access.specs.declared.planned.Planned.TheVariants as planned
 use Rattle.b2_access.specs.declared.private.Private.{Private}
 use Rattle.b2_boot.specs.Boots.{BootState}
 use Rattle.b2_boot.specs.declared.log.Event.{Event}
+use Rattle.b2_language.specs.Languages.{Ways}
 use Rattle.b2_machine.specs.Touched.{asking}
+use Rattle.b2_stmt_device.specs.Held.{held_after}
 use Rattle.b2_store.specs.DiskWork.{serves}
 use Rattle.b2_sched.specs.Choice.{basic}
 use Rattle.b2_sched.specs.EachStep.{AtEachStep, AtSomeStep}
-use Rattle.b2_sched.specs.Start.{Images, booted}
-use Rattle.b2_sched.specs.World.{WorldState, Action, Turn, does_all, ran}
+use Rattle.b2_sched.specs.Start.{CanStart, Images, booted, devices_of}
+use Rattle.b2_sched.specs.Turns.{step_of}
+use Rattle.b2_sched.specs.World.{WorldState, Action, Turn, does_all, private_of, ran}
 
 -- a partition holds a device
 abbrev pub IsHeld : List ℕ → ℕ → StoreState → Type 0
@@ -81,3 +91,40 @@ pub record Frees (a : List ℕ) (p : ℕ) (devices : List Device) (me : Private)
 abbrev pub HeldUntilFreed : Type 0
 HeldUntilFreed =
     (w : WorldState) (p : ℕ) (a : List ℕ) (between : List Action) → IsReached w → IsHeld a p w.store → IsHeld a p (does_all between w).store ⊎ AtSomeStep (Frees a p) between w
+
+-- ---- the list of a partition
+
+-- what was planned is finished so that the list is as the access and its answer say
+abbrev pub FinishesByAccess : (Access → Answer → Private → SeenLent → Finishing) → Planned → Type 0
+FinishesByAccess finish (planned.Done o) = Unit {0}
+FinishesByAccess finish (planned.Ask x) = (a : Answer) (me : Private) (s : SeenLent) → (finish x a me s).me.held ≡ held_after x a me.held
+
+-- The statements of a language keep the list: as they plan they leave it, and they finish so what they planned.
+pub record KeepTheList (ways : Ways) : Type 0 where
+  pub plans : (r : ℕ) (me : Private) (s : SeenLent) → (ways.plan r me s).me.held ≡ me.held
+  pub finishes : (r : ℕ) (me : Private) (s : SeenLent) → FinishesByAccess (ways.finish r) (ways.plan r me s).planned
+
+-- the list after an access that is asked for, where one is
+abbrev pub held_where : Option Access → ℕ → List (List ℕ) → StoreState → List (List ℕ)
+held_where None who held s = held
+held_where (Some x) who held s = held_after x (serves s who x).answer held
+
+-- A step leaves the list as the access that it asks for and its answer say, and as it is where it asks for none.
+abbrev pub StepsKeepTheList : Type 0
+StepsKeepTheList =
+    (devices : List Device) (me : Private) (s : StoreState) → let x = asking (basic devices) me s in (step_of devices me s).me.held ≡ held_where x.access x.who me.held s
+
+-- THE LIST OF A PARTITION IS WHAT IT HOLDS: a device that it holds stands there, and one that stands there it holds; each stands there once,
+-- they are at most twelve, and each is listed for it.
+pub record ListsWhatItHolds (devices : List Device) (p : ℕ) (me : Private) (s : StoreState) : Type 0 where
+  pub stands : (a : List ℕ) → IsHeld a p s → IsAddressIn a me.held
+  pub holds : (a : List ℕ) → IsAddressIn a me.held → IsHeld a p s
+  pub once : are_distinct me.held ≡ true
+  pub few : length me.held ≤ 12
+  pub usable : (a : List ℕ) → IsAddressIn a me.held → is_device_for p a devices ≡ true
+
+-- So it is with every partition that is present, whatever was run from a boot that can start.
+abbrev pub ListsAreWhatIsHeld : Type 0
+ListsAreWhatIsHeld =
+    (b : BootState) (images : Images) (log : List Event) (p : ℕ) (me : Private) → CanStart b → private_of p (ran log (booted b images)) ≡ Some me
+    → ListsWhatItHolds (devices_of b.printers b.platters) p me (ran log (booted b images)).store

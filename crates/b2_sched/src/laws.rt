@@ -6,7 +6,7 @@ ghost use Rattle.b2_sched.specs.Clean.{CleanOnesAreAsAlone, MarksSayWhoIsClean, 
 ghost use Rattle.b2_sched.specs.Devices.{RunsTouchListedDevices};
 ghost use Rattle.b2_sched.specs.Files.{FilesOutlastTurns, HeldFilesStay};
 ghost use Rattle.b2_sched.specs.Groups.{CleanGroupsAreAsAlone, GroupsRelyOnTheirOwn, TurnsChangeTheirOwn};
-ghost use Rattle.b2_sched.specs.Holding.{HeldUntilFreed, OthersLeaveHeld, OthersReadNothing, OthersWait};
+ghost use Rattle.b2_sched.specs.Holding.{HeldUntilFreed, ListsAreWhatIsHeld, OthersLeaveHeld, OthersReadNothing, OthersWait, StepsKeepTheList};
 ghost use Rattle.b2_sched.specs.Laws.{RunsByActions, LeavesOthers, KeepsPresent, RoundsAscend, CountsTurns, NoPlaceIsKept, RunsKeepToTheirGrant, TurnsCountAllButOne};
 ghost use Rattle.b2_sched.specs.Marking.{TurnsMarkTheirSteps};
 ghost use Rattle.b2_sched.specs.OpenFiles.{OpenFilesAreListed};
@@ -144,4 +144,16 @@ pub fn law_others_wait_for_a_held_device()
 /// Whatever happens, a device is held by the same partition until one of its own steps asks for it to be freed, and that is done.
 pub fn law_a_device_is_held_until_it_is_freed()
     ensures { HeldUntilFreed }
+{}
+
+/// A step leaves the list of devices of its partition as the access that it asks for and its answer say: what was taken is added, what
+/// was freed is taken out, and else it stays as it is.
+pub fn law_a_step_keeps_the_list()
+    ensures { StepsKeepTheList }
+{}
+
+/// Whatever was run from a boot that can start, the list of devices of each partition that is present is what it holds: it names each
+/// device once, twelve at most, and none but those that the boot lists for the partition.
+pub fn law_a_partition_lists_what_it_holds()
+    ensures { ListsAreWhatIsHeld }
 {}
