@@ -209,11 +209,11 @@ booted_free (x ∷ xs) ys a p is = unheld x a p (device_row a (map free_row xs +
 
 booted_empty : (ps : List BootPartition) → EachIs (λ p me. me.held ≡ []) (map private_row ps)
 booted_empty [] p me is = let clash : false ≡ true = ap (λ (o : Option Private). is_some o) is in cc
-booted_empty (x ∷ xs) p me is = by (x.number == p) is
+booted_empty (x ∷ xs) p me is = by (x.number == p) (booted_empty xs p me) is
   where
-    by : (b : Bool) → cond b (Some (private_row x).1) (row_of p (map private_row xs)) ≡ Some me → me.held ≡ []
-    by true e = sym (ap (λ (you : Private). you.held) (is_it (private_row x).1 me e))
-    by false e = booted_empty xs p me e
+    by : (b : Bool) → (row_of p (map private_row xs) ≡ Some me → me.held ≡ []) → cond b (Some (private_row x).1) (row_of p (map private_row xs)) ≡ Some me → me.held ≡ []
+    by true later e = sym (ap (λ (you : Private). you.held) (is_it (private_row x).1 me e))
+    by false later e = later e
 
 booted_agrees : (b : BootState) (images : Images) (p : ℕ) → Agree (devices_of b.printers b.platters) p [] (store_booted b images)
 booted_agrees b images p =

@@ -6,7 +6,6 @@ use Rattle.b2_access.specs.AccessRows.{reach}
 use Rattle.b2_access.specs.Devices.{is_platter_for, is_printer_for}
 use Rattle.b2_access.specs.Holding.{device_of}
 use Rattle.b2_access.specs.OwnDevices.{AreListed, is_device_for, is_listed_for}
-use Rattle.b2_access.specs.Pending.{IsForTerminal}
 use Rattle.b2_access.specs.Reach.{DevicePart, DeviceReach, HoldFreed, HoldTaken, WithPlatter, WithPrinter, Reach, device_objects, objects_reached, part_objects, terminal_objects, text_objects, variable_objects}
 use Rattle.b2_access.specs.Serving.{itself}
 use Rattle.b2_access.specs.Store.{StoreState}
