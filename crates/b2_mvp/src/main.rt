@@ -16,6 +16,8 @@ mod inputs;
 mod outputs;
 mod parts;
 mod status;
+#[cfg(test)]
+mod tests;
 mod top;
 
 use b2_base::{FileShelf, OutSink};
