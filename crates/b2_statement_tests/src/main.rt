@@ -1,6 +1,6 @@
 //! Rows of the calls on statements that no typed line over the whole machine shows: statements that are lent `@` variables or
 //! the text of another partition, accesses and their answers, PRINT and PRINTUSING at a printer and a column of it, what
-//! stands after a value or a receiver, and why turns end. What a typed line shows stands in the sessions of `b2_mvp`. The file
+//! stands after a value or a receiver, and why turns end. What a typed line shows stands in the sessions of `tests/`. The file
 //! `stdin` has the rows, each a line as `b2_cases` reads it, and each module's first lines say how its rows are written.
 #![tactic(auto)]
 
