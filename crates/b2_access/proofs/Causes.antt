@@ -3,21 +3,22 @@ use Rattle.std.specs.Prelude.{◌≡◌, ◌↔◌, ◌<◌, ℕ, nat_lt, Bool, 
 use Rattle.std.proofs.Common.{sym, ap, ◌∙◌, inl, arith}
 use Rattle.std.proofs.lemmas.Bool.{false≢true}
 use Rattle.std.proofs.lemmas.Bool.Decides.{nat_tests}
-use Rattle.b2_base.specs.declared.codes.TheConstants.{A01_TEXT_AREA}
+use Rattle.b2_base.specs.declared.codes.TheConstants.{A01_TEXT_AREA, X78_NAME_HELD}
 use Rattle.b2_text.specs.Program.{TextState, size_of, with_line}
 use Rattle.b2_access.specs.declared.objects.Object.TheVariants as object
 use Rattle.b2_access.specs.declared.accesses.Access.{Access}
 use Rattle.b2_access.specs.declared.accesses.Access.TheVariants as access
 use Rattle.b2_access.specs.declared.accesses.Answer.{Answer}
 use Rattle.b2_access.specs.declared.accesses.Answer.TheVariants as answer
-use Rattle.b2_access.specs.AccessRows.{EditTask, becomes, changes_image, erases, finds_in_image, loaded_answer, loads, loads_from, loads_text, moves, moves_from, moves_to, no_file, puts_atoms, row, saves, saves_in, saves_text, says_or_refuses}
-use Rattle.b2_access.specs.Causes.{GivesCode, GivesCodeOf, IsFullFor, LocksForTheFirst, MeetsCode, RefusesWithTheCode, WaitsForTheFirst}
+use Rattle.b2_access.specs.AccessRows.{DeclareTask, EditTask, becomes, changes_image, declares, erases, finds, finds_in_image, gives_up_if, is_held_by, is_held_by_other, loaded_answer, loads, loads_from, loads_text, moves, moves_from, moves_to, no_file, puts_atoms, row, saves, saves_in, saves_text, says_or_refuses, takes_name}
+use Rattle.b2_access.specs.Causes.{GivesCode, GivesCodeOf, IsFullFor, LocksForTheFirst, MeetsCode, MeetsNobody, MissesNobodyElse, RefusesWithTheCode, WaitsForTheFirst}
 use Rattle.b2_access.specs.AnswerKinds.{stops}
 use Rattle.b2_access.specs.Disks.{DiskWork, Loaded}
+use Rattle.b2_access.specs.Loans.{holder_of}
 use Rattle.b2_access.specs.Serving.{performs}
 use Rattle.b2_access.specs.Store.{StoreState, content}
 use Rattle.b2_access.specs.Task.{Refuse, puts}
-use Rattle.b2_access.proofs.RowLaws.{locks, refuses, waits}
+use Rattle.b2_access.proofs.RowLaws.{locks, misses, refuses, waits}
 use Rattle.b2_access.proofs.TaskLaws.{is_told}
 use Rattle.b2_access.proofs.Told.{rows_tell_their_answers}
 
@@ -127,6 +128,26 @@ move_refuses c from to made s (Some image) = by (content s (object.Platter to))
     by None = (λ e. absurd (no_code c answer.Done refl e), λ h. absurd h)
     by (Some other) = made_by (made image other)
 
+-- a name that is declared
+given_up_never : (who c : ℕ) (name old : List ℕ) (s : StoreState) (own : Bool) → (performs (gives_up_if who own name old) s).answer ≡ answer.Refused c → ⊥
+given_up_never who c name old s true e = no_code c answer.Done refl e
+given_up_never who c name old s false e = no_code c answer.Done refl e
+
+taken_never : (who c : ℕ) (name : List ℕ) (old : Option (List ℕ)) (s : StoreState) → (performs (takes_name who name old) s).answer ≡ answer.Refused c → ⊥
+taken_never who c name None s e = no_code c answer.Done refl e
+taken_never who c name (Some old) s e = given_up_never who c name old s (is_held_by who (content s (object.Name old))) e
+
+declaring_refuses : (who c : ℕ) (name : List ℕ) (old : Option (List ℕ)) (s : StoreState) (h : Option (Option ℕ))
+    → ((performs (declares who name old h) s).answer ≡ answer.Refused c) ↔ ((c ≡ X78_NAME_HELD) × (is_held_by_other who h ≡ true))
+declaring_refuses who c name old s h = by (is_held_by_other who h)
+  where
+    by_holder : Bool → DeclareTask name old
+    by_holder other = if other then Refuse X78_NAME_HELD else takes_name who name old
+
+    by : (b : Bool) → ((performs (by_holder b) s).answer ≡ answer.Refused c) ↔ ((c ≡ X78_NAME_HELD) × (b ≡ true))
+    by true = (λ e. (sym (same_code c X78_NAME_HELD e), refl), λ x. ap answer.Refused (sym x.0))
+    by false = (λ e. absurd (taken_never who c name old s e), λ x. absurd (false≢true x.1))
+
 goes_on : (l : Option Loaded) → stops (loaded_answer l) ≡ false
 goes_on None = refl
 goes_on (Some l) = refl
@@ -148,10 +169,29 @@ meets_code disks who c (access.SaveProgram addr old name from to) s = save_refus
 meets_code disks who c (access.LoadProgram addr name replace declared homes) s = program_refuses who c addr (disks.load_program name replace) s (content s (object.Platter addr))
 meets_code disks who c (access.MovePlatter from to) s = move_refuses c from to disks.move_platter s (content s (object.Platter from))
 meets_code disks who c (access.MoveFile from name to) s = move_refuses c from to (disks.move_file name) s (content s (object.Platter from))
+meets_code disks who c (access.Declare name old) s = declaring_refuses who c name old s (content s (object.Name name))
 meets_code disks who c a s = (λ e. absurd (never disks who c a s refl e), λ h. absurd h)
 
 pub refuses_with_the_code : RefusesWithTheCode
 refuses_with_the_code disks who c a s =
     let stopped = refuses (row a) disks who (rows_tell_their_answers disks a who) s c in
     let met = meets_code disks who c a s in
+    (λ e. let h = stopped.0 e in (h.0, h.1, met.0 h.2), λ h. stopped.1 (h.0, h.1, met.1 h.2))
+
+-- an access whose row doesn't tell that nobody is there doesn't meet nobody
+never_missing : (disks : DiskWork) (who : ℕ) (a : Access) (s : StoreState) → (row a).tells answer.NoPart ≡ false → (performs ((row a).does disks who) s).answer ≡ answer.NoPart → ⊥
+never_missing disks who a s untold e = false≢true (sym untold ∙ ap (row a).tells (sym e) ∙ (is_told (row a).tells ((row a).does disks who) s (rows_tell_their_answers disks a who)).says)
+
+search_misses : (name : List ℕ) (s : StoreState) (h : Option ℕ) → ((performs (finds name (Some h)) s).answer ≡ answer.NoPart) ↔ (h ≡ None)
+search_misses name s None = (λ e. refl, λ e. refl)
+search_misses name s (Some p) = (λ e. cc, λ e. cc)
+
+meets_nobody : (disks : DiskWork) (who : ℕ) (a : Access) (s : StoreState) → ((performs ((row a).does disks who) s).answer ≡ answer.NoPart) ↔ MeetsNobody s a
+meets_nobody disks who (access.FindPart name) s = search_misses name s (holder_of s name)
+meets_nobody disks who a s = (λ e. absurd (never_missing disks who a s refl e), λ h. absurd h)
+
+pub misses_nobody_else : MissesNobodyElse
+misses_nobody_else disks who a s =
+    let stopped = misses (row a) disks who (rows_tell_their_answers disks a who) s in
+    let met = meets_nobody disks who a s in
     (λ e. let h = stopped.0 e in (h.0, h.1, met.0 h.2), λ h. stopped.1 (h.0, h.1, met.1 h.2))

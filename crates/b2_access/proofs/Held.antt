@@ -9,7 +9,7 @@ use Rattle.b2_access.specs.declared.accesses.Access.{Access}
 use Rattle.b2_access.specs.declared.accesses.Access.TheVariants as access
 use Rattle.b2_access.specs.declared.reached.TextUse.{TextUse}
 use Rattle.b2_access.specs.declared.reached.TextUse.TheVariants as text
-use Rattle.b2_access.specs.AccessRows.{frees, frees_if, is_held_by, row}
+use Rattle.b2_access.specs.AccessRows.{frees, frees_if, is_held_by, names_of, row}
 use Rattle.b2_access.specs.AnswerKinds.{is_done, is_wait}
 use Rattle.b2_access.specs.Answering.{may_stop_by}
 use Rattle.b2_access.specs.Contents.{content_other}
@@ -241,6 +241,11 @@ no_hold : (is_kind : Object → Bool) (o : Object) → is_kind o ≡ true → ((
 no_hold is_kind o is others [] i = i
 no_hold is_kind o is others (a ∷ addrs) i = elim i [ inl e ↦ of_kinds is_kind o (object.Hog a) is (others a) e | inr j ↦ no_hold is_kind o is others addrs j ]
 
+-- a name is no device
+no_names : (is_kind : Object → Bool) (o : Object) → is_kind o ≡ true → ((n : List ℕ) → is_kind (object.Name n) ≡ false) → (ns : List (List ℕ)) → IsIn o (map object.Name ns) → ⊥
+no_names is_kind o is others [] i = i
+no_names is_kind o is others (n ∷ ns) i = elim i [ inl e ↦ of_kinds is_kind o (object.Name n) is (others n) e | inr j ↦ no_names is_kind o is others ns j ]
+
 -- an access that changes other holders, or none, doesn't write this one
 held_in : (d : List ℕ) (addrs : List (List ℕ)) → IsIn (object.Hog d) (objects_held addrs) → IsAddressIn d addrs
 held_in d [] i = absurd i
@@ -253,6 +258,8 @@ holder_unwritten : (who : ℕ) (d : List ℕ) (a : Access) → (IsAddressIn d (h
 holder_unwritten who d (access.OpenDevices addrs) out i = out (held_in d addrs i)
 holder_unwritten who d (access.CloseDevices addrs) out i = out (held_in d addrs i)
 holder_unwritten who d (access.ClearAll name homes) out i = elim i [ inl e ↦ of_kinds is_hog (object.Hog d) (object.Text who) refl refl e | inr j ↦ no_holder d (object.Globals who) refl j ]
+holder_unwritten who d (access.Declare name old) out i = no_names is_hog (object.Hog d) refl (λ n. refl) (names_of name old) i
+holder_unwritten who d (access.FindPart name) out i = i
 holder_unwritten who d (access.Limits addr name) out i = i
 holder_unwritten who d (access.ListDisk addr) out i = i
 holder_unwritten who d (access.DataOpen addr name) out i = i
@@ -275,6 +282,8 @@ image_unwritten who d (access.PrintTo addr bytes column) apart i = elim i [ inl 
 image_unwritten who d (access.OpenDevices addrs) apart i = no_hold is_platter (object.Platter d) refl (λ a. refl) addrs i
 image_unwritten who d (access.CloseDevices addrs) apart i = no_hold is_platter (object.Platter d) refl (λ a. refl) addrs i
 image_unwritten who d (access.ClearAll name homes) apart i = elim i [ inl e ↦ clash d (object.Platter d) refl (object.Text who) refl e | inr j ↦ no_other d (object.Globals who) refl j ]
+image_unwritten who d (access.Declare name old) apart i = no_names is_platter (object.Platter d) refl (λ n. refl) (names_of name old) i
+image_unwritten who d (access.FindPart name) apart i = i
 image_unwritten who d (access.Limits addr name) apart i = i
 image_unwritten who d (access.ListDisk addr) apart i = i
 image_unwritten who d (access.Scratch addr name) apart i = no_image d addr apart i

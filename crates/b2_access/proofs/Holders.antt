@@ -10,17 +10,19 @@ use Rattle.b2_access.specs.Answering.{TellsOnly}
 use Rattle.b2_access.specs.Serving.{performs, put_each}
 use Rattle.b2_access.specs.Sharing.{Gives}
 use Rattle.b2_access.specs.Store.{StoreState, ContentOf, IsIn, content, put}
-use Rattle.b2_access.specs.Task.{Put, Task, Look, Tell, Refuse, also_puts, put_wider, wider}
+use Rattle.b2_access.specs.Task.{Put, Task, Look, Tell, Refuse, Missing, also_puts, put_wider, wider}
 
 abbrev pub performs_on : {reached written : List Object} → Task reached written → (looked onto : StoreState) → Gives StoreState
 performs_on (Look o there next) s w = performs_on (next (content s o)) s w
 performs_on (Tell puts x) s w = record { after = put_each puts w; answer = x }
 performs_on (Refuse c) s w = record { after = w; answer = answer.Refused c }
+performs_on Missing s w = record { after = w; answer = answer.NoPart }
 
 pub performs_same : {ts ws : List Object} (t : Task ts ws) (s : StoreState) → performs t s ≡ performs_on t s s
 performs_same (Look o there next) s = performs_same (next (content s o)) s
 performs_same (Tell puts x) s = refl
 performs_same (Refuse c) s = refl
+performs_same Missing s = refl
 
 each_wider : {ws : List Object} (o : Object) (ps : List (Put ws)) (w : StoreState) → put_each (map (put_wider o) ps) w ≡ put_each ps w
 each_wider o [] w = refl
@@ -33,9 +35,11 @@ wider_same o (Tell puts x) s w = ap (gives x) (each_wider o puts w)
     gives : Answer → StoreState → Gives StoreState
     gives x after = record { after = after; answer = x }
 wider_same o (Refuse c) s w = refl
+wider_same o Missing s w = refl
 
 pub also_first : {ts ws : List Object} (o : Object) (there : IsIn o ws) (c : ContentOf o) (t : Task ts ws) (s w : StoreState) → TellsOnly is_done t
     → performs_on (also_puts o there c t) s w ≡ performs_on t s (put o c w)
 also_first o there c (Look x at next) s w told = also_first o there c (next (content s x)) s w (told (content s x))
 also_first o there c (Tell puts x) s w told = refl
 also_first o there c (Refuse code) s w told = absurd (false≢true told)
+also_first o there c Missing s w told = absurd (false≢true told)

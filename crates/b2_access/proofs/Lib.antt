@@ -18,3 +18,4 @@ pub mod MarkRows
 pub mod Shown
 pub mod Working
 pub mod OpenFiles
+pub mod Loans

@@ -218,6 +218,20 @@ module _ (r : AccessRow) (disks : DiskWork) (who : ℕ) where
         let outside = outside_is who r.reach.text s in
         (λ e. let h = by.0 e in (nobody.0 h.0, outside.0 h.1, h.2), λ h. by.1 (nobody.1 h.0, outside.1 h.1, h.2))
 
+    -- that nobody is there is the row's, where nothing stops it
+    misses_by : (first inside : Option ℕ) → (given first inside ≡ answer.NoPart) ↔ ((first ≡ None) × (inside ≡ None) × ((performs (r.does disks who) s).answer ≡ answer.NoPart))
+    misses_by (Some p) inside = (λ e. cc, λ h. let no = h.0 in cc)
+    misses_by None (Some p) = (λ e. cc, λ h. let no = h.1 in cc)
+    misses_by None None = (λ e. (refl, refl, e), λ h. h.2)
+
+    pub misses : ((serves_row r disks s who).answer ≡ answer.NoPart)
+        ↔ (((p : ℕ) → IsFirstOther who p (first_there r.reach s) → ⊥) × (is_edited r.reach.text ≡ true → first_inside (content s (object.Borrow who)) ≡ None) × ((performs (r.does disks who) s).answer ≡ answer.NoPart))
+    misses =
+        let by = misses_by (first_other who (first_there r.reach s)) (inside_edited who r.reach.text s) in
+        let nobody = nobody_first who (first_there r.reach s) in
+        let outside = outside_is who r.reach.text s in
+        (λ e. let h = by.0 e in (nobody.0 h.0, outside.0 h.1, h.2), λ h. by.1 (nobody.1 h.0, outside.1 h.1, h.2))
+
     -- every answer is one that may stop it, or that its row tells
     answers_by : (first inside : Option ℕ) → first_other who (first_there r.reach s) ≡ first → inside_edited who r.reach.text s ≡ inside
         → (may_stop r.reach (given first inside) || r.tells (given first inside)) ≡ true

@@ -10,7 +10,7 @@ use Rattle.b2_access.specs.Answering.{TellsOnly}
 use Rattle.b2_access.specs.Contents.{content_other, put_alike, put_listed}
 use Rattle.b2_access.specs.Serving.{performs, put_each}
 use Rattle.b2_access.specs.Store.{StoreState, ContentOf, content, IsIn, AgreeOn}
-use Rattle.b2_access.specs.Task.{Put, Task, Look, Tell, Refuse}
+use Rattle.b2_access.specs.Task.{Put, Task, Look, Tell, Refuse, Missing}
 
 puts_alike : {ws : List Object} (ps : List (Put ws)) (o : Object) (s t : StoreState) → content s o ≡ content t o → content (put_each ps s) o ≡ content (put_each ps t) o
 puts_alike [] o s t same = same
@@ -38,16 +38,19 @@ gives_alike (Look o there f) s t same =
     record { answers = all.0; contents = all.1 }
 gives_alike (Tell ps x) s t same = record { answers = refl; contents = λ o h. puts_alike ps o s t h }
 gives_alike (Refuse c) s t same = record { answers = refl; contents = λ o h. h }
+gives_alike Missing s t same = record { answers = refl; contents = λ o h. h }
 
 pub leaves_others : {ts ws : List Object} (x : Task ts ws) (s : StoreState) (o : Object) → (IsIn o ws → ⊥) → content (performs x s).after o ≡ content s o
 leaves_others (Look y there f) s o out = leaves_others (f (content s y)) s o out
 leaves_others (Tell ps x) s o out = puts_other ps o s out
 leaves_others (Refuse c) s o out = refl
+leaves_others Missing s o out = refl
 
 pub keeps_listed : {ts ws : List Object} (x : Task ts ws) (s : StoreState) (o : Object) → IsSome (content s o) → IsSome (content (performs x s).after o)
 keeps_listed (Look y there f) s o listed = keeps_listed (f (content s y)) s o listed
 keeps_listed (Tell ps x) s o listed = puts_listed ps o s listed
 keeps_listed (Refuse c) s o listed = listed
+keeps_listed Missing s o listed = listed
 
 -- what a task gives that tells some answers alone
 pub record IsTold {ts ws : List Object} (some : Answer → Bool) (x : Task ts ws) (s : StoreState) : Type 0 where
@@ -66,3 +69,4 @@ is_told some (Look o there f) s h =
     record { says = rest.says; goes_on = rest.goes_on; unchanged = rest.unchanged }
 is_told some (Tell ps x) s h = record { says = h.0; goes_on = not_held_up x h.1; unchanged = λ e. absurd (false≢true (sym h.1 ∙ e)) }
 is_told some (Refuse c) s h = record { says = h; goes_on = refl; unchanged = λ e. refl }
+is_told some Missing s h = record { says = h; goes_on = refl; unchanged = λ e. refl }

@@ -15,13 +15,13 @@ use Rattle.b2_access.specs.declared.accesses.Access.{Access}
 use Rattle.b2_access.specs.declared.accesses.Access.TheVariants as access
 use Rattle.b2_access.specs.declared.accesses.Answer.{Answer}
 use Rattle.b2_access.specs.declared.accesses.Answer.TheVariants as answer
-use Rattle.b2_access.specs.AccessRows.{becomes, changes_image, clears, clears_both, finds_in_image, frees, frees_if, is_held_by, key_answer, line_answer, loaded_answer, loads, loads_from, moves, moves_from, no_file, puts_atoms, puts_line, reach, row, saves, saves_in, says_or_refuses, takes}
-use Rattle.b2_access.specs.AnswerKinds.{is_done, is_done_or_code, is_of_key, is_of_line, is_of_loading, is_of_opening, is_of_place, stops}
+use Rattle.b2_access.specs.AccessRows.{becomes, changes_image, clears, clears_both, declares, finds, finds_in_image, frees, frees_if, gives_up_if, is_held_by, is_held_by_other, key_answer, line_answer, loaded_answer, loads, loads_from, moves, moves_from, no_file, puts_atoms, puts_line, reach, row, saves, saves_in, says_or_refuses, takes, takes_name}
+use Rattle.b2_access.specs.AnswerKinds.{is_done, is_done_or_code, is_of_key, is_of_line, is_of_loading, is_of_opening, is_of_place, is_of_search, stops}
 use Rattle.b2_access.specs.Answering.{RowsTellTheirAnswers, TellsOnly}
 use Rattle.b2_access.specs.Disks.{Loaded, Made}
 use Rattle.b2_access.specs.Reach.{device_objects, objects_held, objects_reached, to_free, to_take}
 use Rattle.b2_access.specs.Store.{ContentOf, IsIn}
-use Rattle.b2_access.specs.Task.{Task, Look, Tell, Refuse, also_puts, wider}
+use Rattle.b2_access.specs.Task.{Task, Look, Tell, Refuse, Missing, also_puts, wider}
 use Rattle.b2_access.proofs.Choice.{either}
 
 of_line : (r : Read) → (is_of_line (line_answer r) ≡ true) × (stops (line_answer r) ≡ false)
@@ -108,11 +108,13 @@ pub tells_wider : {reached written : List Object} (tells : Answer → Bool) (o :
 tells_wider tells o (Look x there next) h = λ c. tells_wider tells o (next c) (h c)
 tells_wider tells o (Tell puts x) h = h
 tells_wider tells o (Refuse c) h = h
+tells_wider tells o Missing h = h
 
 tells_also : {reached written : List Object} (tells : Answer → Bool) (o : Object) (there : IsIn o written) (c : ContentOf o) (t : Task reached written) → TellsOnly tells t → TellsOnly tells (also_puts o there c t)
 tells_also tells o there c (Look x at next) h = λ seen. tells_also tells o there c (next seen) (h seen)
 tells_also tells o there c (Tell puts x) h = h
 tells_also tells o there c (Refuse code) h = h
+tells_also tells o there c Missing h = h
 
 pub of_taking : (who : ℕ) (addrs : List (List ℕ)) → TellsOnly is_done (takes who addrs)
 of_taking who [] = (refl, refl)
@@ -125,6 +127,19 @@ of_freeing who (a ∷ addrs) = λ h. by (is_held_by who h) (tells_wider is_done 
     by : (own : Bool) → TellsOnly is_done (wider (object.Hog a) (frees who addrs)) → TellsOnly is_done (frees_if who own a addrs (wider (object.Hog a) (frees who addrs)))
     by true rest = tells_also is_done (object.Hog a) (inl refl) None (wider (object.Hog a) (frees who addrs)) rest
     by false rest = rest
+
+of_giving_up : (who : ℕ) (name old : List ℕ) (own : Bool) → TellsOnly is_done_or_code (gives_up_if who own name old)
+of_giving_up who name old true = (refl, refl)
+of_giving_up who name old false = (refl, refl)
+
+of_declaring : (who : ℕ) (name : List ℕ) (old : Option (List ℕ)) → TellsOnly is_done_or_code (takes_name who name old)
+of_declaring who name None = (refl, refl)
+of_declaring who name (Some old) = λ h. of_giving_up who name old (is_held_by who h)
+
+of_search : (name : List ℕ) (h : Option (Option ℕ)) → TellsOnly is_of_search (finds name h)
+of_search name None = refl
+of_search name (Some None) = refl
+of_search name (Some (Some p)) = (refl, refl)
 
 of_loaded : (l : Option Loaded) → IsTelling is_of_loading (loaded_answer l)
 of_loaded None = (refl, refl)
@@ -141,6 +156,8 @@ rows_tell_their_answers disks (access.Key term) who = elim [ None ↦ (refl, ref
 rows_tell_their_answers disks (access.PutLine line atoms homes) who = of_put who line atoms
 rows_tell_their_answers disks (access.Erase from to homes) who = elim [ None ↦ (refl, refl) | Some t ↦ (refl, refl) ]
 rows_tell_their_answers disks (access.ClearAll name homes) who = of_clearing who
+rows_tell_their_answers disks (access.Declare name old) who = λ h. either (TellsOnly is_done_or_code) (is_held_by_other who h) _ _ refl (of_declaring who name old)
+rows_tell_their_answers disks (access.FindPart name) who = of_search name
 rows_tell_their_answers disks (access.Limits addr name) who = elim [ None ↦ (refl, refl) | Some image ↦ (refl, refl) ]
 rows_tell_their_answers disks (access.ListDisk addr) who = elim [ None ↦ (refl, refl) | Some image ↦ (refl, refl) ]
 rows_tell_their_answers disks (access.Scratch addr name) who = of_done addr (disks.scratch name)
@@ -178,6 +195,8 @@ written_is_reached (access.Key term) who o i = i
 written_is_reached (access.PutLine line atoms homes) who o i = inr i
 written_is_reached (access.Erase from to homes) who o i = inr i
 written_is_reached (access.ClearAll name homes) who o i = inr i
+written_is_reached (access.Declare name old) who o i = i
+written_is_reached (access.FindPart name) who o i = absurd i
 written_is_reached (access.Limits addr name) who o i = absurd i
 written_is_reached (access.ListDisk addr) who o i = absurd i
 written_is_reached (access.Scratch addr name) who o i = inr i

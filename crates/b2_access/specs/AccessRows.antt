@@ -1,10 +1,10 @@
 -- THE ROWS OF THE ACCESSES: what each reaches, what it writes of that, which answers it tells where nothing stops it, and what it does.
 -- What isn't listed stays as it is: an empty terminal has no keys, and a disk has no limits and no listing; a file there has no sectors,
 -- and a place in it stays.
-use Rattle.std.specs.Prelude.{ℕ, pos, nat_lt, ◌==◌, Bool, true, false, Result, Ok, Err, List, [], ◌∷◌, ◌++◌, drop, slice_get, Option, Some, None, refl, if◌then◌else◌}
-use Rattle.std.specs.FinMap as map
+use Rattle.std.specs.Prelude.{ℕ, pos, nat_lt, ◌==◌, Bool, true, false, not, Result, Ok, Err, List, [], ◌∷◌, ◌++◌, map, drop, slice_get, Option, Some, None, refl, if◌then◌else◌}
+use Rattle.std.specs.FinMap as finite
 use Rattle.std.proofs.Common.{inl, inr}
-use Rattle.b2_base.specs.declared.codes.TheConstants.{A01_TEXT_AREA}
+use Rattle.b2_base.specs.declared.codes.TheConstants.{A01_TEXT_AREA, X78_NAME_HELD}
 use Rattle.b2_base.specs.declared.files.Slot.{Slot}
 use Rattle.b2_text.specs.Program.{TextState, size_of, with_line, without}
 use Rattle.b2_vars.specs.Tables.{VarsState}
@@ -19,12 +19,12 @@ use Rattle.b2_access.specs.declared.accesses.Access.{Access}
 use Rattle.b2_access.specs.declared.accesses.Access.TheVariants as access
 use Rattle.b2_access.specs.declared.accesses.Answer.{Answer}
 use Rattle.b2_access.specs.declared.accesses.Answer.TheVariants as answer
-use Rattle.b2_access.specs.AnswerKinds.{is_done, is_done_or_code, is_of_key, is_of_limits, is_of_line, is_of_listing, is_of_loading, is_of_opening, is_of_place}
+use Rattle.b2_access.specs.AnswerKinds.{is_done, is_done_or_code, is_of_key, is_of_limits, is_of_line, is_of_listing, is_of_loading, is_of_opening, is_of_place, is_of_search}
 use Rattle.b2_access.specs.Disks.{DiskWork, FourNumbers, Loaded, Made}
-use Rattle.b2_access.specs.Reach.{Reach, at_disk, at_disks, at_printer, at_terminal, disk_and_text, objects_held, objects_reached, objects_written, own_text, to_free, to_take}
+use Rattle.b2_access.specs.Reach.{Reach, at_disk, at_disks, at_names, at_printer, at_terminal, disk_and_text, if_any, objects_held, objects_reached, objects_written, own_text, to_free, to_take}
 use Rattle.b2_access.specs.declared.reached.TextUse.TheVariants as text
 use Rattle.b2_access.specs.declared.reached.Written.{Written}
-use Rattle.b2_access.specs.Task.{Task, Look, Tell, Refuse, also_puts, answers, puts, wider}
+use Rattle.b2_access.specs.Task.{Task, Look, Tell, Refuse, Missing, also_puts, answers, puts, wider}
 
 -- A row. What is reached is the same for all partitions and in all stores; what is written and done is so for the one that asks. What
 -- a disk does to an image is for the store to say.
@@ -92,7 +92,7 @@ abbrev pub no_lines : TextState → TextState
 no_lines t = record t { lines = [] }
 
 abbrev pub no_globals : VarsState → VarsState
-no_globals v = record v { table = map.empty }
+no_globals v = record v { table = finite.empty }
 
 abbrev pub clears_both : (who : ℕ) → TextState → Option VarsState → ClearTask who
 clears_both who t None = puts (object.Text who) (inl refl) (no_lines t) answer.Done
@@ -253,6 +253,35 @@ abbrev pub frees : (who : ℕ) (addrs : List (List ℕ)) → FreeTask who addrs
 frees who [] = answers answer.Done
 frees who (a ∷ addrs) = Look (object.Hog a) (inl refl) (λ h. frees_if who (is_held_by who h) a addrs (wider (object.Hog a) (frees who addrs)))
 
+-- a name, and another where one is given up
+abbrev pub names_of : List ℕ → Option (List ℕ) → List (List ℕ)
+names_of name old = name ∷ if_any old
+
+abbrev pub DeclareTask : List ℕ → Option (List ℕ) → Type 0
+DeclareTask name old = Task (map object.Name (names_of name old)) (map object.Name (names_of name old))
+
+-- whether another holds it
+abbrev pub is_held_by_other : ℕ → Option (Option ℕ) → Bool
+is_held_by_other who (Some (Some p)) = not (p == who)
+is_held_by_other who h = false
+
+-- it is held by who asks, who gives up the other where it is the own
+abbrev pub gives_up_if : (who : ℕ) → Bool → (name old : List ℕ) → DeclareTask name (Some old)
+gives_up_if who true name old = also_puts (object.Name old) (inr (inl refl)) None (puts (object.Name name) (inl refl) (Some who) answer.Done)
+gives_up_if who false name old = puts (object.Name name) (inl refl) (Some who) answer.Done
+
+abbrev pub takes_name : (who : ℕ) (name : List ℕ) (old : Option (List ℕ)) → DeclareTask name old
+takes_name who name None = puts (object.Name name) (inl refl) (Some who) answer.Done
+takes_name who name (Some old) = Look (object.Name old) (inr (inl refl)) (λ h. gives_up_if who (is_held_by who h) name old)
+
+abbrev pub declares : (who : ℕ) (name : List ℕ) (old : Option (List ℕ)) → Option (Option ℕ) → DeclareTask name old
+declares who name old h = if is_held_by_other who h then Refuse X78_NAME_HELD else takes_name who name old
+
+-- who holds a name
+abbrev pub finds : (name : List ℕ) → Option (Option ℕ) → Task (object.Name name ∷ []) []
+finds name (Some (Some p)) = answers (answer.Holder p)
+finds name h = Missing
+
 -- THE ROW OF EACH ACCESS
 abbrev pub row : Access → AccessRow
 row (access.Show term bytes column) = terminal_row term is_done (shows term bytes)
@@ -267,6 +296,9 @@ row (access.PutLine line atoms homes) = edit_row is_done_or_code (λ who. puts_l
 row (access.Erase from to homes) = edit_row is_done (λ who. erases who from to)
 row (access.ClearAll name homes) =
     record { reach = record own_text { variables = true }; writes = λ who. object.Text who ∷ object.Globals who ∷ []; tells = is_done; does = λ disks who. Look (object.Text who) (inr (inl refl)) (clears who) }
+row (access.Declare name old) =
+    record { reach = at_names (names_of name old); writes = λ who. map object.Name (names_of name old); tells = is_done_or_code; does = λ disks who. Look (object.Name name) (inl refl) (declares who name old) }
+row (access.FindPart name) = record { reach = at_names (name ∷ []); writes = λ who. []; tells = is_of_search; does = λ disks who. Look (object.Name name) (inl refl) (finds name) }
 row (access.Limits addr name) = reading_row addr is_of_limits (four_answer no_limits) (λ disks image. four_answer (disks.limits name image))
 row (access.ListDisk addr) = reading_row addr is_of_listing (answer.Bytes []) (λ disks image. answer.Bytes (disks.listing image))
 row (access.Scratch addr name) = changing_row addr (λ disks image. disks.scratch name image)

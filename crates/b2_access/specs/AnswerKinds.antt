@@ -21,6 +21,7 @@ is_lock x = false
 abbrev pub stops : Answer → Bool
 stops (answer.Wait q) = true
 stops (answer.Locked q) = true
+stops answer.NoPart = true
 stops (answer.Refused c) = true
 stops x = false
 
@@ -80,3 +81,9 @@ is_of_loading (answer.Values values place) = true
 is_of_loading answer.AtEnd = true
 is_of_loading (answer.Refused c) = true
 is_of_loading x = false
+
+-- what the search for a name comes to
+abbrev pub is_of_search : Answer → Bool
+is_of_search (answer.Holder p) = true
+is_of_search answer.NoPart = true
+is_of_search x = false

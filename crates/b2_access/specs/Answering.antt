@@ -13,7 +13,7 @@ use Rattle.b2_access.specs.Disks.{DiskWork}
 use Rattle.b2_access.specs.Reach.{DevicePart, DeviceReach, HoldFreed, Reach}
 use Rattle.b2_access.specs.Sharing.{ServingOf}
 use Rattle.b2_access.specs.Store.{ContentOf}
-use Rattle.b2_access.specs.Task.{Task, Look, Tell, Refuse}
+use Rattle.b2_access.specs.Task.{Task, Look, Tell, Refuse, Missing}
 
 -- another can come first at a terminal and at a device that isn't freed, and stand inside a text that is edited
 abbrev pub may_stop_by : DevicePart → Bool
@@ -35,11 +35,13 @@ may_stop r x = (is_wait x && may_wait r.terminal r.devices) || (is_lock x && is_
 abbrev pub can_answer : Access → Answer → Bool
 can_answer a x = may_stop (reach a) x || (row a).tells x
 
--- A task tells no answers but some, and none with which an access is stopped but a code, by which it changes nothing.
+-- A task tells no answers but some, and none with which an access is stopped but a code, and that nobody is there, by which it changes
+-- nothing.
 abbrev pub TellsOnly : {reached written : List Object} → (Answer → Bool) → Task reached written → Type 0
 TellsOnly some (Look o there next) = (c : Option (ContentOf o)) → TellsOnly some (next c)
 TellsOnly some (Tell puts x) = (some x ≡ true) × (stops x ≡ false)
 TellsOnly some (Refuse c) = some (answer.Refused c) ≡ true
+TellsOnly some Missing = some answer.NoPart ≡ true
 
 -- each row tells the answers that it says
 abbrev pub RowsTellTheirAnswers : Type 0

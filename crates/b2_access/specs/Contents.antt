@@ -1,5 +1,5 @@
 -- What objects have after one of them got another content.
-use Rattle.std.specs.Prelude.{◌≡◌, ◌≢◌, ℕ, ◌==◌, Bool, true, false, cond, List, [], ◌∷◌, Option, Some, None, option_map, IsSome, refl}
+use Rattle.std.specs.Prelude.{◌≡◌, ◌≢◌, ℕ, ◌==◌, Bool, true, false, cond, List, [], ◌∷◌, ◌++◌, Option, Some, None, option_map, IsSome, refl}
 use Rattle.std.specs.Map.{lookup, set_value}
 use Rattle.std.specs.Cmp.{unsigned_Decides}
 use Rattle.std.specs.Str.{bytes_eq}
@@ -9,6 +9,7 @@ use Rattle.std.proofs.lemmas.Slice.Eq.{bytes_eq-Decides}
 use Rattle.b2_access.specs.declared.objects.Object.{Object}
 use Rattle.b2_access.specs.declared.objects.Object.TheVariants as object
 use Rattle.b2_access.specs.Objects.{same_object}
+use Rattle.b2_access.specs.Rows.{NameRows, device_row, holder_in, name_row, with_name_row, with_or_added}
 use Rattle.b2_access.specs.Store.{StoreState, ContentOf, content, put}
 
 -- rows by any test of their keys: the first that passes it has the new content
@@ -44,6 +45,35 @@ other_number n m apart k is_n is_m = apart (sym ((unsigned_Decides k n).0 is_n) 
 other_device : (a b : List ℕ) → a ≢ b → NeverBoth (λ k. bytes_eq k a) (λ k. bytes_eq k b)
 other_device a b apart k is_a is_b = apart (sym ((bytes_eq-Decides k a).0 is_a) ∙ (bytes_eq-Decides k b).0 is_b)
 
+-- a row that is added is found where no other has its key, and no other is lost
+row_added : {K X : Type 0} (test : K → Bool) (k : K) (w : X) → test k ≡ true → (es : List (K × X)) → lookup test es ≡ None → lookup test (es ++ (k, w) ∷ []) ≡ Some w
+row_added test k w is [] none = ap (λ b. cond b (Some w) None) is
+row_added {K} {X} test k w is (e ∷ es) none = by (test e.0) none (row_added test k w is es)
+  where
+    by : (b : Bool) → cond b (Some e.1) (lookup test es) ≡ None → (lookup test es ≡ None → lookup test (es ++ (k, w) ∷ []) ≡ Some w)
+        → cond b (Some e.1) (lookup test (es ++ (k, w) ∷ [])) ≡ Some w
+    by true h rest = absurd (cc)
+    by false h rest = rest h
+
+row_added_other : {K X : Type 0} (test : K → Bool) (k : K) (w : X) → test k ≡ false → (es : List (K × X)) → lookup test (es ++ (k, w) ∷ []) ≡ lookup test es
+row_added_other test k w fails [] = ap (λ b. cond b (Some w) None) fails
+row_added_other test k w fails (e ∷ es) = ap (cond (test e.0) (Some e.1)) (row_added_other test k w fails es)
+
+-- a name has the holder that it got, and no other changes
+name_same : (n : List ℕ) (rows : NameRows) (c : Option ℕ) → name_row n (with_name_row n rows c) ≡ c
+name_same n rows c = by (device_row n rows) refl
+  where
+    by : (o : Option (Option ℕ)) → device_row n rows ≡ o → name_row n (with_or_added o n rows c) ≡ c
+    by None is = ap holder_in (row_added (λ k. bytes_eq k n) n c ((bytes_eq-Decides n n).1 refl) rows is)
+    by (Some old) is = ap holder_in (row_same (λ k. bytes_eq k n) c rows ∙ ap (option_map (λ _. c)) is)
+
+name_other : (n m : List ℕ) (rows : NameRows) (c : Option ℕ) → n ≢ m → name_row m (with_name_row n rows c) ≡ name_row m rows
+name_other n m rows c apart = by (device_row n rows)
+  where
+    by : (o : Option (Option ℕ)) → name_row m (with_or_added o n rows c) ≡ name_row m rows
+    by None = ap holder_in (row_added_other (λ k. bytes_eq k m) n c (false_from_ne_true (bytes_eq n m) (λ is. apart ((bytes_eq-Decides n m).0 is))) rows)
+    by (Some old) = ap holder_in (row_other _ _ c (other_device n m apart) rows)
+
 -- the object has it, where it was listed
 pub content_same : (o : Object) (c : ContentOf o) (s : StoreState) → content (put o c s) o ≡ option_map (λ _. c) (content s o)
 content_same (object.Text p) c s = row_same (λ k. k == p) c s.texts
@@ -53,7 +83,7 @@ content_same (object.Terminal t) c s = row_same (λ k. k == t) c s.terminals
 content_same (object.Printer a) c s = row_same (λ k. bytes_eq k a) c s.printers
 content_same (object.Platter a) c s = row_same (λ k. bytes_eq k a) c s.platters
 content_same (object.Hog a) c s = row_same (λ k. bytes_eq k a) c s.hogs
-content_same o c s = refl
+content_same (object.Name n) c s = ap Some (name_same n s.names c)
 
 -- all else stays
 pub content_other : (o x : Object) (c : ContentOf o) (s : StoreState) → x ≢ o → content (put o c s) x ≡ content s x
@@ -64,6 +94,7 @@ content_other (object.Terminal t) (object.Terminal u) c s apart = row_other _ _ 
 content_other (object.Printer a) (object.Printer b) c s apart = row_other _ _ c (other_device a b (λ e. apart (ap object.Printer (sym e)))) s.printers
 content_other (object.Platter a) (object.Platter b) c s apart = row_other _ _ c (other_device a b (λ e. apart (ap object.Platter (sym e)))) s.platters
 content_other (object.Hog a) (object.Hog b) c s apart = row_other _ _ c (other_device a b (λ e. apart (ap object.Hog (sym e)))) s.hogs
+content_other (object.Name n) (object.Name m) c s apart = ap Some (name_other n m s.names c (λ e. apart (ap object.Name (sym e))))
 content_other o x c s apart = refl
 
 -- an object that is the same in two stores is so after a content was put into both

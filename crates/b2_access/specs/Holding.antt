@@ -1,5 +1,5 @@
 -- A device that a partition holds is out of the reach of all others; and which images an access changes.
-use Rattle.std.specs.Prelude.{◌≡◌, ◌≢◌, ◌⊎◌, ℕ, Bool, true, is_some, List, [], ◌∷◌, Option, Some, None}
+use Rattle.std.specs.Prelude.{◌≡◌, ◌≢◌, ◌⊎◌, ℕ, Bool, true, false, is_some, List, [], ◌∷◌, Option, Some, None}
 use Rattle.b2_access.specs.declared.objects.Object.{Object}
 use Rattle.b2_access.specs.declared.objects.Object.TheVariants as object
 use Rattle.b2_access.specs.declared.accesses.Access.{Access}
@@ -90,6 +90,11 @@ changes_device (access.PrintTo addr bytes column) = true
 changes_device (access.OpenDevices addrs) = true
 changes_device (access.CloseDevices addrs) = true
 changes_device a = is_some (image_changed a)
+
+-- whether it may change who holds a name
+abbrev pub changes_name : Access → Bool
+changes_name (access.Declare name old) = true
+changes_name a = false
 
 abbrev pub OtherImagesStay : Type 0
 OtherImagesStay = (disks : DiskWork) (who : ℕ) (d : List ℕ) (a : Access) (s : StoreState) → image_changed a ≢ Some d → content (serves disks s who a).after (object.Platter d) ≡ content s (object.Platter d)

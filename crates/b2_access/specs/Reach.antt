@@ -23,7 +23,7 @@ pub record DeviceReach : Type 0 where
   pub part : DevicePart
 
 -- A terminal, the own text, the own `@` variables, the borrowers of some texts, devices in the order written, and names. No access
--- reaches borrowers or names yet: those that it marks and names are looked at once names of global texts come.
+-- reaches borrowers yet: those that it marks are looked at once calls into global texts come.
 pub record Reach : Type 0 where
   pub terminal : Option ℕ
   pub text : TextUse
@@ -72,6 +72,14 @@ to_take addresses = record nothing { devices = map hold_taken addresses }
 abbrev pub to_free : List (List ℕ) → Reach
 to_free addresses = record nothing { devices = map hold_freed addresses }
 
+-- names: one, and another where there is one
+abbrev pub if_any : Option (List ℕ) → List (List ℕ)
+if_any None = []
+if_any (Some name) = name ∷ []
+
+abbrev pub at_names : List (List ℕ) → Reach
+at_names names = record nothing { names = names }
+
 -- the devices, as a value of the program says them
 abbrev pub devices_of : Devices → List DeviceReach
 devices_of devices.NoDevice = []
@@ -86,7 +94,7 @@ own_text = record nothing { text = text.Edited }
 
 -- what is reached beside devices, as a value of the program says it
 abbrev pub reach_of : Reached → Reach
-reach_of r = record nothing { terminal = r.terminal; text = r.text; variables = r.variables }
+reach_of r = record nothing { terminal = r.terminal; text = r.text; variables = r.variables; names = if_any r.name ++ if_any r.other_name }
 
 -- the objects that are reached: an edit looks at who stands inside the text
 abbrev pub terminal_objects : Option ℕ → List Object
@@ -138,4 +146,5 @@ is_device_written devices = true
 
 -- and beside devices
 abbrev pub objects_written : Written → ℕ → List Object
-objects_written w who = terminal_objects w.terminal ++ (where_written w.text (object.Text who) ++ where_written w.variables (object.Globals who))
+objects_written w who =
+    terminal_objects w.terminal ++ (where_written w.text (object.Text who) ++ (where_written w.variables (object.Globals who) ++ map object.Name (if_any w.name ++ if_any w.other_name)))

@@ -1,5 +1,5 @@
--- Rows, each found by its key: a number, or the address of a device.
-use Rattle.std.specs.Prelude.{ℕ, ◌==◌, ◌||◌, Bool, false, List, [], ◌∷◌, Option, if◌then◌else◌}
+-- Rows, each found by its key: a number, the address of a device, or a name.
+use Rattle.std.specs.Prelude.{ℕ, ◌==◌, ◌||◌, Bool, false, List, [], ◌∷◌, ◌++◌, Option, Some, None, if◌then◌else◌}
 use Rattle.std.specs.Map.{lookup, set_value}
 use Rattle.std.specs.Str.{bytes_eq}
 
@@ -17,6 +17,25 @@ device_row a rows = lookup (λ k. bytes_eq k a) rows
 
 abbrev pub with_device_row : {X : Type 0} → List ℕ → List (List ℕ × X) → X → List (List ℕ × X)
 with_device_row a rows x = set_value (λ k. bytes_eq k a) rows x
+
+-- who holds a name, by rows of which each has a name and its holder: nobody where no row has the name
+abbrev pub NameRows : Type 0
+NameRows = List (List ℕ × Option ℕ)
+
+abbrev pub holder_in : Option (Option ℕ) → Option ℕ
+holder_in None = None
+holder_in (Some holder) = holder
+
+abbrev pub name_row : List ℕ → NameRows → Option ℕ
+name_row n rows = holder_in (device_row n rows)
+
+-- with another holder of a name, in its row, or in one more where it has none
+abbrev pub with_or_added : Option (Option ℕ) → List ℕ → NameRows → Option ℕ → NameRows
+with_or_added None n rows holder = rows ++ (n, holder) ∷ []
+with_or_added (Some old) n rows holder = with_device_row n rows holder
+
+abbrev pub with_name_row : List ℕ → NameRows → Option ℕ → NameRows
+with_name_row n rows holder = with_or_added (device_row n rows) n rows holder
 
 -- what the first row of a number says in a table, and something else where no row has it
 abbrev pub at_row : {X : Type 0} → List (ℕ × X) → X → ℕ → X

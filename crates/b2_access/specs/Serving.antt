@@ -10,7 +10,7 @@ use Rattle.b2_access.specs.Disks.{DiskWork}
 use Rattle.b2_access.specs.Sharing.{Gives, ServingOf}
 use Rattle.b2_access.specs.Stopping.{stop}
 use Rattle.b2_access.specs.Store.{StoreState, content, put}
-use Rattle.b2_access.specs.Task.{Put, Task, Look, Tell, Refuse}
+use Rattle.b2_access.specs.Task.{Put, Task, Look, Tell, Refuse, Missing}
 
 abbrev pub put_each : {written : List Object} → List (Put written) → StoreState → StoreState
 put_each [] s = s
@@ -21,6 +21,7 @@ abbrev pub performs : {reached written : List Object} → Task reached written �
 performs (Look o there next) s = performs (next (content s o)) s
 performs (Tell puts x) s = record { after = put_each puts s; answer = x }
 performs (Refuse c) s = record { after = s; answer = answer.Refused c }
+performs Missing s = record { after = s; answer = answer.NoPart }
 
 -- what is given unless an access is stopped, which leaves the store as it is
 abbrev pub unless_stopped : Option Answer → Gives StoreState → StoreState → Gives StoreState

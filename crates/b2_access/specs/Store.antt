@@ -1,14 +1,14 @@
 -- The store that partitions share: a map from objects to contents, kept as a list of rows for each kind of object.
-use Rattle.std.specs.Prelude.{◌≡◌, ℕ, List, [], ◌∷◌, Option, None, ◌⊎◌}
+use Rattle.std.specs.Prelude.{◌≡◌, ℕ, List, [], ◌∷◌, Option, Some, ◌⊎◌}
 use Rattle.b2_text.specs.Program.{TextState}
 use Rattle.b2_vars.specs.Tables.{VarsState}
 use Rattle.b2_term.specs.Terminal.{TerminalState}
 use Rattle.b2_access.specs.declared.objects.Object.{Object}
 use Rattle.b2_access.specs.declared.objects.Object.TheVariants as object
-use Rattle.b2_access.specs.Rows.{row_of, with_row, device_row, with_device_row}
+use Rattle.b2_access.specs.Rows.{NameRows, row_of, with_row, device_row, with_device_row, name_row, with_name_row}
 
--- Texts, who stands inside each, in order of entering, `@` variables, terminals, what printers printed, the images of platters, and who
--- holds each device. Names have their kind of contents, but none of them is listed yet.
+-- Texts, who stands inside each, in order of entering, `@` variables, terminals, what printers printed, the images of platters, who
+-- holds each device, and who holds each name that was ever declared.
 pub record StoreState : Type 0 where
   pub texts : List (ℕ × TextState)
   pub borrows : List (ℕ × List ℕ)
@@ -17,6 +17,7 @@ pub record StoreState : Type 0 where
   pub printers : List (List ℕ × List ℕ)
   pub platters : List (List ℕ × List ℕ)
   pub hogs : List (List ℕ × Option ℕ)
+  pub names : NameRows
 
 -- What an object of each kind has. A name and a device are held by a partition or by nobody, a printer has the bytes that it
 -- printed, and a platter has the bytes of its image.
@@ -30,7 +31,7 @@ ContentOf (object.Printer a) = List ℕ
 ContentOf (object.Platter a) = List ℕ
 ContentOf (object.Hog a) = Option ℕ
 
--- what an object has, None where it isn't listed
+-- what an object has, None where it isn't listed; a name that nobody declared is held by nobody
 abbrev pub content : StoreState → (o : Object) → Option (ContentOf o)
 content s (object.Text p) = row_of p s.texts
 content s (object.Borrow p) = row_of p s.borrows
@@ -39,9 +40,9 @@ content s (object.Terminal t) = row_of t s.terminals
 content s (object.Printer a) = device_row a s.printers
 content s (object.Platter a) = device_row a s.platters
 content s (object.Hog a) = device_row a s.hogs
-content s o = None
+content s (object.Name n) = Some (name_row n s.names)
 
--- an object that is listed has another content
+-- an object that is listed has another content; a name is listed always
 abbrev pub put : (o : Object) → ContentOf o → StoreState → StoreState
 put (object.Text p) c s = record s { texts = with_row p s.texts c }
 put (object.Borrow p) c s = record s { borrows = with_row p s.borrows c }
@@ -50,7 +51,7 @@ put (object.Terminal t) c s = record s { terminals = with_row t s.terminals c }
 put (object.Printer a) c s = record s { printers = with_device_row a s.printers c }
 put (object.Platter a) c s = record s { platters = with_device_row a s.platters c }
 put (object.Hog a) c s = record s { hogs = with_device_row a s.hogs c }
-put o c s = s
+put (object.Name n) c s = record s { names = with_name_row n s.names c }
 
 -- an object is one of a list
 abbrev pub IsIn : Object → List Object → Type 0

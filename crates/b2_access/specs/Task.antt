@@ -1,5 +1,5 @@
 -- What an access does once nothing stops it, as a task: it looks at objects one after another, and then tells new contents and an
--- answer, or it is refused with a code. By its type it looks at what is reached alone, and tells new contents of what is written alone.
+-- answer, or it is refused with a code, or it finds that nobody is there whom it looks for. By its type it looks at what is reached alone, and tells new contents of what is written alone.
 use Rattle.std.specs.Prelude.{ℕ, List, [], ◌∷◌, map, Option}
 use Rattle.std.proofs.Common.{inr}
 use Rattle.b2_access.specs.declared.objects.Object.{Object}
@@ -16,6 +16,7 @@ pub data Task (reached written : List Object) : Type 0 where
   Look : (o : Object) → IsIn o reached → (Option (ContentOf o) → Task reached written) → Task reached written
   Tell : List (Put written) → Answer → Task reached written
   Refuse : ℕ → Task reached written
+  Missing : Task reached written
 
 -- nothing changes
 abbrev pub answers : {reached written : List Object} → Answer → Task reached written
@@ -33,9 +34,11 @@ abbrev pub wider : {reached written : List Object} (o : Object) → Task reached
 wider o (Look x there next) = Look x (inr there) (λ c. wider o (next c))
 wider o (Tell puts x) = Tell (map (put_wider o) puts) x
 wider o (Refuse c) = Refuse c
+wider o Missing = Missing
 
 -- a task that puts one more content, before the others
 abbrev pub also_puts : {reached written : List Object} (o : Object) → IsIn o written → ContentOf o → Task reached written → Task reached written
 also_puts o there c (Look x at next) = Look x at (λ seen. also_puts o there c (next seen))
 also_puts o there c (Tell puts x) = Tell (record { target = o; there = there; value = c } ∷ puts) x
 also_puts o there c (Refuse code) = Refuse code
+also_puts o there c Missing = Missing

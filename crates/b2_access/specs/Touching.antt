@@ -38,7 +38,7 @@ IsLegal (access.MovePlatter from to) = from ≢ to
 IsLegal (access.MoveFile from name to) = from ≢ to
 IsLegal a = Unit {0}
 
--- Which accesses may want memory: those that put bytes or a line where there may be no room kept for them, one that lays out bytes, and
+-- Which accesses may want memory: those that put bytes, a line or a name where there may be no room kept for them, one that lays out bytes, and
 -- those that read records or programs or lay them out. A key is taken, lines are taken
 -- out, devices are taken and freed, and disks are looked at and changed else without any.
 abbrev pub MayWantMemory : Access → Type 0
@@ -47,6 +47,7 @@ MayWantMemory (access.PrintTo addr bytes column) = Unit {0}
 MayWantMemory (access.ReadLine term) = Unit {0}
 MayWantMemory (access.Insert term bytes) = Unit {0}
 MayWantMemory (access.PutLine line (Some atoms) homes) = Unit {0}
+MayWantMemory (access.Declare name old) = Unit {0}
 MayWantMemory (access.ListDisk addr) = Unit {0}
 MayWantMemory (access.DataLoad slot kinds) = Unit {0}
 MayWantMemory (access.Skip slot way) = Unit {0}

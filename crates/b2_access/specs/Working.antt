@@ -154,9 +154,6 @@ pub record HolderWorked : Type 0 where
   pub work : HolderWork
   pub outcome : Outcome
 
-abbrev pub leaves_holdings : Private → Outcome → HolderWorked
-leaves_holdings me o = record { work = holder_work_of me; outcome = o }
-
 -- A WAY OF PLANNING, AND THREE OF FINISHING
 abbrev pub plans_by : (Private → SeenLent → Working) → Private → SeenLent → Planning
 plans_by way me s = as_planned me s (way me s)

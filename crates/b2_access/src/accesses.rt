@@ -60,6 +60,15 @@ pub enum Access {
         name: Option<Name8>,
         homes: u16,
     },
+    /// The asking partition declares a name, and gives up another one that it holds, where one is given.
+    Declare {
+        name: Name8,
+        old: Option<Name8>,
+    },
+    /// Who holds a name is looked for.
+    FindPart {
+        name: Name8,
+    },
     /// The limits of a file on a platter, or of its catalogue where no name is given.
     Limits {
         addr: Addr,
@@ -169,10 +178,14 @@ pub enum Answer {
     Values(ValueList, u32),
     /// The records of the file end at its place.
     AtEnd,
+    /// This partition holds the name.
+    Holder(Part),
     /// Another partition is in front of the terminal, or holds the device: nothing was done.
     Wait(Part),
     /// Another partition stands inside the text: nothing was done.
     Locked(Part),
+    /// Nobody holds the name: nothing was done.
+    NoPart,
     /// It was refused with a code: nothing was done.
     Refused(Code),
 }
@@ -184,7 +197,7 @@ impl Answer {
     {
         matches!(
             self,
-            Answer::Wait(_) | Answer::Locked(_) | Answer::Refused(_)
+            Answer::Wait(_) | Answer::Locked(_) | Answer::NoPart | Answer::Refused(_)
         )
     }
 }

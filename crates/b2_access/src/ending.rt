@@ -1,5 +1,6 @@
 // How statements end.
-ghost use Rattle.std.specs.Prelude.{◌≡◌, IfOk};
+ghost use Rattle.std.specs.Prelude.{◌≡◌, IfErr, IfOk};
+ghost use Rattle.b2_base.specs.declared.codes.Fault.TheVariants as of_fault;
 ghost use Rattle.b2_access.specs.Endings.{FailsWith};
 ghost use Rattle.b2_access.specs.Planning.{goes_or};
 
@@ -9,6 +10,7 @@ use b2_base::{Code, Fault, NoMemory};
 /// A fault with its code, where memory didn't fail.
 pub fn failing(fault: Fault) -> Result<Outcome, NoMemory>
     ensures { IfOk result (λ o. FailsWith fault o) }
+    ensures memory { IfErr result (λ _. fault ≡ of_fault.NoMemory) }
 {
     match fault {
         Fault::Code(code) => Ok(Outcome::Failed(code)),

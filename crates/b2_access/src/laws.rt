@@ -2,12 +2,15 @@
 ghost use Rattle.std.specs.Prelude.{ℕ, List, Option};
 ghost use Rattle.b2_access.specs.Partition.{at_start, KeepsNone};
 ghost use Rattle.b2_access.specs.Answering.{AnswersByRow, RowsTellTheirAnswers};
-ghost use Rattle.b2_access.specs.Causes.{WaitsForTheFirst, LocksForTheFirst, RefusesWithTheCode};
+ghost use Rattle.b2_access.specs.Causes.{WaitsForTheFirst, LocksForTheFirst, MissesNobodyElse, RefusesWithTheCode};
 ghost use Rattle.b2_access.specs.Disks.{DiskWork};
 ghost use Rattle.b2_access.specs.Holding.{HeldIsOutOfReach, HeldStaysAsItIs, OtherHoldersStay, OtherImagesStay, WhoAsksWaits};
+ghost use Rattle.b2_access.specs.Loans.{LoansEndWell};
 ghost use Rattle.b2_access.specs.Serving.{StopsUnchanged, serves, itself};
 ghost use Rattle.b2_access.specs.Sharing.{IsLocal, KeepsListed};
 ghost use Rattle.b2_access.specs.Working.{FinishesArePutBack, PlansArePutBack};
+
+use crate::shared::Shared;
 
 /// A partition that starts keeps no place. While program text runs none is kept: that is what statements have to leave so.
 pub fn law_a_start_keeps_none()
@@ -59,6 +62,11 @@ pub fn law_a_code_is_met()
     ensures { RefusesWithTheCode }
 {}
 
+/// That nobody is there is answered exactly where an access looks for who holds a name, and nobody does.
+pub fn law_no_part_is_for_a_name_of_nobody()
+    ensures { MissesNobodyElse }
+{}
+
 /// What belongs to a device stays as it is through every access of a partition, while another one holds the device.
 pub fn law_a_held_device_stays_as_it_is()
     ensures { HeldStaysAsItIs }
@@ -93,4 +101,10 @@ pub fn law_rows_tell_their_answers()
 /// Every answer is one that may stop its access, or that its row tells.
 pub fn law_answers_are_of_their_rows()
     ensures { (disks : DiskWork) → AnswersByRow (serves disks) }
+{}
+
+/// A loan by a store of any kind ends well. Where no `@` variables are found, all stays as it was, whatever becomes of the spare; where some
+/// are, they are what the loan left, lent again they are that, and nothing else changes.
+pub fn law_a_loan_ends_well<S: Shared>()
+    ensures { LoansEndWell S.store S.lending }
 {}

@@ -1,12 +1,12 @@
 // What an access reaches, and what it writes of that.
-ghost use Rattle.std.specs.Prelude.{◌≡◌, true, false, Some, None};
-ghost use Rattle.b2_access.specs.AccessRows.{reach as reach_by, row, writes_by};
+ghost use Rattle.std.specs.Prelude.{◌≡◌, ◌||◌, is_some, true, false, Some, None};
+ghost use Rattle.b2_access.specs.AccessRows.{names_of, reach as reach_by, row, writes_by};
 ghost use Rattle.b2_access.specs.Reach as reach;
-ghost use Rattle.b2_access.specs.Holding.{changes_device, devices_changed};
+ghost use Rattle.b2_access.specs.Holding.{changes_device, changes_name, devices_changed};
 ghost use Rattle.b2_access.specs.Reach.{device_objects_written, devices_of, is_device_written, reach_of};
 
 use crate::accesses::Access;
-use b2_base::{Addr, Term};
+use b2_base::{Addr, Name8, Term};
 
 /// How the text of the partition that asks is reached.
 #[derive(Clone, Copy)]
@@ -28,16 +28,22 @@ pub struct Reached {
     pub text: TextUse,
     /// Whether the `@` variables of the partition that asks.
     pub variables: bool,
+    /// A name.
+    pub name: Option<Name8>,
+    /// Another name.
+    pub other_name: Option<Name8>,
 }
 
 /// Nothing.
 fn reaches_nothing() -> Reached
-    ensures { result ≡ record { terminal = None; text = TextUse.Unused; variables = false } }
+    ensures { result ≡ record { terminal = None; text = TextUse.Unused; variables = false; name = None; other_name = None } }
 {
     Reached {
         terminal: None,
         text: TextUse::Unused,
         variables: false,
+        name: None,
+        other_name: None,
     }
 }
 
@@ -61,6 +67,17 @@ fn own_text(text: TextUse) -> Reached
     }
 }
 
+/// A name, and another where there is one.
+fn at_names(name: Name8, other: Option<Name8>) -> Reached
+    ensures { reach_of result ≡ reach.at_names (names_of name other) }
+{
+    Reached {
+        name: Some(name),
+        other_name: other,
+        ..reaches_nothing()
+    }
+}
+
 /// What an access reaches beside devices.
 pub fn reached_by(access: &Access) -> Reached
     ensures reached { record (reach_of result) { devices = (reach_by access.now).devices } ≡ reach_by access.now }
@@ -78,6 +95,8 @@ pub fn reached_by(access: &Access) -> Reached
             variables: true,
             ..own_text(TextUse::Edited)
         },
+        Access::Declare { name, old } => at_names(*name, *old),
+        Access::FindPart { name } => at_names(*name, None),
         Access::PrintTo { .. }
         | Access::OpenDevices { .. }
         | Access::CloseDevices { .. }
@@ -124,7 +143,9 @@ pub fn devices_reached(access: &Access) -> Devices<'_>
         | Access::Key { .. }
         | Access::PutLine { .. }
         | Access::Erase { .. }
-        | Access::ClearAll { .. } => Devices::NoDevice,
+        | Access::ClearAll { .. }
+        | Access::Declare { .. }
+        | Access::FindPart { .. } => Devices::NoDevice,
         Access::PrintTo { addr, .. } => Devices::Printer(*addr),
         Access::OpenDevices { addrs } => Devices::Taken(addrs.addresses()),
         Access::CloseDevices { addrs } => Devices::Freed(addrs.addresses()),
@@ -155,22 +176,28 @@ pub struct Written {
     pub text: bool,
     /// Whether the `@` variables of the partition that asks.
     pub variables: bool,
+    /// A name.
+    pub name: Option<Name8>,
+    /// Another name.
+    pub other_name: Option<Name8>,
 }
 
 /// Nothing is written.
 fn writes_nothing() -> Written
-    ensures { result ≡ record { terminal = None; text = false; variables = false } }
+    ensures { result ≡ record { terminal = None; text = false; variables = false; name = None; other_name = None } }
 {
     Written {
         terminal: None,
         text: false,
         variables: false,
+        name: None,
+        other_name: None,
     }
 }
 
 /// A terminal is written.
 fn writes_terminal(term: Term) -> Written
-    ensures { result ≡ record { terminal = Some term; text = false; variables = false } }
+    ensures { result ≡ record { terminal = Some term; text = false; variables = false; name = None; other_name = None } }
 {
     Written {
         terminal: Some(term),
@@ -180,7 +207,7 @@ fn writes_terminal(term: Term) -> Written
 
 /// The text of the partition that asks is written.
 fn writes_text(variables: bool) -> Written
-    ensures { result ≡ record { terminal = None; text = true; variables = variables } }
+    ensures { result ≡ record { terminal = None; text = true; variables = variables; name = None; other_name = None } }
 {
     Written {
         text: true,
@@ -189,9 +216,21 @@ fn writes_text(variables: bool) -> Written
     }
 }
 
+/// A name is written, and another where there is one.
+fn writes_names(name: Name8, other: Option<Name8>) -> Written
+    ensures { result ≡ record { terminal = None; text = false; variables = false; name = Some name; other_name = other } }
+{
+    Written {
+        name: Some(name),
+        other_name: other,
+        ..writes_nothing()
+    }
+}
+
 /// What an access writes beside devices, where nothing stops it.
 pub fn written_by(access: &Access) -> Written
     ensures written { writes_by result (devices_changed access.now) ≡ (row access.now).writes }
+    ensures names { (is_some result.name || is_some result.other_name) ≡ changes_name access.now }
 {
     match access {
         Access::Show { term, .. }
@@ -202,7 +241,12 @@ pub fn written_by(access: &Access) -> Written
             writes_text(false)
         }
         Access::ClearAll { .. } => writes_text(true),
-        Access::PrintTo { .. }
+        Access::Declare { name, old } => match old {
+            None => writes_names(*name, None),
+            Some(old) => writes_names(*name, Some(*old)),
+        },
+        Access::FindPart { .. }
+        | Access::PrintTo { .. }
         | Access::OpenDevices { .. }
         | Access::CloseDevices { .. }
         | Access::Limits { .. }
@@ -247,6 +291,8 @@ pub fn devices_written(access: &Access) -> DevicesWritten<'_>
         | Access::PutLine { .. }
         | Access::Erase { .. }
         | Access::ClearAll { .. }
+        | Access::Declare { .. }
+        | Access::FindPart { .. }
         | Access::Limits { .. }
         | Access::ListDisk { .. }
         | Access::DataOpen { .. }

@@ -6,7 +6,7 @@ ghost use Rattle.b2_access.specs.declared.accesses.Access.{Access as AccessSpec}
 ghost use Rattle.b2_access.specs.declared.lending.At.{At as AtSpec};
 ghost use Rattle.b2_access.specs.Answering.{AnswersByRow};
 ghost use Rattle.b2_access.specs.Lending.{globals_lent};
-ghost use Rattle.b2_access.specs.Loans.{Loan, LendsFrom, LoansGlobals, globals_at, left_at};
+ghost use Rattle.b2_access.specs.Loans.{Loan, LendsFrom, LoansGlobals, globals_at, holder_of, left_at};
 ghost use Rattle.b2_access.specs.Sharing.{ServingOf, IsLocal, KeepsListed};
 ghost use Rattle.b2_access.specs.Store.{StoreState, content};
 ghost use Rattle.b2_access.specs.Touching.{IsLegal};
@@ -14,7 +14,7 @@ ghost use Rattle.b2_access.specs.Touching.{IsLegal};
 use crate::accesses::{Access, Answer};
 use crate::lending::{At, Lent};
 use crate::objects::Object;
-use b2_base::{NoMemory, Part};
+use b2_base::{Name8, NoMemory, Part};
 
 /// A store that partitions share. It means what its implementation says, which has a store in it, and it has its own way of
 /// serving: what that answers and writes depends on what the access touches alone.
@@ -54,6 +54,10 @@ pub trait Shared {
         ensures own { Some result.own.now ≡ content (store (meaning self.old)) (Object.Text who) }
         ensures home { Some result.home.now ≡ content (store (meaning self.old)) (Object.Text home) }
         ensures globals { globals_lent result ≡ globals_at home at.now (store (meaning self.old)) };
+
+    /// The partition that holds a name, None where nobody does.
+    fn holder(&self, name: Name8) -> Option<Part>
+        ensures held { result ≡ holder_of (store (meaning self.now)) name };
 
     /// Serves an access of a partition. Memory fails only for one that may want it.
     fn serve(&mut self, who: Part, access: &Access) -> Result<Answer, NoMemory>

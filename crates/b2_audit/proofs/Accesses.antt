@@ -17,13 +17,13 @@ use Rattle.b2_access.proofs.Told.{no_borrowers, written_is_reached}
 use Rattle.b2_audit.specs.Steps.{IsPartition, IsTerminal, IsMarked, AreMarked, AccessesAreMarked, AccessesWriteOwnTexts}
 use Rattle.b2_audit.proofs.CleanSteps.{in_both}
 
-nothing : AreMarked []
+pub nothing : AreMarked []
 nothing o i = absurd i
 
-add : (x : Object) (xs : List Object) → IsMarked x → AreMarked xs → AreMarked (x ∷ xs)
+pub add : (x : Object) (xs : List Object) → IsMarked x → AreMarked xs → AreMarked (x ∷ xs)
 add x xs is are o i = elim i [ inl e ↦ subst (λ (y : Object). IsMarked y) (sym e) is | inr j ↦ are o j ]
 
-both_are : (xs ys : List Object) → AreMarked xs → AreMarked ys → AreMarked (xs ++ ys)
+pub both_are : (xs ys : List Object) → AreMarked xs → AreMarked ys → AreMarked (xs ++ ys)
 both_are xs ys are_xs are_ys o i = elim ((in_both o xs ys).0 i) [ inl j ↦ are_xs o j | inr j ↦ are_ys o j ]
 
 terminal_is : (term : Option ℕ) → ((t : ℕ) → term ≡ Some t → IsTerminal t) → AreMarked (terminal_objects term)

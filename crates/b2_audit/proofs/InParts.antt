@@ -23,16 +23,17 @@ pub freed_are_held : (addrs : List (List ℕ)) → device_objects (to_free addrs
 freed_are_held [] = refl
 freed_are_held (a ∷ addrs) = ap (λ (os : List Object). object.Hog a ∷ os) (freed_are_held addrs)
 
--- four parts
-pub touched_in_parts : (who : ℕ) (xs ys zs ds : List Object) (m one two three four : Marks) → one ≡ touch_all who xs m → two ≡ touch_all who ys one → three ≡ touch_all who zs two → four ≡ touch_all who ds three
-    → four ≡ touch_all who (xs ++ (ys ++ (zs ++ (ds ++ [])))) m
-touched_in_parts who xs ys zs ds m one two three four first second third last =
-    last ∙ ap (touch_all who ds) (third ∙ ap (touch_all who zs) (second ∙ ap (touch_all who ys) first))
-    ∙ sym (touched_in_turn who xs (ys ++ (zs ++ (ds ++ []))) m ∙ touched_in_turn who ys (zs ++ (ds ++ [])) (touch_all who xs m)
-    ∙ touched_in_turn who zs (ds ++ []) (touch_all who ys (touch_all who xs m)) ∙ touched_in_turn who ds [] (touch_all who zs (touch_all who ys (touch_all who xs m))))
+-- five parts
+pub touched_in_parts : (who : ℕ) (xs ys zs ds ns : List Object) (m one two three four five : Marks) → one ≡ touch_all who xs m → two ≡ touch_all who ys one → three ≡ touch_all who zs two → four ≡ touch_all who ds three → five ≡ touch_all who ns four
+    → five ≡ touch_all who (xs ++ (ys ++ (zs ++ (ds ++ ns)))) m
+touched_in_parts who xs ys zs ds ns m one two three four five first second third fourth last =
+    last ∙ ap (touch_all who ns) (fourth ∙ ap (touch_all who ds) (third ∙ ap (touch_all who zs) (second ∙ ap (touch_all who ys) first)))
+    ∙ sym (touched_in_turn who xs (ys ++ (zs ++ (ds ++ ns))) m ∙ touched_in_turn who ys (zs ++ (ds ++ ns)) (touch_all who xs m)
+    ∙ touched_in_turn who zs (ds ++ ns) (touch_all who ys (touch_all who xs m)) ∙ touched_in_turn who ds ns (touch_all who zs (touch_all who ys (touch_all who xs m))))
 
-pub written_in_parts : (who : ℕ) (xs ys zs ds : List Object) (m one two three four : Marks) → one ≡ write_all who xs m → two ≡ write_all who ys one → three ≡ write_all who zs two → four ≡ write_all who ds three
-    → four ≡ write_all who (xs ++ (ys ++ (zs ++ ds))) m
-written_in_parts who xs ys zs ds m one two three four first second third last =
-    last ∙ ap (write_all who ds) (third ∙ ap (write_all who zs) (second ∙ ap (write_all who ys) first))
-    ∙ sym (written_in_turn who xs (ys ++ (zs ++ ds)) m ∙ written_in_turn who ys (zs ++ ds) (write_all who xs m) ∙ written_in_turn who zs ds (write_all who ys (write_all who xs m)))
+pub written_in_parts : (who : ℕ) (xs ys zs ns ds : List Object) (m one two three four five : Marks) → one ≡ write_all who xs m → two ≡ write_all who ys one → three ≡ write_all who zs two → four ≡ write_all who ns three → five ≡ write_all who ds four
+    → five ≡ write_all who (xs ++ (ys ++ (zs ++ (ns ++ ds)))) m
+written_in_parts who xs ys zs ns ds m one two three four five first second third fourth last =
+    last ∙ ap (write_all who ds) (fourth ∙ ap (write_all who ns) (third ∙ ap (write_all who zs) (second ∙ ap (write_all who ys) first)))
+    ∙ sym (written_in_turn who xs (ys ++ (zs ++ (ns ++ ds))) m ∙ written_in_turn who ys (zs ++ (ns ++ ds)) (write_all who xs m)
+    ∙ written_in_turn who zs (ns ++ ds) (write_all who ys (write_all who xs m)) ∙ written_in_turn who ns ds (write_all who zs (write_all who ys (write_all who xs m))))

@@ -10,3 +10,4 @@ pub mod Accesses
 pub mod OwnTexts
 pub mod Others
 pub mod InParts
+pub mod Loans

@@ -4,7 +4,9 @@ use Rattle.b2_access.specs.declared.objects.Object.{Object}
 use Rattle.b2_access.specs.declared.objects.Object.TheVariants as object
 use Rattle.b2_access.specs.declared.accesses.Access.{Access}
 use Rattle.b2_access.specs.declared.accesses.Answer.{Answer}
+use Rattle.b2_access.specs.declared.lending.At.{At}
 use Rattle.b2_access.specs.Causes.{terminal_of}
+use Rattle.b2_access.specs.Loans.{lender_at, loan_touched}
 use Rattle.b2_access.specs.Store.{StoreState, IsIn}
 use Rattle.b2_access.specs.Touching.{touched, written_by}
 use Rattle.b2_audit.specs.Marks.{Marks, marked, touch, touch_all, unmarked, is_clean}
@@ -77,6 +79,11 @@ MarkedInParts = (who : ℕ) (first touched later written : List Object) (m : Mar
 abbrev pub AccessesAreMarked : Type 0
 AccessesAreMarked = (s : StoreState) (who : ℕ) (a : Access) → IsPartition who → ((t : ℕ) → terminal_of a ≡ Some t → IsTerminal t)
     → AreMarked (touched s who a) × ((x : Answer) → AreMarked (written_by x who a))
+
+-- What a loan touches is marked, where the home is a partition, and whoever holds the name by which `@` variables are asked for.
+abbrev pub LoansAreMarked : Type 0
+LoansAreMarked = (s : StoreState) (who home : ℕ) (whose : At) → IsPartition who → IsPartition home → ((p : ℕ) → lender_at home whose s ≡ Some p → IsPartition p)
+    → AreMarked (loan_touched who home whose s)
 
 -- no step writes the text of another
 abbrev pub WriteOwnTexts : List Step → Type 0

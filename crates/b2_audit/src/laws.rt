@@ -1,5 +1,5 @@
 //! What the marks say: each law is the contract of a function without a body.
-ghost use Rattle.b2_audit.specs.Steps.{MarksSayClean, MarkedInParts, OwnTextsAreIdle, AccessesAreMarked, AccessesWriteOwnTexts};
+ghost use Rattle.b2_audit.specs.Steps.{MarksSayClean, MarkedInParts, OwnTextsAreIdle, AccessesAreMarked, AccessesWriteOwnTexts, LoansAreMarked};
 
 /// After the marks of a list of steps a partition is clean exactly where none of its steps touched an object that a step of
 /// another one wrote before.
@@ -16,6 +16,11 @@ pub fn law_a_step_is_marked_in_parts()
 /// The objects that an access touches and writes are among those that are marked.
 pub fn law_accesses_are_marked()
     ensures { AccessesAreMarked }
+{}
+
+/// So are those that a loan touches.
+pub fn law_loans_are_marked()
+    ensures { LoansAreMarked }
 {}
 
 /// An access writes no text but that of the partition that asks.

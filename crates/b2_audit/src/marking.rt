@@ -1,8 +1,9 @@
-// The marks of accesses: by what they reach, and by what they write of that.
-ghost use Rattle.std.specs.Prelude.{◌≡◌, OnOk, IfErr};
+// The marks of loans, and of accesses: by what they reach, and by what they write of that.
+ghost use Rattle.std.specs.Prelude.{◌≡◌, ◌++◌, ◌||◌, map, is_some, true, OnOk, IfErr};
 ghost use Rattle.b2_access.specs.AccessRows.{reach, row};
 ghost use Rattle.b2_access.specs.Holding.{devices_changed};
-ghost use Rattle.b2_access.specs.Reach.{DevicePart, device_objects, objects_held, part_objects, terminal_objects, text_objects, variable_objects, where_written};
+ghost use Rattle.b2_access.specs.Loans.{loan_touched};
+ghost use Rattle.b2_access.specs.Reach.{DevicePart, device_objects, if_any, objects_held, part_objects, terminal_objects, text_objects, variable_objects, where_written};
 ghost use Rattle.b2_access.specs.Store.{StoreState};
 ghost use Rattle.b2_access.specs.Touching.{touched, written_by as objects_by_answer};
 ghost use Rattle.b2_audit.specs.Marks.{object_index, touch_all, write_all};
@@ -10,10 +11,29 @@ ghost use Rattle.b2_audit.specs.Watching.{GrowsMarks};
 
 use crate::seen::Seen;
 use b2_access::{
-    Access, Answer, Devices, DevicesWritten, Object, TextUse, devices_reached, devices_written,
-    reached_by, written_by,
+    Access, Answer, At, Devices, DevicesWritten, Object, Shared, TextUse, devices_reached,
+    devices_written, reached_by, written_by,
 };
-use b2_base::{Addr, NoMemory, Part, Term};
+use b2_base::{Addr, Name8, NoMemory, Part, Term};
+
+/// Marks what a loan of a store touches: the own text, that of the home, the `@` variables that are asked for, and the name by which they
+/// are, whoever holds it.
+pub(crate) fn mark_lent<S: Shared>(seen: &mut Seen, store: &S, who: Part, home: Part, at: &At)
+    ensures { seen.new ≡ touch_all who (loan_touched who home at.now (S.store (S.meaning store.now))) seen.old }
+{
+    seen.touch(who, Object::Text(who));
+    seen.touch(who, Object::Text(home));
+    match at {
+        At::None => {}
+        At::Home => seen.touch(who, Object::Globals(home)),
+        At::Named(name) => {
+            seen.touch(who, Object::Name(*name));
+            if let Some(p) = store.holder(*name) {
+                seen.touch(who, Object::Globals(p));
+            }
+        }
+    }
+}
 
 /// Marks that a terminal is touched, where one is reached.
 fn touch_terminal(seen: &mut Seen, who: Part, terminal: Option<Term>)
@@ -91,6 +111,18 @@ fn touch_devices(seen: &mut Seen, who: Part, access: &Access)
     }
 }
 
+/// Marks that names are touched.
+fn touch_names(seen: &mut Seen, who: Part, name: Option<Name8>, other: Option<Name8>)
+    ensures { seen.new ≡ touch_all who (map Object.Name (if_any name ++ if_any other)) seen.old }
+{
+    if let Some(name) = name {
+        seen.touch(who, Object::Name(name));
+    }
+    if let Some(name) = other {
+        seen.touch(who, Object::Name(name));
+    }
+}
+
 /// Marks what an access touches, whatever it will be answered: all that it reaches.
 #[tactic(auto, using(crate::proofs::InParts::touched_in_parts))]
 pub(crate) fn mark_touched(seen: &mut Seen, who: Part, access: &Access)
@@ -101,6 +133,7 @@ pub(crate) fn mark_touched(seen: &mut Seen, who: Part, access: &Access)
     touch_text(seen, who, reached.text);
     touch_variables(seen, who, reached.variables);
     touch_devices(seen, who, access);
+    touch_names(seen, who, reached.name, reached.other_name);
 }
 
 /// Marks that a terminal is written, where one is.
@@ -124,6 +157,25 @@ fn write_where(seen: &mut Seen, who: Part, object: Object, written: bool) -> Res
     } else {
         Ok(())
     }
+}
+
+/// Marks that names are written. Memory fails only where there is one.
+fn write_names(
+    seen: &mut Seen,
+    who: Part,
+    name: Option<Name8>,
+    other: Option<Name8>,
+) -> Result<(), NoMemory>
+    ensures written { OnOk result (seen.new ≡ write_all who (map Object.Name (if_any name ++ if_any other)) seen.old) }
+    ensures memory { IfErr result (λ _. (is_some name || is_some other) ≡ true) }
+{
+    if let Some(name) = name {
+        seen.write(who, Object::Name(name))?;
+    }
+    if let Some(name) = other {
+        seen.write(who, Object::Name(name))?;
+    }
+    Ok(())
 }
 
 /// Marks that it is written who holds each of some devices.
@@ -159,6 +211,7 @@ fn mark_each_written(seen: &mut Seen, who: Part, access: &Access) -> Result<(), 
     write_terminal(seen, who, written.terminal)?;
     write_where(seen, who, Object::Text(who), written.text)?;
     write_where(seen, who, Object::Globals(who), written.variables)?;
+    write_names(seen, who, written.name, written.other_name)?;
     write_devices(seen, who, access)
 }
 

@@ -1,10 +1,10 @@
 // A store that is watched.
 ghost use Rattle.std.specs.Prelude.{◌≡◌};
 
-use crate::marking::{mark_touched, mark_written};
+use crate::marking::{mark_lent, mark_touched, mark_written};
 use crate::seen::Seen;
-use b2_access::{Access, Answer, At, Lent, Object, Shared};
-use b2_base::{NoMemory, Part};
+use b2_access::{Access, Answer, At, Lent, Shared};
+use b2_base::{Name8, NoMemory, Part};
 
 /// A store that is watched: it serves and lends as the one inside, and marks what partitions touch and write by that.
 #[derive(Drop)]
@@ -29,8 +29,9 @@ impl<S: Shared> Shared for Watched<'_, S> {
     ghost use Rattle.std.proofs.Common.{ap};
     ghost use Rattle.std.specs.Borrow.{GName};
     ghost use Rattle.b2_audit.specs.Marks.{Marks, touch_all};
+    ghost use Rattle.b2_access.specs.Loans.{loan_touched};
     ghost use Rattle.std.specs.Prelude.{◌⊎◌};
-    ghost use Rattle.b2_audit.specs.Watching.{GrowsMarks, watching, watched_loan, lent_to, watching_is_local, watching_keeps_listed, watched_loan_globals};
+    ghost use Rattle.b2_audit.specs.Watching.{GrowsMarks, watching, watched_loan, watching_is_local, watching_keeps_listed, watched_loan_globals};
 
     ghost Meaning = { S.Meaning × Marks };
 
@@ -42,18 +43,21 @@ impl<S: Shared> Shared for Watched<'_, S> {
 
     ghost wants = { λ a. S.wants a ⊎ GrowsMarks a };
 
-    ghost lending = { watched_loan S.lending };
+    ghost lending = { watched_loan S.store S.lending };
 
-    ghost after_loan = { λ who home at s w. record s { inner = record s.inner { now = S.after_loan who home at s.inner.now w }; seen = record s.seen { now = touch_all who (lent_to who home) s.seen.now } } };
+    ghost after_loan = { λ who home at s w. record s { inner = record s.inner { now = S.after_loan who home at s.inner.now w }; seen = record s.seen { now = touch_all who (loan_touched who home at (S.store (S.meaning s.inner.now))) s.seen.now } } };
 
     ghost Holds = { GName × GName × S.Holds };
 
     ghost holds = { λ w. (w.inner.ghost_name, w.seen.ghost_name, S.holds w.inner.now) };
 
     fn lend(&mut self, who: Part, home: Part, at: &At) -> Lent<'_> {
-        self.seen.touch(who, Object::Text(who));
-        self.seen.touch(who, Object::Text(home));
+        mark_lent(self.seen, self.inner, who, home, at);
         self.inner.lend(who, home, at)
+    }
+
+    fn holder(&self, name: Name8) -> Option<Part> {
+        self.inner.holder(name)
     }
 
     fn serve(&mut self, who: Part, access: &Access) -> Result<Answer, NoMemory> {
@@ -69,7 +73,7 @@ impl<S: Shared> Shared for Watched<'_, S> {
 
     ghost keeps_listed = { watching_keeps_listed S.store S.serving S.keeps_listed };
 
-    ghost loans = { λ who home at s w. ap (λ m. (m, touch_all who (lent_to who home) s.seen.now)) (S.loans who home at s.inner.now w) };
+    ghost loans = { λ who home at s w. ap (λ m. (m, touch_all who (loan_touched who home at (S.store (S.meaning s.inner.now))) s.seen.now)) (S.loans who home at s.inner.now w) };
 
     ghost loan_holds = { λ who home at s w. ap (λ h. (s.inner.ghost_name, s.seen.ghost_name, h)) (S.loan_holds who home at s.inner.now w) };
 

@@ -1,6 +1,7 @@
 // Assigning to receivers, among the variables in which they were located.
-ghost use Rattle.std.specs.Prelude.{◌≡◌, true, length, IfOk, OnOk, OnErr};
+ghost use Rattle.std.specs.Prelude.{◌≡◌, true, length, Err, IfErr, IfOk, OnOk, OnErr};
 ghost use Rattle.std.specs.Fn.{FnOnceReturnsAtMut};
+ghost use Rattle.b2_base.specs.declared.codes.Fault.TheVariants as of_fault;
 ghost use Rattle.b2_vars.specs.Answers.{AnswersOrFails};
 ghost use Rattle.b2_vars.specs.Variables.{is_alpha};
 ghost use Rattle.b2_receiver.specs.Assigning as spec;
@@ -139,6 +140,7 @@ pub fn is_reached(outcome: &Result<(), Fault>) -> bool
 /// The code of a fault, where memory didn't fail.
 pub fn code_of_fault(fault: Fault) -> Result<Option<Code>, NoMemory>
     ensures { IfOk result (λ code. HasCode fault code) }
+    ensures memory { IfErr result (λ _. fault ≡ of_fault.NoMemory) }
 {
     match fault {
         Fault::Code(code) => Ok(Some(code)),
@@ -149,6 +151,7 @@ pub fn code_of_fault(fault: Fault) -> Result<Option<Code>, NoMemory>
 /// The code with which an assignment ended, None where it ended well, where memory didn't fail.
 pub fn code_of(ended: Result<(), Fault>) -> Result<Option<Code>, NoMemory>
     ensures { IfOk result (λ code. EndsWith ended code) }
+    ensures memory { IfErr result (λ _. ended ≡ Err of_fault.NoMemory) }
 {
     match ended {
         Ok(()) => Ok(None),

@@ -23,7 +23,7 @@ abbrev pub store_in : Watched → StoreState
 store_in m = m.0
 
 abbrev pub watched_turn : List Device → ℕ → Private → Watched → TurnEnd Watched
-watched_turn devices n me m = turn (basic devices) store_in (watching itself serves) (watched_loan after_loan) n me m
+watched_turn devices n me m = turn (basic devices) store_in (watching itself serves) (watched_loan itself after_loan) n me m
 
 -- nobody else wrote the text of a partition
 abbrev pub IsOwnText : ℕ → Marks → Type 0

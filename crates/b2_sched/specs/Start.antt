@@ -80,7 +80,7 @@ pub record CanStart (b : BootState) : Type 0 where
   pub programs : list_all (λ p. may_start p.program) b.partitions ≡ true
 
 -- empty texts, nobody inside, no `@` variables, idle terminals, printers that printed nothing, the platters with their images, and
--- nobody who holds a device
+-- nobody who holds a device or a name
 abbrev pub store_booted : BootState → Images → StoreState
 store_booted b images = record {
   texts = map text_row (map areas_of b.partitions);
@@ -90,6 +90,7 @@ store_booted b images = record {
   printers = map blank_row (printer_addresses b.printers);
   platters = with_keys (platter_addresses b.platters) images;
   hogs = map free_row (printer_addresses b.printers) ++ map free_row (platter_addresses b.platters);
+  names = [];
 }
 
 -- THE WORLD OF A BOOT: each partition as it starts, and nothing marked or tallied

@@ -2,7 +2,7 @@
 use Rattle.std.specs.Prelude.{ℕ, zero, suc, List, [], ◌∷◌, Option, Some, None}
 use Rattle.b2_access.specs.declared.devices.Device.{Device}
 use Rattle.b2_access.specs.declared.private.Private.{Private}
-use Rattle.b2_access.specs.Loans.{Loan}
+use Rattle.b2_access.specs.Loans.{Loan, lends}
 use Rattle.b2_access.specs.Serving.{itself}
 use Rattle.b2_store.specs.DiskWork.{serves}
 use Rattle.b2_access.specs.Store.{StoreState}
@@ -12,9 +12,9 @@ use Rattle.b2_machine.specs.Touched.{step_touched, step_written}
 use Rattle.b2_machine.specs.Turn.{TurnEnd, turn, unless_ended}
 use Rattle.b2_sched.specs.Choice.{basic}
 
--- a loan leaves the store as it is: no `@` variables are found yet
+-- a loan, as a plain store lends; no step asks for `@` variables yet
 abbrev pub after_loan : Loan StoreState
-after_loan who home at s left = s
+after_loan who home whose s left = lends who home whose s left
 
 -- a turn
 abbrev pub turn_of : List Device → ℕ → Private → StoreState → TurnEnd StoreState

@@ -145,6 +145,8 @@ fn suits(access: &Access, answer: &Answer) -> bool
         Access::Erase { .. } | Access::ClearAll { .. } => {
             matches!(answer, Answer::Done | Answer::Locked(_))
         }
+        Access::Declare { .. } => matches!(answer, Answer::Done | Answer::Refused(_)),
+        Access::FindPart { .. } => matches!(answer, Answer::Holder(_) | Answer::NoPart),
         Access::Limits { .. } => matches!(answer, Answer::Four(..) | Answer::Wait(_)),
         Access::ListDisk { .. } => matches!(answer, Answer::Bytes(_) | Answer::Wait(_)),
         Access::Scratch { .. }

@@ -12,3 +12,6 @@ pub mod Kept
 pub mod Made
 pub mod Others
 pub mod Sound
+pub mod Spares
+pub mod Loans
+pub mod Names

@@ -1,4 +1,5 @@
 pub mod RowLending
+pub mod Spares
 pub mod Asked
 pub mod Meaning
 pub mod Start

@@ -1,5 +1,5 @@
 -- A store as it starts: empty texts, nobody inside, no `@` variables, idle terminals, printers that printed nothing, the platters of
--- the boot, and nobody who holds a device.
+-- the boot, and nobody who holds a device or a name.
 use Rattle.std.specs.Prelude.{ℕ, List, [], ◌∷◌, ◌++◌, map, Option, None}
 use Rattle.b2_text.specs.Program.{TextState}
 use Rattle.b2_vars.specs.Tables.{VarsState}
@@ -48,4 +48,5 @@ store_at_start b images = record {
   printers = map blank_row b.printers.items;
   platters = with_keys b.platters.items images;
   hogs = map free_row b.printers.items ++ map free_row b.platters.items;
+  names = [];
 }

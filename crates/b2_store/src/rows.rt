@@ -1,10 +1,10 @@
-// Rows, each found by its key: the number of a partition or of a terminal, or the address of a device.
+// Rows, each found by its key: the number of a partition or of a terminal, the address of a device, or a name.
 ghost use Rattle.std.specs.Prelude.{◌≡◌, ℕ, Bool, [], ◌∷◌, ◌++◌, Some, IsSome, OnOk, position, option_copied};
 ghost use Rattle.std.specs.Map.{lookup};
 ghost use Rattle.std.specs.Option.{option_copied_mut};
 ghost use Rattle.std.specs.Borrow.{sem};
 
-use b2_base::{Addr, NoMemory, Part, Term};
+use b2_base::{Addr, Name8, NoMemory, Part, Term};
 use std::alloc::Global;
 use std::marker::Model;
 
@@ -44,6 +44,16 @@ impl Key for Addr {
     ghost found_by = { λ key k. bytes_eq k key };
 
     fn finds(self, other: Addr) -> bool {
+        other == self
+    }
+}
+
+impl Key for Name8 {
+    ghost use Rattle.std.specs.Str.{bytes_eq};
+
+    ghost found_by = { λ key k. bytes_eq k key };
+
+    fn finds(self, other: Name8) -> bool {
         other == self
     }
 }

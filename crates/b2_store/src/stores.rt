@@ -1,14 +1,15 @@
 // The store: its rows, what stops an access, and how each is served and what is lent.
-ghost use Rattle.std.specs.Prelude.{◌≡◌, ◌≢◌, ◌≤◌, ℕ, true, length, List, [], ◌∷◌, Option, Some, None, IfOk, IfErr, option_copied};
+ghost use Rattle.std.specs.Prelude.{◌≡◌, ◌≢◌, ◌≤◌, ℕ, true, length, List, [], ◌∷◌, Option, Some, None, IfOk, IfErr, OnOk, option_copied};
 ghost use Rattle.std.specs.List.{list_all};
-ghost use Rattle.b2_access.specs.AccessRows.{reach, line_answer, key_answer, is_held_by};
+ghost use Rattle.b2_access.specs.AccessRows.{reach, line_answer, key_answer, is_held_by, is_held_by_other};
+ghost use Rattle.b2_access.specs.Loans.{holder_of, lender_at};
 ghost use Rattle.b2_access.specs.Reach.{to_take};
 ghost use Rattle.b2_access.specs.Stopping as stopping;
-ghost use Rattle.b2_access.specs.Store.{content, put};
+ghost use Rattle.b2_access.specs.Store.{StoreState, content, put};
 ghost use Rattle.b2_access.specs.Touching.{IsLegal, MayWantMemory, is_short};
 ghost use Rattle.b2_store.specs.Asked.{moving};
 ghost use Rattle.b2_store.specs.Changes.{keyed_at, front_at, room_at};
-ghost use Rattle.b2_store.specs.Holders.{all_held, own_among};
+ghost use Rattle.b2_store.specs.Holders.{all_held, named, own_among, without_name_of};
 ghost use Rattle.b2_store.specs.Refusals.{IsRefusal, made_answer};
 ghost use Rattle.b2_store.specs.Start.{store_at_start};
 
@@ -22,6 +23,7 @@ use crate::part_list::PartList;
 use crate::printer::Printer;
 use crate::programs::{load_text, save_text};
 use crate::rows::Rows;
+use crate::spared::Spared;
 use crate::start::{
     borrows_of, globals_of, holders_of, platters_of, printers_of, terminals_of, texts_of,
 };
@@ -29,6 +31,7 @@ use b2_access::{
     Access, Answer, At, Devices, Lent, Object, Shared, TextUse, devices_reached, reached_by,
 };
 use b2_atom::Atoms;
+use b2_base::codes::X78_NAME_HELD;
 use b2_base::{Addr, AddrList, By, ByteList, Code, Fault, Name8, NoMemory, Part, Slot, Term};
 use b2_catalog::listing;
 use b2_dec::{Kind, Value};
@@ -38,21 +41,21 @@ use b2_text::Text;
 use b2_vars::Vars;
 use std::alloc::Global;
 
-/// The store that all partitions share. It means its rows, by `store_of`: all but the allocator and the spare.
+/// The store that all partitions share. It means its rows, by `store_of`: all but the allocator.
 #[derive(Drop)]
 pub struct Stores {
     alloc: Global,
     texts: Rows<Part, Text>,
     // Who stands inside each text, in order of entering.
     borrows: Rows<Part, PartList>,
-    globals: Rows<Part, Vars>,
+    globals: Spared,
     terminals: Rows<Term, Terminal>,
     printers: Rows<Addr, Printer>,
     platters: Rows<Addr, Platter>,
     // Who holds each device.
     hogs: Rows<Addr, Option<Part>>,
-    // What is lent where no `@` variables are found.
-    spare: Vars,
+    // Who holds each name that was ever declared.
+    names: Rows<Name8, Option<Part>>,
 }
 
 /// A partition, where it is another.
@@ -131,12 +134,12 @@ impl Stores {
             alloc,
             texts: texts_of(alloc, &b.partitions)?,
             borrows: borrows_of(alloc, &b.partitions)?,
-            globals: globals_of(alloc, &b.partitions)?,
+            globals: Spared::new(globals_of(alloc, &b.partitions)?, Vars::new(alloc, 0)?)?,
             terminals: terminals_of(alloc, &b.terminals)?,
             printers: printers_of(alloc, &b.printers)?,
             platters: platters_of(alloc, &b.platters, platters)?,
             hogs: holders_of(alloc, &b.printers, &b.platters)?,
-            spare: Vars::new(alloc, 0)?,
+            names: Rows::new(alloc),
         })
     }
 
@@ -308,6 +311,100 @@ impl Stores {
         }
     }
 
+    /// The partition that holds a name, None where nobody does.
+    fn name_holder(&self, name: Name8) -> Option<Part>
+        ensures { result ≡ holder_of (store_of self.now) name }
+    {
+        match self.names.get(name) {
+            Some(holder) => *holder,
+            None => None,
+        }
+    }
+
+    /// Whose `@` variables are asked for.
+    fn lender(&self, home: Part, at: &At) -> Option<Part>
+        ensures { result ≡ lender_at home at.now (store_of self.now) }
+    {
+        match at {
+            At::None => None,
+            At::Home => Some(home),
+            At::Named(name) => self.name_holder(*name),
+        }
+    }
+
+    /// A name has another holder.
+    fn set_name_holder(&mut self, name: Name8, holder: Option<Part>) -> Result<(), NoMemory>
+        ensures { OnOk result (store_of self.new ≡ put (Object.Name name) holder (store_of self.old)) }
+    {
+        if let Some(row) = self.names.get_mut(name) {
+            *row = holder;
+            return Ok(());
+        }
+        self.names.add(name, holder)
+    }
+
+    /// Whether another partition holds a name.
+    fn is_held_by_other(&self, who: Part, name: Name8) -> bool
+        ensures { result ≡ is_held_by_other who (content (store_of self.now) (Object.Name name)) }
+    {
+        match self.name_holder(name) {
+            Some(p) => p != who,
+            None => false,
+        }
+    }
+
+    /// Whether a partition holds a name.
+    fn holds_name(&self, who: Part, name: Name8) -> bool
+        ensures { result ≡ is_held_by who (content (store_of self.now) (Object.Name name)) }
+    {
+        match self.name_holder(name) {
+            Some(p) => p == who,
+            None => false,
+        }
+    }
+
+    /// A partition gives up a name, where it holds it.
+    fn give_up(&mut self, who: Part, name: Name8) -> Result<(), NoMemory>
+        ensures { OnOk result (store_of self.new ≡ without_name_of who name (store_of self.old)) }
+    {
+        if self.holds_name(who, name) {
+            return self.set_name_holder(name, None);
+        }
+        Ok(())
+    }
+
+    /// A partition holds a name, and gives up another one that it holds, where one is given.
+    fn take_name(&mut self, who: Part, name: Name8, old: Option<Name8>) -> Result<(), NoMemory>
+        ensures { OnOk result (store_of self.new ≡ named who name old (store_of self.old)) }
+    {
+        if let Some(old) = old {
+            self.give_up(who, old)?;
+        }
+        self.set_name_holder(name, Some(who))
+    }
+
+    /// A partition declares a name, unless another one holds it.
+    #[tactic(auto, using(crate::proofs::Names::declared, crate::proofs::Names::declared_by_another))]
+    fn declare(&mut self, who: Part, name: Name8, old: Option<Name8>) -> Result<Answer, NoMemory>
+        ensures { IfOk result (Does who (Access.Declare name old) self.old self.new) }
+    {
+        if self.is_held_by_other(who, name) {
+            return Ok(Answer::Refused(Code::known(X78_NAME_HELD)));
+        }
+        self.take_name(who, name, old)?;
+        Ok(Answer::Done)
+    }
+
+    /// Says who holds a name.
+    fn find_part(&self, name: Name8) -> Answer
+        ensures { (who : ℕ) → Does who (Access.FindPart name) self.now self.now result }
+    {
+        match self.name_holder(name) {
+            Some(p) => Answer::Holder(p),
+            None => Answer::NoPart,
+        }
+    }
+
     /// Takes devices.
     #[tactic(auto, using(crate::proofs::Holders::taken))]
     fn open_devices(&mut self, who: Part, addrs: &AddrList) -> Answer
@@ -414,8 +511,9 @@ impl Stores {
             return Answer::Done;
         };
         text.clear();
-        if let Some(variables) = self.globals.get_mut(who) {
-            variables.clear();
+        let owner = Some(who);
+        if self.globals.has(&owner) {
+            self.globals.lend(&owner).clear();
         }
         Answer::Done
     }
@@ -619,6 +717,8 @@ impl Stores {
             },
             Access::Erase { from, to, .. } => Ok(self.erase(who, *from, *to)),
             Access::ClearAll { .. } => Ok(self.clear_all(who)),
+            Access::Declare { name, old } => self.declare(who, *name, *old),
+            Access::FindPart { name } => Ok(self.find_part(*name)),
             Access::Limits { addr, name } => Ok(self.limits(*addr, *name)),
             Access::ListDisk { addr } => self.list_disk(*addr),
             Access::Scratch { addr, name } => Ok(self.scratch(*addr, *name)),
@@ -658,9 +758,9 @@ impl Shared for Stores {
     ghost use Rattle.b2_access.proofs.Locality.{serves_by_row, serves_is_local, serves_keeps_listed};
     ghost use Rattle.b2_access.specs.Serving.{itself};
     ghost use Rattle.b2_store.specs.DiskWork.{disks, serves};
-    ghost use Rattle.b2_access.specs.Store.{StoreState};
     ghost use Rattle.b2_access.specs.Touching.{MayWantMemory};
-    ghost use Rattle.b2_store.specs.Meaning.{store_of, with_spare};
+    ghost use Rattle.b2_access.specs.Loans.{lends};
+    ghost use Rattle.b2_store.specs.Meaning.{store_of, after_loan as lent_and_ended, means_so};
 
     ghost Meaning = { StoreState };
 
@@ -672,22 +772,28 @@ impl Shared for Stores {
 
     ghost wants = { MayWantMemory };
 
-    ghost lending = { λ who home at m w. m };
+    ghost lending = { lends };
 
-    ghost after_loan = { λ who home at s w. with_spare s w };
+    ghost after_loan = { λ who home at s w. lent_and_ended home at s w };
 
     ghost Holds = { Unit {0} };
 
     ghost holds = { λ s. tt };
 
     fn lend(&mut self, who: Part, home: Part, at: &At) -> Lent<'_> {
+        let lender = self.lender(home, at);
+        let found = self.globals.has(&lender);
         let texts = &self.texts;
         Lent {
             own: texts.value(who),
             home: texts.value(home),
-            globals: &mut self.spare,
-            found: false,
+            globals: self.globals.lend(&lender),
+            found,
         }
+    }
+
+    fn holder(&self, name: Name8) -> Option<Part> {
+        self.name_holder(name)
     }
 
     fn serve(&mut self, who: Part, access: &Access) -> Result<Answer, NoMemory> {
@@ -703,7 +809,7 @@ impl Shared for Stores {
 
     ghost keeps_listed = { serves_keeps_listed disks };
 
-    ghost loans = { λ who home at s w. refl };
+    ghost loans = { λ who home at s w. means_so home at s w };
 
     ghost loan_holds = { λ who home at s w. refl };
 

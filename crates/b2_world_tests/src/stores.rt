@@ -4,12 +4,13 @@
 //
 // `store | CALL | ..`: what the calls answer one after another. Accesses begin with the number of the partition that asks: `1 show
 // TERMINAL BYTES`, `1 read TERMINAL`, `1 insert TERMINAL BYTES`, `1 key TERMINAL`, `1 put LINE SOURCE`, `1 take LINE`, `1 erase FROM
-// TO`, `1 clear`, `1 limits ADDRESS [NAME]`, `1 list ADDRESS`, `1 scratch ADDRESS NAME`, `1 format ADDRESS SECTORS END`, those at
+// TO`, `1 clear`, `1 declare NAME [OLD]`, `1 find NAME`, `1 limits ADDRESS [NAME]`, `1 list ADDRESS`, `1 scratch ADDRESS NAME`, `1 format ADDRESS SECTORS END`, those at
 // files, which `files.rt` names, and those of devices, which `devices.rt` names. Others are
 // `press TERMINAL BYTES` and `special TERMINAL N` for keys, `front TERMINAL PARTITION`, `shown TERMINAL` for its transcript,
 // `printed ADDRESS` for what a printer printed, `platter ADDRESS PLACE COUNT` for the sectors of a platter and bytes of it in hexadecimal digits, `lend PARTITION HOME` for the
-// first lines of both texts and whether `@` variables are found, for the partitions 1 and 2, and `clean` for the partitions that
-// are not. `at once 1 limits ..` and the like are accesses over the store without its watch, which want no memory.
+// first lines of both texts and whether `@` variables are found where none are asked for, for the partitions 1 and 2,
+// `note PARTITION HOME WHOSE [WORD]` for the word in N$ among the `@` variables that are lent, of the home or by a name, and another one to be
+// put there, for these two as well, and `clean` for the partitions that are not. `at once 1 limits ..` and the like are accesses over the store without its watch, which want no memory.
 // `image | IMAGE | CALL | ..`: the same, where D20 has the image that is spelled.
 ghost use Rattle.std.specs.Prelude.{◌≡◌, OnOk, IfOk, IfErr, IfSome, IsSome};
 ghost use Rattle.b2_access.specs.Store.{content};
@@ -20,17 +21,18 @@ ghost use Rattle.b2_world_tests.specs.Texts.{HasTexts, KeepsTexts};
 use crate::images::platter_spelled;
 use crate::pieces::{show_named, word};
 use crate::{devices, files};
-use b2_access::{Access, Answer, At, Object, Shared};
+use b2_access::{Access, Answer, At, Lent, Object, Shared};
 use b2_atom::Atoms;
 use b2_audit::{Seen, Watched};
 use b2_base::lexical::{first_bytes, rest_after};
-use b2_base::{Addr, ByteList, Name8, NoMemory, Part, Term};
+use b2_base::{Addr, ByteList, Fault, Name8, NoMemory, Part, Term};
 use b2_cases::shown::{show_code, show_hex, show_truth};
 use b2_cases::{Cells, bytes_of, number_of, small_of, str_of, whole_of};
 use b2_catalog::enter;
 use b2_platter::Platter;
 use b2_store::{StoreBoot, Stores};
 use b2_term::KeyItem;
+use b2_vars::Var;
 use std::alloc::Global;
 use std::fmt::Write;
 
@@ -147,6 +149,22 @@ fn at_disk(kind: &str, rest: &[u8]) -> Option<Access>
     }
 }
 
+/// An access to a name, None where it is misspelled.
+fn at_name(kind: &str, rest: &[u8]) -> Option<Access>
+    ensures { IfSome result IsLegal }
+{
+    let (first, second) = word(rest);
+    let name = Name8::of(first)?;
+    match kind {
+        "find" => Some(Access::FindPart { name }),
+        _ if second.is_empty() => Some(Access::Declare { name, old: None }),
+        _ => Some(Access::Declare {
+            name,
+            old: Some(Name8::of(second)?),
+        }),
+    }
+}
+
 /// An access, None where it is misspelled.
 fn access_of(alloc: Global, spelled: &[u8]) -> Result<Option<Access>, NoMemory>
     ensures { IfOk result (λ found. IfSome found IsLegal) }
@@ -156,6 +174,7 @@ fn access_of(alloc: Global, spelled: &[u8]) -> Result<Option<Access>, NoMemory>
     match kind {
         "show" | "read" | "insert" | "key" => at_terminal(alloc, kind, rest),
         "limits" | "list" | "scratch" | "format" => Ok(at_disk(kind, rest)),
+        "declare" | "find" => Ok(at_name(kind, rest)),
         _ if files::is_file_access(kind) => files::access_of(alloc, kind, rest),
         _ if devices::is_device_access(kind) => devices::access_of(alloc, kind, rest),
         _ => at_text(alloc, kind, rest),
@@ -188,6 +207,11 @@ fn show_answer(into: &mut String, answer: &Answer) -> Result<(), NoMemory> {
             write!(into, " up to {place}")?;
         }
         Answer::AtEnd => into.push_str("at the end")?,
+        Answer::Holder(part) => {
+            let number = part.number();
+            write!(into, "held by {number}")?;
+        }
+        Answer::NoPart => into.push_str("held by nobody")?,
         Answer::Wait(part) => {
             let number = part.number();
             write!(into, "wait for {number}")?;
@@ -334,14 +358,15 @@ fn at_keyboard(
     }
 }
 
-/// The first lines of the own text and of the home's that a store of any kind lends, and whether `@` variables are found.
+/// The first lines of the own text and of the home's that a store of any kind lends where no `@` variables are asked for, and whether some
+/// are found.
 fn first_lent<S: Shared>(stores: &mut S, who: Part, home: Part) -> (Option<u16>, Option<u16>, bool)
     requires own { IsSome (content (S.store (S.meaning stores.old)) (Object.Text who)) }
     requires home { IsSome (content (S.store (S.meaning stores.old)) (Object.Text home)) }
     ensures same { S.holds stores.new ≡ S.holds stores.old }
     ensures kept { KeepsTexts (S.store (S.meaning stores.old)) (S.store (S.meaning stores.new)) }
 {
-    let lent = stores.lend(who, home, &At::Home);
+    let lent = stores.lend(who, home, &At::None);
     (
         lent.own.next_after(None),
         lent.home.next_after(None),
@@ -396,6 +421,120 @@ fn lend_spelled(
         "2 1" => lend(stores, seen, Part::known(2), Part::known(1), into),
         "2 2" => lend(stores, seen, Part::known(2), Part::known(2), into),
         _ => no_call(into),
+    }
+}
+
+/// Shows a word that was found, or that there was none.
+fn show_note(had: &[u8], into: &mut String) -> Result<(), NoMemory> {
+    if had.is_empty() {
+        into.push_str("blank")?;
+        return Ok(());
+    }
+    show_named(into, "had", had)
+}
+
+/// Shows the word that N$ has among the `@` variables that are lent, and gives it another one, where one is spelled; or shows that none
+/// are found.
+fn note_lent(lent: Lent<'_>, other: &[u8], into: &mut String) -> Result<(), NoMemory> {
+    if !lent.found {
+        into.push_str("none found")?;
+        return Ok(());
+    }
+    let note = Var {
+        letter: b'N',
+        digit: None,
+        alpha: true,
+        array: false,
+    };
+    match lent.globals.alpha(note, 0, 0) {
+        Ok(had) => show_note(word(had).0, into)?,
+        Err(code) => show_code(into, code)?,
+    }
+    if other.is_empty() {
+        return Ok(());
+    }
+    match lent.globals.set_alpha(note, 0, 0, other) {
+        Ok(()) => Ok(()),
+        Err(Fault::Code(code)) => {
+            into.push(' ')?;
+            show_code(into, code)?;
+            Ok(())
+        }
+        Err(Fault::NoMemory) => Err(NoMemory),
+    }
+}
+
+/// Uses the `@` variables that a store of any kind lends.
+#[tactic(auto, using(crate::proofs::TextsKept::loan_kept))]
+fn note_in<S: Shared>(
+    stores: &mut S,
+    who: Part,
+    home: Part,
+    at: &At,
+    other: &[u8],
+    into: &mut String,
+) -> Result<(), NoMemory>
+    requires own { IsSome (content (S.store (S.meaning stores.old)) (Object.Text who)) }
+    requires home { IsSome (content (S.store (S.meaning stores.old)) (Object.Text home)) }
+    ensures same { S.holds stores.new ≡ S.holds stores.old }
+    ensures kept { KeepsTexts (S.store (S.meaning stores.old)) (S.store (S.meaning stores.new)) }
+{
+    note_lent(stores.lend(who, home, at), other, into)
+}
+
+/// The same over the watched store.
+fn note_watched(
+    stores: &mut Stores,
+    seen: &mut Seen,
+    who: Part,
+    home: Part,
+    at: &At,
+    other: &[u8],
+    into: &mut String,
+) -> Result<(), NoMemory>
+    requires own { IsSome (content (store_of stores.old) (Object.Text who)) }
+    requires home { IsSome (content (store_of stores.old) (Object.Text home)) }
+    ensures kept { KeepsTexts (store_of stores.old) (store_of stores.new) }
+{
+    let mut watched = Watched::new(stores, seen);
+    note_in(&mut watched, who, home, at, other, into)
+}
+
+/// Whose `@` variables are asked for, None where that is misspelled.
+fn whose(spelled: &[u8]) -> Option<At> {
+    match str_of(spelled) {
+        "none" => Some(At::None),
+        "home" => Some(At::Home),
+        _ => Some(At::Named(Name8::of(spelled)?)),
+    }
+}
+
+/// The same for partitions and `@` variables that are spelled.
+fn note_spelled(
+    stores: &mut Stores,
+    seen: &mut Seen,
+    spelled: &[u8],
+    into: &mut String,
+) -> Result<(), NoMemory>
+    requires texts { HasTexts (store_of stores.old) }
+    ensures kept { KeepsTexts (store_of stores.old) (store_of stores.new) }
+{
+    let (who, rest) = word(spelled);
+    let (home, asked) = word(rest);
+    let (named, other) = word(asked);
+    let Some(at) = whose(named) else {
+        return no_call(into);
+    };
+    let (one, two) = (Part::known(1), Part::known(2));
+    match str_of(who) {
+        "1" => match str_of(home) {
+            "1" => note_watched(stores, seen, one, one, &at, other, into),
+            _ => note_watched(stores, seen, one, two, &at, other, into),
+        },
+        _ => match str_of(home) {
+            "1" => note_watched(stores, seen, two, one, &at, other, into),
+            _ => note_watched(stores, seen, two, two, &at, other, into),
+        },
     }
 }
 
@@ -504,6 +643,7 @@ fn answer(
     match call {
         "press" | "special" | "front" | "shown" => at_keyboard(alloc, stores, call, rest, into),
         "lend" => lend_spelled(stores, seen, rest, into),
+        "note" => note_spelled(stores, seen, rest, into),
         "clean" => show_clean(seen, into),
         "platter" => show_platter(stores, rest, into),
         "printed" => show_printer(stores, rest, into),

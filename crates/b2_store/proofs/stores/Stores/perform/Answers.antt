@@ -47,3 +47,6 @@ returns-in-OpenDevices-clause-done c = subst (λ a. Does c.args.who a c.args.sel
 
 pub returns-in-CloseDevices-clause-done : goal.returns-in-CloseDevices-clause-done
 returns-in-CloseDevices-clause-done c = subst (λ a. Does c.args.who a c.args.self.now c.close_devices.new.self c.close_devices.result) (sym c.in-CloseDevices.is) c.close_devices.ensures
+
+pub returns-in-FindPart-clause-done : goal.returns-in-FindPart-clause-done
+returns-in-FindPart-clause-done c = subst (λ a. Does c.args.who a c.args.self.now c.args.self.now c.find_part.result) (sym c.in-FindPart.is) (c.find_part.ensures c.args.who)
