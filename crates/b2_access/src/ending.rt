@@ -9,7 +9,7 @@ use b2_base::{Code, Fault, NoMemory};
 
 /// A fault with its code, where memory didn't fail.
 pub fn failing(fault: Fault) -> Result<Outcome, NoMemory>
-    ensures { IfOk result (λ o. FailsWith fault o) }
+    ensures fails { IfOk result (λ o. FailsWith fault o) }
     ensures memory { IfErr result (λ _. fault ≡ of_fault.NoMemory) }
 {
     match fault {

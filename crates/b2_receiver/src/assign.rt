@@ -139,7 +139,7 @@ pub fn is_reached(outcome: &Result<(), Fault>) -> bool
 
 /// The code of a fault, where memory didn't fail.
 pub fn code_of_fault(fault: Fault) -> Result<Option<Code>, NoMemory>
-    ensures { IfOk result (λ code. HasCode fault code) }
+    ensures code { IfOk result (λ code. HasCode fault code) }
     ensures memory { IfErr result (λ _. fault ≡ of_fault.NoMemory) }
 {
     match fault {
@@ -150,7 +150,7 @@ pub fn code_of_fault(fault: Fault) -> Result<Option<Code>, NoMemory>
 
 /// The code with which an assignment ended, None where it ended well, where memory didn't fail.
 pub fn code_of(ended: Result<(), Fault>) -> Result<Option<Code>, NoMemory>
-    ensures { IfOk result (λ code. EndsWith ended code) }
+    ensures code { IfOk result (λ code. EndsWith ended code) }
     ensures memory { IfErr result (λ _. ended ≡ Err of_fault.NoMemory) }
 {
     match ended {

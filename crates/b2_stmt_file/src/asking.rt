@@ -8,7 +8,7 @@ use b2_base::{Code, Fault};
 
 /// What is asked for, or a code as a fault.
 pub fn or_fault(asked: Result<Access, Code>) -> Result<Access, Fault>
-    ensures { GivesAccess asked result }
+    ensures given { GivesAccess asked result }
     ensures memory { IfErr result (λ fault. fault ≢ of_fault.NoMemory) }
 {
     match asked {

@@ -21,7 +21,7 @@ returns-in-Err-values_at-clause-worked c =
     let refused =
     subst (λ (s : Surroundings). IsRefused (each_of (value_of (in_statement s)) (items_at row.COMMA_OPERAND row.OPERAND_OF_ANY_KIND (drop 1 (after_part row.BUFFER c.args.text.now)))) c.in-Err-values_at.fault) c.surroundings_of-2.ensures
     (subst (λ (t : Text). IsRefused (each_of (value_of (in_statement (surroundings c.surroundings_of-2.result))) (items_at row.COMMA_OPERAND row.OPERAND_OF_ANY_KIND t)) c.in-Err-values_at.fault) here c.in-Err-values_at.ensures.refused) in
-    ok_map c.code_of_fault.result _ _ (λ code coded. packs_refused (values_packed c.args.pairs.now) _ c.in-Ok.to _ c.in-Err-values_at.fault code _ found refused coded) c.code_of_fault.ensures
+    ok_map c.code_of_fault.result _ _ (λ code coded. packs_refused (values_packed c.args.pairs.now) _ c.in-Ok.to _ c.in-Err-values_at.fault code _ found refused coded) c.code_of_fault.ensures.code
 
 pub returns-in-Ok-values_at-clause-worked : goal.returns-in-Ok-values_at-clause-worked
 returns-in-Ok-values_at-clause-worked c =

@@ -20,4 +20,4 @@ returns-in-Err-numbers_at-clause-worked c =
     let refused =
     subst (λ (s : Surroundings). IsRefused (each_of (number_of (in_statement s)) (items_at row.COMMA_NUMBER row.SUM (drop 1 (after_part row.BUFFER c.args.text.now)))) c.in-Err-numbers_at.fault) c.surroundings_of-2.ensures
     (subst (λ (t : Text). IsRefused (each_of (number_of (in_statement (surroundings c.surroundings_of-2.result))) (items_at row.COMMA_NUMBER row.SUM t)) c.in-Err-numbers_at.fault) here c.in-Err-numbers_at.ensures.refused) in
-    ok_map c.code_of_fault.result _ _ (λ code coded. packs_refused (numbers_packed c.args.image.now) _ c.in-Ok.to _ c.in-Err-numbers_at.fault code _ found refused coded) c.code_of_fault.ensures
+    ok_map c.code_of_fault.result _ _ (λ code coded. packs_refused (numbers_packed c.args.image.now) _ c.in-Ok.to _ c.in-Err-numbers_at.fault code _ found refused coded) c.code_of_fault.ensures.code
