@@ -25,10 +25,34 @@ make_work_folder() {
     work=$(mktemp -d /dev/shm/b2.XXXXXX 2>/dev/null) || work=$(mktemp -d) || fail 2 "no folder for the outputs can be made"
 }
 
-# A boot file of one partition with the largest areas.
+# A boot file of one partition with the largest areas. It has a disk or a printer where `disk` or `printer` names a file: the disk
+# begins as the file `disk` of the work folder, blank where that isn't there.
+disk= printer=
 write_boot() { # FILE QUOTA
     printf '%s\n' "quota = $2" '' '[[terminal]]' 'number = 1' 'front = 1' '' \
         '[[partition]]' 'number = 1' 'terminal = 1' 'text = 24' 'data = 24' 'globals = 8' >"$1"
+    if [ -n "$disk" ]; then
+        printf '%s\n' 'disk = "D11"' '' '[[platter]]' 'address = "D11"' >>"$1"
+        if [ -e "$work/disk" ]; then echo 'image = "disk"' >>"$1"; else echo 'blank = 1024' >>"$1"; fi
+    fi
+    [ -z "$printer" ] || printf '%s\n' '' '[[printer]]' 'address = "215"' >>"$1"
+}
+
+# Takes the image of the disk, where the user's file is there, before anything is run.
+take_disk() {
+    [ -n "$disk" ] || return 0
+    disk=$(readlink -f -- "$disk") || fail 2 "there is no folder for the disk"
+    [ ! -e "$disk" ] || { is_readable_file "$disk" && cp -- "$disk" "$work/disk"; } || fail 2 "$disk can't be read"
+}
+
+# A file takes what a run wrote through a new one beside it, so that it stays whole until that is.
+put_file() { # FROM TO
+    cp -- "$1" "$2~" && mv -f -- "$2~" "$2"
+}
+
+# Leaves what the last run wrote on the disk and at the printer.
+put_devices() {
+    { [ -z "$disk" ] || put_file "$work/out.D11" "$disk"; } && { [ -z "$printer" ] || put_file "$work/out.p215" "$printer"; }
 }
 
 # Runs the log and the lines that are given here after it. Sets `rise` to the steps that counted beyond `steps`; or sets

@@ -1,4 +1,4 @@
-# The commands type, try, run and alone, on good and bad input.
+# The commands type, try, vary, run and alone, on good and bad input.
 
 # A text of N bytes.
 bytes() { # N
@@ -214,6 +214,108 @@ try_keeps() {
     gives 2 "try --keep in a file's place" ./b2 try --keep shown/x listing.bas
 }
 
+# How often an output came out otherwise.
+otherwise_in() { # OUTPUT
+    sed -n "s/^$1: otherwise in \([0-9]*\) of .*/\1/p" "$work/out"
+}
+
+vary_finds_what_depends_on_the_order() {
+    gives 20 "vary: a lost update" ./b2 vary examples/orders.toml examples/lost.log 50
+    is_empty "vary: a lost update" "$work/err"
+    if [ "$(otherwise_in 'terminal 1')" -gt 25 ]; then ok; else bad "vary: a lost update" "not in most orders: $(cat "$work/out")"; fi
+    if [ "$(otherwise_in 'terminal 2')" = 0 ]; then ok; else bad "vary: a lost update" "$(cat "$work/out")"; fi
+    has "vary: a lost update" "$work/out" 'vary.log is the first log under which something came out otherwise'
+    cp vary.log first.log && cp "$work/out" told
+    gives 20 "vary: the same orders once more" ./b2 vary examples/orders.toml examples/lost.log 50
+    same "vary: the same seed, the same orders" "$work/out" told
+    same "vary: the same seed, the same log" vary.log first.log
+    gives 20 "vary: another seed" ./b2 vary --seed 2 examples/orders.toml examples/lost.log 50
+    if cmp -s vary.log first.log; then bad "vary: another seed" "the same log"; else ok; fi
+    gives 20 "vary: the same orders a third time" ./b2 vary examples/orders.toml examples/lost.log 50
+    gives 0 "vary: what is kept runs" ./b2 run examples/orders.toml vary.log out
+    if grep -q '^THERE ARE [1-9] $' out.t01; then ok; else bad "vary: what is kept shows the loss" "$(tail -n 3 out.t01)"; fi
+    gives 0 "vary: a disk that is taken" ./b2 vary examples/orders.toml examples/counted.log 50
+    is_text "vary: a disk that is taken" "$work/out" \
+        'terminal 1: otherwise in 0 of 50\nterminal 2: otherwise in 0 of 50\ndisk D11: otherwise in 0 of 50\n'
+    gives 20 "vary: a printer" ./b2 vary examples/printers.toml examples/mixed.log 50
+    if [ "$(otherwise_in 'printer 215')" -gt 25 ]; then ok; else bad "vary: a printer" "$(cat "$work/out")"; fi
+}
+
+# One order again shows what its log does.
+vary_shows_an_order() {
+    gives 20 "vary --show" ./b2 vary --show 3 examples/printers.toml examples/mixed.log
+    cp "$work/out" shown
+    gives 0 "vary --show: its log runs" ./b2 run examples/printers.toml vary.log out
+    { printf -- '-- terminal 1\n' && cat out.t01 && echo; } >wanted
+    same "vary --show: the first terminal" <(head -c "$(wc -c <wanted)" shown) wanted
+    { printf -- '-- printer 215, otherwise\n' && cat out.p215; } >wanted
+    same "vary --show: the printer" <(tail -c "$(wc -c <wanted)" shown) wanted
+}
+
+# What two partitions show that have nothing in common doesn't differ, whatever they do.
+vary_leaves_alone_what_is_apart() {
+    local line
+    printf '%s\n' '10 FOR I=1 TO 9:$BREAK:NEXT I:PRINT "DONE"' '20 INPUT "N",N:PRINT N*N' '30 X=X+1:GOTO 30' >loops.bas
+    {
+        ./b2 type 1 loops.bas
+        ./b2 type 2 loops.bas
+        for line in 'type 1 RUN' 'type 2 RUN' 'rounds 30' 'type 1 7' 'rounds 3' 'type 2 9' 'rounds 5' 'halt 1' 'rounds 2' 'halt 2' \
+            'turn 2 3' 'rounds 2' 'type 1 PRINT X>0' 'type 2 PRINT X>0' 'rounds 2'; do echo "$line"; done
+    } >loops.log
+    gives 0 "vary: nothing in common" ./b2 vary examples/two.toml loops.log 40
+    is_text "vary: nothing in common" "$work/out" 'terminal 1: otherwise in 0 of 40\nterminal 2: otherwise in 0 of 40\n'
+    gives 0 "vary: one partition" ./b2 vary examples/first.toml examples/count.log 5
+    gives 0 "vary: a shared terminal" ./b2 vary examples/front.toml examples/front.log 5
+    printf 'turn 1 1\nturn 2 1\ntype 1 PRINT 1\nturn 1 9\n' >turns.log
+    gives 0 "vary: turns alone" ./b2 vary examples/two.toml turns.log 5
+}
+
+vary_refuses() {
+    local words
+    echo 'rounds 2' >rounds.log
+    for words in '' 'examples/two.toml' 'examples/two.toml rounds.log 0' 'examples/two.toml rounds.log 10001' \
+        'examples/two.toml rounds.log 5 5' 'nofile rounds.log' 'examples/two.toml nofile' '--seed 0 examples/two.toml rounds.log' \
+        '--seed x examples/two.toml rounds.log' '--show 0 examples/two.toml rounds.log' '--fast examples/two.toml rounds.log' \
+        'rounds.log rounds.log' '--seed'; do
+        # shellcheck disable=SC2086
+        gives 2 "vary $words" ./b2 vary $words
+        is_empty "vary $words" "$work/out"
+    done
+    gives 0 "vary --help" ./b2 vary --help
+    echo 'sing 1' >bad.log
+    gives 5 "vary: a bad log" ./b2 vary examples/two.toml bad.log
+    is_text "vary: a bad log" "$work/err" 'vary: bad log 1 2\n'
+    sed 's/^quota = .*/quota = 1/' examples/two.toml >slow.toml
+    for words in 1 2 3 4 5; do echo 'rounds 100000'; done >long.log
+    gives 2 "vary: a log that is too long" ./b2 vary slow.toml long.log
+    has "vary: a log that is too long" "$work/err" 'vary: with a line for each turn the log has up to 10000000 bytes, and at most 4194304 are taken'
+}
+
+try_has_devices() {
+    rm -f my.disk report.txt
+    printf '10 DATASAVE DC OPEN T,#1,5,"KEPT":DATASAVE DC #1,7:DATASAVE DC #1,END\n20 SELECT PRINT 215:PRINT "A REPORT"\n' >listing.bas
+    gives 0 "try --disk of a new disk" ./b2 try --disk my.disk --printer report.txt listing.bas
+    if [ "$(wc -c <my.disk)" = 262144 ]; then ok; else bad "try --disk of a new disk" "$(wc -c <my.disk) bytes"; fi
+    is_text "try --printer" report.txt 'A REPORT\n'
+    cp my.disk before
+    printf '10 DATALOAD DC OPEN T,#1,"KEPT":DATALOAD DC #1,N:PRINT N\n20 SCRATCH T,"KEPT"\n' >listing.bas
+    gives 0 "try --disk of the disk that was left" ./b2 try --disk my.disk --keep kept/disk listing.bas
+    is_text "try --disk of the disk that was left" "$work/out" 'RUN\n 7 \n:'
+    if cmp -s my.disk before; then bad "try --disk" "the disk is as it was"; else ok; fi
+    gives 0 "try --disk --keep runs again" ./b2 run kept/disk/boot.toml kept/disk/log again
+    same "try --disk --keep runs again" again.t01 kept/disk/out.t01
+    same "try --disk --keep leaves the same disk" again.D11 my.disk
+    echo x >bad.disk
+    gives 6 "try --disk of no image" ./b2 try --disk bad.disk listing.bas
+    is_text "try --disk of no image" "$work/err" 'try: bad image D11 1\n'
+    is_text "try --disk of no image leaves it" bad.disk 'x\n'
+    gives 2 "try --disk of a folder" ./b2 try --disk kept listing.bas
+    gives 2 "try --disk in no folder" ./b2 try --disk nofolder/my.disk listing.bas
+    gives 2 "try --printer in no folder" ./b2 try --printer nofolder/report listing.bas
+    gives 2 "try --disk without a file" ./b2 try --disk
+    gives 2 "try --keep of a disk in a folder of another form" ./b2 try --disk my.disk --keep 'a b' listing.bas
+}
+
 type_spells_a_log
 type_refuses
 long_lines_are_typed
@@ -224,3 +326,8 @@ try_gives_special_keys
 try_ends_with_its_status
 try_refuses
 try_keeps
+try_has_devices
+vary_finds_what_depends_on_the_order
+vary_shows_an_order
+vary_leaves_alone_what_is_apart
+vary_refuses
