@@ -1,6 +1,6 @@
 -- Which answers stop an access, and by whom.
 use Rattle.std.specs.Prelude.{◌≡◌, ◌↔◌, ◌<◌, ℕ, nat_lt, Bool, true, false, List, Option, Some, None, Result, Ok, Err, refl, if◌then◌else◌}
-use Rattle.std.proofs.Common.{sym, ap, ◌∙◌, inl, arith}
+use Rattle.std.proofs.Common.{sym, ap, ◌∙◌, inl, inr, arith}
 use Rattle.std.proofs.lemmas.Bool.{false≢true}
 use Rattle.std.proofs.lemmas.Bool.Decides.{nat_tests}
 use Rattle.b2_base.specs.declared.codes.TheConstants.{A01_TEXT_AREA, X78_NAME_HELD}
@@ -11,7 +11,7 @@ use Rattle.b2_access.specs.declared.accesses.Access.{Access}
 use Rattle.b2_access.specs.declared.accesses.Access.TheVariants as access
 use Rattle.b2_access.specs.declared.accesses.Answer.{Answer}
 use Rattle.b2_access.specs.declared.accesses.Answer.TheVariants as answer
-use Rattle.b2_access.specs.AccessRows.{DeclareTask, EditTask, becomes, changes_image, declares, erases, finds, finds_in_image, gives_up, gives_up_if, is_held_by, is_held_by_other, loaded_answer, loads, loads_from, loads_text, moves, moves_from, moves_to, no_file, puts_atoms, row, saves, saves_in, saves_text, says_or_refuses, takes_name}
+use Rattle.b2_access.specs.AccessRows.{DeclareTask, EditTask, becomes, becomes_text, changes_image, declares, erases, finds, finds_in_image, gives_up, gives_up_if, holds_name, is_held_by, is_held_by_other, loaded_answer, loads, loads_from, loads_text, moves, moves_from, moves_to, no_file, puts_atoms, row, saves, saves_in, saves_text, says_or_refuses, takes_name}
 use Rattle.b2_access.specs.Causes.{GivesCode, GivesCodeOf, IsFullFor, LocksForTheFirst, MeetsCode, MeetsNobody, MissesNobodyElse, RefusesWithTheCode, WaitsForTheFirst}
 use Rattle.b2_access.specs.AnswerKinds.{stops}
 use Rattle.b2_access.specs.Disks.{DiskWork, Loaded}
@@ -116,7 +116,7 @@ same_giving_up : {reached written : List Object} (who : ℕ) (name : Option (Lis
 same_giving_up who None looked told t s = refl
 same_giving_up {reached} {written} who (Some name) looked told t s = by (is_held_by who (content s (object.Name name)))
   where
-    by : (own : Bool) → (performs (gives_up_if {reached} {written} own name (told (object.Name name) (inl refl)) t) s).answer ≡ (performs t s).answer
+    by : (own : Bool) → (performs (gives_up_if {reached = reached} {written = written} own name (told (object.Name name) (inl refl)) t) s).answer ≡ (performs t s).answer
     by true = same_answer (object.Name name) (told (object.Name name) (inl refl)) None t s
     by false = refl
 
@@ -126,7 +126,7 @@ program_refuses who c addr declared made s None = (λ e. absurd (no_code c answe
 program_refuses who c addr declared made s (Some image) = by (content s (object.Text who))
   where
     made_by : (r : Result TextState ℕ) → ((performs (loads who addr declared r) s).answer ≡ answer.Refused c) ↔ (r ≡ Err c)
-    made_by (Ok new) = (λ e. absurd (no_code c answer.Done refl (sym (same_giving_up who declared _ _ (puts (object.Text who) (inl refl) new answer.Done) s) ∙ e)), λ e. cc)
+    made_by (Ok new) = (λ e. absurd (no_code c answer.Done refl (sym (same_giving_up who declared (λ o i. inr (inr (inr (inr i)))) (λ o i. inr i) (becomes_text who addr declared new) s) ∙ e)), λ e. cc)
     made_by (Err code) = (λ e. ap Err (same_code c code e), λ e. ap answer.Refused (err_code c code e))
 
     by : (t : Option TextState) → ((performs (loads_text who addr declared made image t) s).answer ≡ answer.Refused c) ↔ GivesCodeOf c made (Some image) t
@@ -148,7 +148,7 @@ move_refuses c from to made s (Some image) = by (content s (object.Platter to))
 
 -- a name that is declared
 taken_never : (who c : ℕ) (name : List ℕ) (old : Option (List ℕ)) (s : StoreState) → (performs (takes_name who name old) s).answer ≡ answer.Refused c → ⊥
-taken_never who c name old s e = no_code c answer.Done refl (sym (same_giving_up who old _ _ (puts (object.Name name) (inl refl) (Some who) answer.Done) s) ∙ e)
+taken_never who c name old s e = no_code c answer.Done refl (sym (same_giving_up who old (λ o i. inr i) (λ o i. inr i) (holds_name who name old) s) ∙ e)
 
 declaring_refuses : (who c : ℕ) (name : List ℕ) (old : Option (List ℕ)) (s : StoreState) (h : Option (Option ℕ))
     → ((performs (declares who name old h) s).answer ≡ answer.Refused c) ↔ ((c ≡ X78_NAME_HELD) × (is_held_by_other who h ≡ true))

@@ -58,6 +58,6 @@ pub gives_up_first : {ts ws : List Object} (who : ℕ) (name : Option (List ℕ)
 gives_up_first who None looked told t s w h = refl
 gives_up_first {ts} {ws} who (Some name) looked told t s w h = by (is_held_by who (content s (object.Name name)))
   where
-    by : (own : Bool) → performs_on (gives_up_if {ts} {ws} own name (told (object.Name name) (inl refl)) t) s w ≡ performs_on t s (if own then put (object.Name name) None w else w)
+    by : (own : Bool) → performs_on (gives_up_if {reached = ts} {written = ws} own name (told (object.Name name) (inl refl)) t) s w ≡ performs_on t s (if own then put (object.Name name) None w else w)
     by true = also_first (object.Name name) (told (object.Name name) (inl refl)) None t s w h
     by false = refl

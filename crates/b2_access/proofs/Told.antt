@@ -15,13 +15,13 @@ use Rattle.b2_access.specs.declared.accesses.Access.{Access}
 use Rattle.b2_access.specs.declared.accesses.Access.TheVariants as access
 use Rattle.b2_access.specs.declared.accesses.Answer.{Answer}
 use Rattle.b2_access.specs.declared.accesses.Answer.TheVariants as answer
-use Rattle.b2_access.specs.AccessRows.{becomes, changes_image, clears, clears_both, clears_text, declares, finds, finds_in_image, frees, frees_if, gives_up, gives_up_if, is_held_by, is_held_by_other, key_answer, line_answer, loaded_answer, loads, loads_from, moves, moves_from, no_file, puts_atoms, puts_line, reach, row, saves, saves_in, says_or_refuses, takes, takes_name}
+use Rattle.b2_access.specs.AccessRows.{becomes, becomes_text, changes_image, clears, clears_both, clears_own, clears_text, declares, finds, finds_in_image, frees, frees_if, gives_up, gives_up_if, holds_name, is_held_by, is_held_by_other, key_answer, line_answer, loaded_answer, loads, loads_from, moves, moves_from, no_file, puts_atoms, puts_line, reach, row, saves, saves_in, says_or_refuses, takes, takes_name}
 use Rattle.b2_access.specs.AnswerKinds.{is_done, is_done_or_code, is_of_key, is_of_line, is_of_loading, is_of_opening, is_of_place, is_of_search, stops}
 use Rattle.b2_access.specs.Answering.{RowsTellTheirAnswers, TellsOnly}
 use Rattle.b2_access.specs.Disks.{Loaded, Made}
 use Rattle.b2_access.specs.Reach.{device_objects, objects_held, objects_named, objects_reached, to_free, to_take}
 use Rattle.b2_access.specs.Store.{ContentOf, IsIn}
-use Rattle.b2_access.specs.Task.{AreIn, Task, Look, Tell, Refuse, Missing, also_puts, puts, wider}
+use Rattle.b2_access.specs.Task.{AreIn, Task, Look, Tell, Refuse, Missing, also_puts, wider}
 use Rattle.b2_access.proofs.Choice.{either}
 
 of_line : (r : Read) → (is_of_line (line_answer r) ≡ true) × (stops (line_answer r) ≡ false)
@@ -62,7 +62,7 @@ of_giving_up : {reached written : List Object} (tells : Answer → Bool) (who : 
 of_giving_up tells who None looked told t h = h
 of_giving_up {reached} {written} tells who (Some name) looked told t h = λ c. by (is_held_by who c)
   where
-    by : (own : Bool) → TellsOnly tells (gives_up_if {reached} {written} own name (told (object.Name name) (inl refl)) t)
+    by : (own : Bool) → TellsOnly tells (gives_up_if {reached = reached} {written = written} own name (told (object.Name name) (inl refl)) t)
     by true = tells_also tells (object.Name name) (told (object.Name name) (inl refl)) None t h
     by false = h
 
@@ -75,7 +75,7 @@ of_text who name None = (refl, refl)
 of_text who name (Some t) = of_both who name t
 
 of_clearing : (who : ℕ) (name : Option (List ℕ)) → TellsOnly is_done (clears who name)
-of_clearing who name = of_giving_up is_done who name _ _ (Look (object.Text who) (inr (inl refl)) (clears_text who name)) (of_text who name)
+of_clearing who name = of_giving_up is_done who name (λ o i. inr (inr (inr i))) (λ o i. inr (inr i)) (clears_own who name) (of_text who name)
 
 -- an answer that a row tells, and that stops nothing
 abbrev IsTelling : (Answer → Bool) → Answer → Type 0
@@ -118,7 +118,7 @@ of_program who addr declared made None = (refl, refl)
 of_program who addr declared made (Some image) = elim [ None ↦ (refl, refl) | Some t ↦ by (made image t) ]
   where
     by : (r : Result TextState ℕ) → TellsOnly is_done_or_code (loads who addr declared r)
-    by (Ok new) = of_giving_up is_done_or_code who declared _ _ (puts (object.Text who) (inl refl) new answer.Done) (refl, refl)
+    by (Ok new) = of_giving_up is_done_or_code who declared (λ o i. inr (inr (inr (inr i)))) (λ o i. inr i) (becomes_text who addr declared new) (refl, refl)
     by (Err code) = refl
 
 of_moving : (from to : List ℕ) (made : List ℕ → List ℕ → Result (List ℕ) ℕ) (c : Option (List ℕ)) → TellsOnly is_done_or_code (moves_from from to made c)
@@ -142,7 +142,7 @@ of_freeing who (a ∷ addrs) = λ h. by (is_held_by who h) (tells_wider is_done 
     by false rest = rest
 
 of_declaring : (who : ℕ) (name : List ℕ) (old : Option (List ℕ)) → TellsOnly is_done_or_code (takes_name who name old)
-of_declaring who name old = of_giving_up is_done_or_code who old _ _ (puts (object.Name name) (inl refl) (Some who) answer.Done) (refl, refl)
+of_declaring who name old = of_giving_up is_done_or_code who old (λ o i. inr i) (λ o i. inr i) (holds_name who name old) (refl, refl)
 
 of_search : (name : List ℕ) (h : Option (Option ℕ)) → TellsOnly is_of_search (finds name h)
 of_search name None = refl

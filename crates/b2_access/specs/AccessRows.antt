@@ -24,6 +24,7 @@ use Rattle.b2_access.specs.Disks.{DiskWork, FourNumbers, Loaded, Made}
 use Rattle.b2_access.specs.Reach.{Reach, at_disk, at_disks, at_names, at_printer, at_terminal, disk_and_text, if_any, objects_held, objects_named, objects_reached, objects_written, own_text, to_free, to_take}
 use Rattle.b2_access.specs.declared.reached.TextUse.TheVariants as text
 use Rattle.b2_access.specs.declared.reached.Written.{Written}
+use Rattle.b2_access.specs.Store.{IsIn}
 use Rattle.b2_access.specs.Task.{AreIn, Task, Look, Tell, Refuse, Missing, also_puts, answers, puts, wider}
 
 -- A row. What is reached is the same for all partitions and in all stores; what is written and done is so for the one that asks. What
@@ -121,8 +122,11 @@ abbrev pub clears_text : (who : ℕ) (name : Option (List ℕ)) → Option TextS
 clears_text who name None = answers answer.Done
 clears_text who name (Some t) = Look (object.Globals who) (inr (inr (inl refl))) (clears_both who name t)
 
+abbrev pub clears_own : (who : ℕ) (name : Option (List ℕ)) → ClearTask who name
+clears_own who name = Look (object.Text who) (inr (inl refl)) (clears_text who name)
+
 abbrev pub clears : (who : ℕ) (name : Option (List ℕ)) → ClearTask who name
-clears who name = gives_up who name (λ o i. inr (inr (inr i))) (λ o i. inr (inr i)) (Look (object.Text who) (inr (inl refl)) (clears_text who name))
+clears who name = gives_up who name (λ o i. inr (inr (inr i))) (λ o i. inr (inr i)) (clears_own who name)
 
 -- the row of an access of one terminal, and that of an edit
 abbrev pub terminal_row : (term : ℕ) → (Answer → Bool) → (Option TerminalState → TerminalTask term) → AccessRow
@@ -211,8 +215,11 @@ saves_in who addr made (Some image) = Look (object.Text who) (inl refl) (saves_t
 abbrev pub LoadTask : ℕ → List ℕ → Option (List ℕ) → Type 0
 LoadTask who addr declared = Task (object.Borrow who ∷ object.Text who ∷ object.Hog addr ∷ object.Platter addr ∷ objects_named declared) (object.Text who ∷ objects_named declared)
 
+abbrev pub becomes_text : (who : ℕ) (addr : List ℕ) (declared : Option (List ℕ)) → TextState → LoadTask who addr declared
+becomes_text who addr declared t = puts (object.Text who) (inl refl) t answer.Done
+
 abbrev pub loads : (who : ℕ) (addr : List ℕ) (declared : Option (List ℕ)) → Result TextState ℕ → LoadTask who addr declared
-loads who addr declared (Ok t) = gives_up who declared (λ o i. inr (inr (inr (inr i)))) (λ o i. inr i) (puts (object.Text who) (inl refl) t answer.Done)
+loads who addr declared (Ok t) = gives_up who declared (λ o i. inr (inr (inr (inr i)))) (λ o i. inr i) (becomes_text who addr declared t)
 loads who addr declared (Err code) = Refuse code
 
 abbrev pub loads_text : (who : ℕ) (addr : List ℕ) (declared : Option (List ℕ)) → (List ℕ → TextState → Result TextState ℕ) → List ℕ → Option TextState → LoadTask who addr declared
@@ -279,8 +286,11 @@ abbrev pub DeclareTask : List ℕ → Option (List ℕ) → Type 0
 DeclareTask name old = Task (map object.Name (names_of name old)) (map object.Name (names_of name old))
 
 -- it is held by who asks, and the other is given up
+abbrev pub holds_name : (who : ℕ) (name : List ℕ) (old : Option (List ℕ)) → DeclareTask name old
+holds_name who name old = puts (object.Name name) (inl refl) (Some who) answer.Done
+
 abbrev pub takes_name : (who : ℕ) (name : List ℕ) (old : Option (List ℕ)) → DeclareTask name old
-takes_name who name old = gives_up who old (λ o i. inr i) (λ o i. inr i) (puts (object.Name name) (inl refl) (Some who) answer.Done)
+takes_name who name old = gives_up who old (λ o i. inr i) (λ o i. inr i) (holds_name who name old)
 
 abbrev pub declares : (who : ℕ) (name : List ℕ) (old : Option (List ℕ)) → Option (Option ℕ) → DeclareTask name old
 declares who name old h = if is_held_by_other who h then Refuse X78_NAME_HELD else takes_name who name old

@@ -7,16 +7,15 @@ use Rattle.b2_vars.specs.Tables.{VarsState}
 use Rattle.b2_access.specs.declared.accesses.Access.TheVariants as access
 use Rattle.b2_access.specs.declared.accesses.Answer.TheVariants as answer
 use Rattle.b2_access.specs.declared.objects.Object.{Object}
-use Rattle.b2_access.specs.declared.objects.Object.TheVariants as object
-use Rattle.b2_access.specs.AccessRows.{DeclareTask, clears, clears_both, clears_text, gives_up, is_held_by, is_held_by_other, loads, row, takes_name}
+use Rattle.b2_access.specs.AccessRows.{DeclareTask, becomes_text, clears, clears_both, clears_own, clears_text, gives_up, holds_name, is_held_by, is_held_by_other, loads, row, takes_name}
 use Rattle.b2_access.specs.AnswerKinds.{is_done}
 use Rattle.b2_access.specs.Answering.{TellsOnly}
 use Rattle.b2_access.specs.Reach.{objects_named}
 use Rattle.b2_access.specs.Rows.{NameRows, row_of, with_name_row, with_row}
 use Rattle.b2_access.specs.Serving.{performs}
 use Rattle.b2_access.specs.Sharing.{Gives}
-use Rattle.b2_access.specs.Store.{StoreState, content}
-use Rattle.b2_access.specs.Task.{AreIn, Look, Refuse, Task, puts}
+use Rattle.b2_access.specs.Store.{StoreState}
+use Rattle.b2_access.specs.Task.{AreIn, Refuse, Task}
 use Rattle.b2_access.proofs.Holders.{given_up, gives_up_first, performs_on, performs_same}
 use Rattle.b2_access.proofs.Told.{of_text}
 use Rattle.b2_store.specs.DiskWork.{disks}
@@ -46,7 +45,7 @@ left who name looked told t s h =
 module _ (who : ℕ) (s : StoreState) where
   -- a name that is declared
   taken : (name : List ℕ) (old : Option (List ℕ)) → performs (takes_name who name old) s ≡ done (with_names (named who name old s.names) s)
-  taken name old = left who old _ _ (puts (object.Name name) (inl refl) (Some who) answer.Done) s (refl, refl)
+  taken name old = left who old (λ o i. inr i) (λ o i. inr i) (holds_name who name old) s (refl, refl)
 
   abbrev by_holder : (name : List ℕ) (old : Option (List ℕ)) → Bool → DeclareTask name old
   by_holder name old other = if other then Refuse X78_NAME_HELD else takes_name who name old
@@ -62,7 +61,7 @@ module _ (who : ℕ) (s : StoreState) where
   -- a program that is loaded
   pub loaded : (addr : List ℕ) (name : Option (List ℕ)) (t : TextState)
       → performs (loads who addr name (Ok t)) s ≡ done (record s { texts = with_row who s.texts t; names = without_name who name s.names })
-  loaded addr name t = left who name _ _ (puts (object.Text who) (inl refl) t answer.Done) s (refl, refl)
+  loaded addr name t = left who name (λ o i. inr (inr (inr (inr i)))) (λ o i. inr i) (becomes_text who addr name t) s (refl, refl)
 
   -- all that is cleared, once the name is given up
   same_clearing : (name : Option (List ℕ)) (rows : NameRows) (t : Option TextState) → performs_on (clears_text who name t) s (with_names rows s) ≡ performs (clears_text who None t) (with_names rows s)
@@ -75,6 +74,6 @@ module _ (who : ℕ) (s : StoreState) where
 
   pub cleared : (name : Option (List ℕ)) → performs (clears who None) (with_names (without_name who name s.names) s) ≡ performs (clears who name) s
   cleared name = sym (
-    left who name _ _ (Look (object.Text who) (inr (inl refl)) (clears_text who name)) s (of_text who name)
+    left who name (λ o i. inr (inr (inr i))) (λ o i. inr (inr i)) (clears_own who name) s (of_text who name)
     ∙ same_clearing name (without_name who name s.names) (row_of who s.texts)
   )
