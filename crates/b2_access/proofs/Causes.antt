@@ -1,23 +1,25 @@
 -- Which answers stop an access, and by whom.
 use Rattle.std.specs.Prelude.{◌≡◌, ◌↔◌, ◌<◌, ℕ, nat_lt, Bool, true, false, List, Option, Some, None, Result, Ok, Err, refl, if◌then◌else◌}
-use Rattle.std.proofs.Common.{sym, ap, ◌∙◌, inl, arith}
+use Rattle.std.proofs.Common.{sym, ap, ◌∙◌, inl, inr, arith}
 use Rattle.std.proofs.lemmas.Bool.{false≢true}
 use Rattle.std.proofs.lemmas.Bool.Decides.{nat_tests}
 use Rattle.b2_base.specs.declared.codes.TheConstants.{A01_TEXT_AREA, X78_NAME_HELD}
 use Rattle.b2_text.specs.Program.{TextState, size_of, with_line}
+use Rattle.b2_access.specs.declared.objects.Object.{Object}
 use Rattle.b2_access.specs.declared.objects.Object.TheVariants as object
 use Rattle.b2_access.specs.declared.accesses.Access.{Access}
 use Rattle.b2_access.specs.declared.accesses.Access.TheVariants as access
 use Rattle.b2_access.specs.declared.accesses.Answer.{Answer}
 use Rattle.b2_access.specs.declared.accesses.Answer.TheVariants as answer
-use Rattle.b2_access.specs.AccessRows.{DeclareTask, EditTask, becomes, changes_image, declares, erases, finds, finds_in_image, gives_up_if, is_held_by, is_held_by_other, loaded_answer, loads, loads_from, loads_text, moves, moves_from, moves_to, no_file, puts_atoms, row, saves, saves_in, saves_text, says_or_refuses, takes_name}
+use Rattle.b2_access.specs.AccessRows.{DeclareTask, EditTask, becomes, becomes_text, changes_image, declares, erases, finds, finds_in_image, gives_up, gives_up_if, holds_name, is_held_by, is_held_by_other, loaded_answer, loads, loads_from, loads_text, moves, moves_from, moves_to, no_file, puts_atoms, row, saves, saves_in, saves_text, says_or_refuses, takes_name}
 use Rattle.b2_access.specs.Causes.{GivesCode, GivesCodeOf, IsFullFor, LocksForTheFirst, MeetsCode, MeetsNobody, MissesNobodyElse, RefusesWithTheCode, WaitsForTheFirst}
 use Rattle.b2_access.specs.AnswerKinds.{stops}
 use Rattle.b2_access.specs.Disks.{DiskWork, Loaded}
 use Rattle.b2_access.specs.Loans.{holder_of}
+use Rattle.b2_access.specs.Reach.{objects_named}
 use Rattle.b2_access.specs.Serving.{performs}
-use Rattle.b2_access.specs.Store.{StoreState, content}
-use Rattle.b2_access.specs.Task.{Refuse, puts}
+use Rattle.b2_access.specs.Store.{ContentOf, IsIn, StoreState, content}
+use Rattle.b2_access.specs.Task.{AreIn, Task, Look, Tell, Refuse, Missing, also_puts, puts}
 use Rattle.b2_access.proofs.RowLaws.{locks, misses, refuses, waits}
 use Rattle.b2_access.proofs.TaskLaws.{is_told}
 use Rattle.b2_access.proofs.Told.{rows_tell_their_answers}
@@ -102,16 +104,32 @@ save_refuses who c addr made s (Some image) = by (content s (object.Text who))
     by None = (λ e. absurd (no_code c answer.Done refl e), λ h. absurd h)
     by (Some t) = made_by (made t image)
 
-program_refuses : (who c : ℕ) (addr : List ℕ) (made : List ℕ → TextState → Result TextState ℕ) (s : StoreState) (image : Option (List ℕ))
-    → ((performs (loads_from who addr made image) s).answer ≡ answer.Refused c) ↔ GivesCodeOf c made image (content s (object.Text who))
-program_refuses who c addr made s None = (λ e. absurd (no_code c answer.Done refl e), λ h. absurd h)
-program_refuses who c addr made s (Some image) = by (content s (object.Text who))
+-- what gives up a name answers what it does without that
+same_answer : {reached written : List Object} (o : Object) (there : IsIn o written) (c : ContentOf o) (t : Task reached written) (s : StoreState) → (performs (also_puts o there c t) s).answer ≡ (performs t s).answer
+same_answer o there c (Look x at next) s = same_answer o there c (next (content s x)) s
+same_answer o there c (Tell puts x) s = refl
+same_answer o there c (Refuse code) s = refl
+same_answer o there c Missing s = refl
+
+same_giving_up : {reached written : List Object} (who : ℕ) (name : Option (List ℕ)) (looked : AreIn (objects_named name) reached) (told : AreIn (objects_named name) written) (t : Task reached written) (s : StoreState)
+    → (performs (gives_up who name looked told t) s).answer ≡ (performs t s).answer
+same_giving_up who None looked told t s = refl
+same_giving_up {reached} {written} who (Some name) looked told t s = by (is_held_by who (content s (object.Name name)))
   where
-    made_by : (r : Result TextState ℕ) → ((performs (loads who addr r) s).answer ≡ answer.Refused c) ↔ (r ≡ Err c)
-    made_by (Ok new) = (λ e. absurd (no_code c answer.Done refl e), λ e. cc)
+    by : (own : Bool) → (performs (gives_up_if {reached = reached} {written = written} own name (told (object.Name name) (inl refl)) t) s).answer ≡ (performs t s).answer
+    by true = same_answer (object.Name name) (told (object.Name name) (inl refl)) None t s
+    by false = refl
+
+program_refuses : (who c : ℕ) (addr : List ℕ) (declared : Option (List ℕ)) (made : List ℕ → TextState → Result TextState ℕ) (s : StoreState) (image : Option (List ℕ))
+    → ((performs (loads_from who addr declared made image) s).answer ≡ answer.Refused c) ↔ GivesCodeOf c made image (content s (object.Text who))
+program_refuses who c addr declared made s None = (λ e. absurd (no_code c answer.Done refl e), λ h. absurd h)
+program_refuses who c addr declared made s (Some image) = by (content s (object.Text who))
+  where
+    made_by : (r : Result TextState ℕ) → ((performs (loads who addr declared r) s).answer ≡ answer.Refused c) ↔ (r ≡ Err c)
+    made_by (Ok new) = (λ e. absurd (no_code c answer.Done refl (sym (same_giving_up who declared (λ o i. inr (inr (inr (inr i)))) (λ o i. inr i) (becomes_text who addr declared new) s) ∙ e)), λ e. cc)
     made_by (Err code) = (λ e. ap Err (same_code c code e), λ e. ap answer.Refused (err_code c code e))
 
-    by : (t : Option TextState) → ((performs (loads_text who addr made image t) s).answer ≡ answer.Refused c) ↔ GivesCodeOf c made (Some image) t
+    by : (t : Option TextState) → ((performs (loads_text who addr declared made image t) s).answer ≡ answer.Refused c) ↔ GivesCodeOf c made (Some image) t
     by None = (λ e. absurd (no_code c answer.Done refl e), λ h. absurd h)
     by (Some t) = made_by (made image t)
 
@@ -129,13 +147,8 @@ move_refuses c from to made s (Some image) = by (content s (object.Platter to))
     by (Some other) = made_by (made image other)
 
 -- a name that is declared
-given_up_never : (who c : ℕ) (name old : List ℕ) (s : StoreState) (own : Bool) → (performs (gives_up_if who own name old) s).answer ≡ answer.Refused c → ⊥
-given_up_never who c name old s true e = no_code c answer.Done refl e
-given_up_never who c name old s false e = no_code c answer.Done refl e
-
 taken_never : (who c : ℕ) (name : List ℕ) (old : Option (List ℕ)) (s : StoreState) → (performs (takes_name who name old) s).answer ≡ answer.Refused c → ⊥
-taken_never who c name None s e = no_code c answer.Done refl e
-taken_never who c name (Some old) s e = given_up_never who c name old s (is_held_by who (content s (object.Name old))) e
+taken_never who c name old s e = no_code c answer.Done refl (sym (same_giving_up who old (λ o i. inr i) (λ o i. inr i) (holds_name who name old) s) ∙ e)
 
 declaring_refuses : (who c : ℕ) (name : List ℕ) (old : Option (List ℕ)) (s : StoreState) (h : Option (Option ℕ))
     → ((performs (declares who name old h) s).answer ≡ answer.Refused c) ↔ ((c ≡ X78_NAME_HELD) × (is_held_by_other who h ≡ true))
@@ -166,7 +179,7 @@ meets_code disks who c (access.DataEnd slot) s = change_refuses c slot.addr (ans
 meets_code disks who c (access.DataLoad slot kinds) s = finding_refuses c slot.addr answer.AtEnd refl s loaded_answer goes_on (disks.data_load slot kinds) (content s (object.Platter slot.addr))
 meets_code disks who c (access.Skip slot way) s = finding_refuses c slot.addr (answer.Moved slot.pos) refl s answer.Moved (λ n. refl) (disks.skip slot way) (content s (object.Platter slot.addr))
 meets_code disks who c (access.SaveProgram addr old name from to) s = save_refuses who c addr (disks.save_program old name from to) s (content s (object.Platter addr))
-meets_code disks who c (access.LoadProgram addr name replace declared homes) s = program_refuses who c addr (disks.load_program name replace) s (content s (object.Platter addr))
+meets_code disks who c (access.LoadProgram addr name replace declared homes) s = program_refuses who c addr declared (disks.load_program name replace) s (content s (object.Platter addr))
 meets_code disks who c (access.MovePlatter from to) s = move_refuses c from to disks.move_platter s (content s (object.Platter from))
 meets_code disks who c (access.MoveFile from name to) s = move_refuses c from to (disks.move_file name) s (content s (object.Platter from))
 meets_code disks who c (access.Declare name old) s = declaring_refuses who c name old s (content s (object.Name name))

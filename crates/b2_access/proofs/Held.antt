@@ -15,7 +15,7 @@ use Rattle.b2_access.specs.Answering.{may_stop_by}
 use Rattle.b2_access.specs.Contents.{content_other}
 use Rattle.b2_access.specs.Disks.{DiskWork}
 use Rattle.b2_access.specs.Holding.{AgreeBut, Asks, HeldIsOutOfReach, HeldStaysAsItIs, IsAddressIn, IsContentOf, OtherHoldersStay, OtherImagesStay, WhoAsksWaits, device_of, holders_changed, image_changed}
-use Rattle.b2_access.specs.Reach.{DevicePart, DeviceReach, HoldFreed, HoldTaken, WithPlatter, WithPrinter, Reach, device_objects, objects_held, objects_reached, part_objects, terminal_objects, text_objects, to_free, to_take, variable_objects}
+use Rattle.b2_access.specs.Reach.{DevicePart, DeviceReach, HoldFreed, HoldTaken, WithPlatter, WithPrinter, Reach, device_objects, if_any, objects_held, objects_reached, part_objects, terminal_objects, text_objects, to_free, to_take, variable_objects}
 use Rattle.b2_access.specs.Serving.{performs, serves, unless_stopped}
 use Rattle.b2_access.specs.Sharing.{Gives}
 use Rattle.b2_access.specs.Stopping.{at_front, first_inside, first_other, first_there, holders, in_front, inside_edited, stop, stop_by, stopping_holder}
@@ -221,7 +221,6 @@ who_asks_waits disks who p d a s held apart asks = by (first_other who (first_th
     by None inside e = absurd (met who p apart (first_there (row a).reach s) (among_right p (at_front (row a).reach.terminal s) (holders (row a).reach.devices s) (asked_meets who p d (row a).reach.devices s held asks)) e)
 
 -- objects of a kind aren't those of another
--- objects of a kind aren't those of another
 of_kinds : (is_kind : Object → Bool) (o x : Object) → is_kind o ≡ true → is_kind x ≡ false → o ≡ x → ⊥
 of_kinds is_kind o x is other e = false≢true (sym other ∙ ap is_kind (sym e) ∙ is)
 
@@ -257,7 +256,14 @@ no_holder d x other i = elim i [ inl e ↦ of_kinds is_hog (object.Hog d) x refl
 holder_unwritten : (who : ℕ) (d : List ℕ) (a : Access) → (IsAddressIn d (holders_changed a) → ⊥) → IsIn (object.Hog d) ((row a).writes who) → ⊥
 holder_unwritten who d (access.OpenDevices addrs) out i = out (held_in d addrs i)
 holder_unwritten who d (access.CloseDevices addrs) out i = out (held_in d addrs i)
-holder_unwritten who d (access.ClearAll name homes) out i = elim i [ inl e ↦ of_kinds is_hog (object.Hog d) (object.Text who) refl refl e | inr j ↦ no_holder d (object.Globals who) refl j ]
+holder_unwritten who d (access.ClearAll name homes) out i = elim i [
+  | inl e ↦ of_kinds is_hog (object.Hog d) (object.Text who) refl refl e
+  | inr j ↦ elim j [ inl e ↦ of_kinds is_hog (object.Hog d) (object.Globals who) refl refl e | inr k ↦ no_names is_hog (object.Hog d) refl (λ n. refl) (if_any name) k ]
+]
+holder_unwritten who d (access.LoadProgram addr name replace declared homes) out i = elim i [
+  | inl e ↦ of_kinds is_hog (object.Hog d) (object.Text who) refl refl e
+  | inr j ↦ no_names is_hog (object.Hog d) refl (λ n. refl) (if_any declared) j
+]
 holder_unwritten who d (access.Declare name old) out i = no_names is_hog (object.Hog d) refl (λ n. refl) (names_of name old) i
 holder_unwritten who d (access.FindPart name) out i = i
 holder_unwritten who d (access.Limits addr name) out i = i
@@ -281,7 +287,14 @@ image_unwritten : (who : ℕ) (d : List ℕ) (a : Access) → image_changed a �
 image_unwritten who d (access.PrintTo addr bytes column) apart i = elim i [ inl e ↦ of_kinds is_platter (object.Platter d) (object.Printer addr) refl refl e | inr never ↦ never ]
 image_unwritten who d (access.OpenDevices addrs) apart i = no_hold is_platter (object.Platter d) refl (λ a. refl) addrs i
 image_unwritten who d (access.CloseDevices addrs) apart i = no_hold is_platter (object.Platter d) refl (λ a. refl) addrs i
-image_unwritten who d (access.ClearAll name homes) apart i = elim i [ inl e ↦ clash d (object.Platter d) refl (object.Text who) refl e | inr j ↦ no_other d (object.Globals who) refl j ]
+image_unwritten who d (access.ClearAll name homes) apart i = elim i [
+  | inl e ↦ clash d (object.Platter d) refl (object.Text who) refl e
+  | inr j ↦ elim j [ inl e ↦ clash d (object.Platter d) refl (object.Globals who) refl e | inr k ↦ no_names is_platter (object.Platter d) refl (λ n. refl) (if_any name) k ]
+]
+image_unwritten who d (access.LoadProgram addr name replace declared homes) apart i = elim i [
+  | inl e ↦ clash d (object.Platter d) refl (object.Text who) refl e
+  | inr j ↦ no_names is_platter (object.Platter d) refl (λ n. refl) (if_any declared) j
+]
 image_unwritten who d (access.Declare name old) apart i = no_names is_platter (object.Platter d) refl (λ n. refl) (names_of name old) i
 image_unwritten who d (access.FindPart name) apart i = i
 image_unwritten who d (access.Limits addr name) apart i = i

@@ -15,13 +15,13 @@ use Rattle.b2_access.specs.declared.accesses.Access.{Access}
 use Rattle.b2_access.specs.declared.accesses.Access.TheVariants as access
 use Rattle.b2_access.specs.declared.accesses.Answer.{Answer}
 use Rattle.b2_access.specs.declared.accesses.Answer.TheVariants as answer
-use Rattle.b2_access.specs.AccessRows.{becomes, changes_image, clears, clears_both, declares, finds, finds_in_image, frees, frees_if, gives_up_if, is_held_by, is_held_by_other, key_answer, line_answer, loaded_answer, loads, loads_from, moves, moves_from, no_file, puts_atoms, puts_line, reach, row, saves, saves_in, says_or_refuses, takes, takes_name}
+use Rattle.b2_access.specs.AccessRows.{becomes, becomes_text, changes_image, clears, clears_both, clears_own, clears_text, declares, finds, finds_in_image, frees, frees_if, gives_up, gives_up_if, holds_name, is_held_by, is_held_by_other, key_answer, line_answer, loaded_answer, loads, loads_from, moves, moves_from, no_file, puts_atoms, puts_line, reach, row, saves, saves_in, says_or_refuses, takes, takes_name}
 use Rattle.b2_access.specs.AnswerKinds.{is_done, is_done_or_code, is_of_key, is_of_line, is_of_loading, is_of_opening, is_of_place, is_of_search, stops}
 use Rattle.b2_access.specs.Answering.{RowsTellTheirAnswers, TellsOnly}
 use Rattle.b2_access.specs.Disks.{Loaded, Made}
-use Rattle.b2_access.specs.Reach.{device_objects, objects_held, objects_reached, to_free, to_take}
+use Rattle.b2_access.specs.Reach.{device_objects, objects_held, objects_named, objects_reached, to_free, to_take}
 use Rattle.b2_access.specs.Store.{ContentOf, IsIn}
-use Rattle.b2_access.specs.Task.{Task, Look, Tell, Refuse, Missing, also_puts, wider}
+use Rattle.b2_access.specs.Task.{AreIn, Task, Look, Tell, Refuse, Missing, also_puts, wider}
 use Rattle.b2_access.proofs.Choice.{either}
 
 of_line : (r : Read) → (is_of_line (line_answer r) ≡ true) × (stops (line_answer r) ≡ false)
@@ -43,13 +43,39 @@ of_put who n None None = (refl, refl)
 of_put who n None (Some t) = (refl, refl)
 of_put who n (Some atoms) t = of_atoms who n atoms t
 
-of_both : (who : ℕ) (t : TextState) (v : Option VarsState) → TellsOnly is_done (clears_both who t v)
-of_both who t None = (refl, refl)
-of_both who t (Some v) = (refl, refl)
+-- a task that is wider, or puts one more content, tells the same
+pub tells_wider : {reached written : List Object} (tells : Answer → Bool) (o : Object) (t : Task reached written) → TellsOnly tells t → TellsOnly tells (wider o t)
+tells_wider tells o (Look x there next) h = λ c. tells_wider tells o (next c) (h c)
+tells_wider tells o (Tell puts x) h = h
+tells_wider tells o (Refuse c) h = h
+tells_wider tells o Missing h = h
 
-of_clearing : (who : ℕ) (t : Option TextState) → TellsOnly is_done (clears who t)
-of_clearing who None = (refl, refl)
-of_clearing who (Some t) = of_both who t
+tells_also : {reached written : List Object} (tells : Answer → Bool) (o : Object) (there : IsIn o written) (c : ContentOf o) (t : Task reached written) → TellsOnly tells t → TellsOnly tells (also_puts o there c t)
+tells_also tells o there c (Look x at next) h = λ seen. tells_also tells o there c (next seen) (h seen)
+tells_also tells o there c (Tell puts x) h = h
+tells_also tells o there c (Refuse code) h = h
+tells_also tells o there c Missing h = h
+
+-- and so does one that gives up a name
+of_giving_up : {reached written : List Object} (tells : Answer → Bool) (who : ℕ) (name : Option (List ℕ)) (looked : AreIn (objects_named name) reached) (told : AreIn (objects_named name) written) (t : Task reached written)
+    → TellsOnly tells t → TellsOnly tells (gives_up who name looked told t)
+of_giving_up tells who None looked told t h = h
+of_giving_up {reached} {written} tells who (Some name) looked told t h = λ c. by (is_held_by who c)
+  where
+    by : (own : Bool) → TellsOnly tells (gives_up_if {reached = reached} {written = written} own name (told (object.Name name) (inl refl)) t)
+    by true = tells_also tells (object.Name name) (told (object.Name name) (inl refl)) None t h
+    by false = h
+
+of_both : (who : ℕ) (name : Option (List ℕ)) (t : TextState) (v : Option VarsState) → TellsOnly is_done (clears_both who name t v)
+of_both who name t None = (refl, refl)
+of_both who name t (Some v) = (refl, refl)
+
+pub of_text : (who : ℕ) (name : Option (List ℕ)) (t : Option TextState) → TellsOnly is_done (clears_text who name t)
+of_text who name None = (refl, refl)
+of_text who name (Some t) = of_both who name t
+
+of_clearing : (who : ℕ) (name : Option (List ℕ)) → TellsOnly is_done (clears who name)
+of_clearing who name = of_giving_up is_done who name (λ o i. inr (inr (inr i))) (λ o i. inr (inr i)) (clears_own who name) (of_text who name)
 
 -- an answer that a row tells, and that stops nothing
 abbrev IsTelling : (Answer → Bool) → Answer → Type 0
@@ -87,12 +113,12 @@ of_saving who addr made (Some image) = elim [ None ↦ (refl, refl) | Some t ↦
     by (Ok new) = (refl, refl)
     by (Err code) = refl
 
-of_program : (who : ℕ) (addr : List ℕ) (made : List ℕ → TextState → Result TextState ℕ) (c : Option (List ℕ)) → TellsOnly is_done_or_code (loads_from who addr made c)
-of_program who addr made None = (refl, refl)
-of_program who addr made (Some image) = elim [ None ↦ (refl, refl) | Some t ↦ by (made image t) ]
+of_program : (who : ℕ) (addr : List ℕ) (declared : Option (List ℕ)) (made : List ℕ → TextState → Result TextState ℕ) (c : Option (List ℕ)) → TellsOnly is_done_or_code (loads_from who addr declared made c)
+of_program who addr declared made None = (refl, refl)
+of_program who addr declared made (Some image) = elim [ None ↦ (refl, refl) | Some t ↦ by (made image t) ]
   where
-    by : (r : Result TextState ℕ) → TellsOnly is_done_or_code (loads who addr r)
-    by (Ok new) = (refl, refl)
+    by : (r : Result TextState ℕ) → TellsOnly is_done_or_code (loads who addr declared r)
+    by (Ok new) = of_giving_up is_done_or_code who declared (λ o i. inr (inr (inr (inr i)))) (λ o i. inr i) (becomes_text who addr declared new) (refl, refl)
     by (Err code) = refl
 
 of_moving : (from to : List ℕ) (made : List ℕ → List ℕ → Result (List ℕ) ℕ) (c : Option (List ℕ)) → TellsOnly is_done_or_code (moves_from from to made c)
@@ -102,19 +128,6 @@ of_moving from to made (Some image) = elim [ None ↦ (refl, refl) | Some other 
     by : (r : Result (List ℕ) ℕ) → TellsOnly is_done_or_code (moves from to r)
     by (Ok new) = (refl, refl)
     by (Err code) = refl
-
--- a task that is wider, or puts one more content, tells the same
-pub tells_wider : {reached written : List Object} (tells : Answer → Bool) (o : Object) (t : Task reached written) → TellsOnly tells t → TellsOnly tells (wider o t)
-tells_wider tells o (Look x there next) h = λ c. tells_wider tells o (next c) (h c)
-tells_wider tells o (Tell puts x) h = h
-tells_wider tells o (Refuse c) h = h
-tells_wider tells o Missing h = h
-
-tells_also : {reached written : List Object} (tells : Answer → Bool) (o : Object) (there : IsIn o written) (c : ContentOf o) (t : Task reached written) → TellsOnly tells t → TellsOnly tells (also_puts o there c t)
-tells_also tells o there c (Look x at next) h = λ seen. tells_also tells o there c (next seen) (h seen)
-tells_also tells o there c (Tell puts x) h = h
-tells_also tells o there c (Refuse code) h = h
-tells_also tells o there c Missing h = h
 
 pub of_taking : (who : ℕ) (addrs : List (List ℕ)) → TellsOnly is_done (takes who addrs)
 of_taking who [] = (refl, refl)
@@ -128,13 +141,8 @@ of_freeing who (a ∷ addrs) = λ h. by (is_held_by who h) (tells_wider is_done 
     by true rest = tells_also is_done (object.Hog a) (inl refl) None (wider (object.Hog a) (frees who addrs)) rest
     by false rest = rest
 
-of_giving_up : (who : ℕ) (name old : List ℕ) (own : Bool) → TellsOnly is_done_or_code (gives_up_if who own name old)
-of_giving_up who name old true = (refl, refl)
-of_giving_up who name old false = (refl, refl)
-
 of_declaring : (who : ℕ) (name : List ℕ) (old : Option (List ℕ)) → TellsOnly is_done_or_code (takes_name who name old)
-of_declaring who name None = (refl, refl)
-of_declaring who name (Some old) = λ h. of_giving_up who name old (is_held_by who h)
+of_declaring who name old = of_giving_up is_done_or_code who old (λ o i. inr i) (λ o i. inr i) (holds_name who name old) (refl, refl)
 
 of_search : (name : List ℕ) (h : Option (Option ℕ)) → TellsOnly is_of_search (finds name h)
 of_search name None = refl
@@ -155,7 +163,7 @@ rows_tell_their_answers disks (access.Insert term bytes) who = elim [ None ↦ (
 rows_tell_their_answers disks (access.Key term) who = elim [ None ↦ (refl, refl) | Some t ↦ of_key (slice_get t.queue 0) ]
 rows_tell_their_answers disks (access.PutLine line atoms homes) who = of_put who line atoms
 rows_tell_their_answers disks (access.Erase from to homes) who = elim [ None ↦ (refl, refl) | Some t ↦ (refl, refl) ]
-rows_tell_their_answers disks (access.ClearAll name homes) who = of_clearing who
+rows_tell_their_answers disks (access.ClearAll name homes) who = of_clearing who name
 rows_tell_their_answers disks (access.Declare name old) who = λ h. either (TellsOnly is_done_or_code) (is_held_by_other who h) _ _ refl (of_declaring who name old)
 rows_tell_their_answers disks (access.FindPart name) who = of_search name
 rows_tell_their_answers disks (access.Limits addr name) who = elim [ None ↦ (refl, refl) | Some image ↦ (refl, refl) ]
@@ -170,7 +178,7 @@ rows_tell_their_answers disks (access.DataEnd slot) who = of_placing slot (disks
 rows_tell_their_answers disks (access.DataLoad slot kinds) who = of_finding is_of_loading slot.addr answer.AtEnd (refl, refl) (λ c. refl) loaded_answer of_loaded (disks.data_load slot kinds)
 rows_tell_their_answers disks (access.Skip slot way) who = of_finding is_of_place slot.addr (answer.Moved slot.pos) (refl, refl) (λ c. refl) answer.Moved (λ n. (refl, refl)) (disks.skip slot way)
 rows_tell_their_answers disks (access.SaveProgram addr old name from to) who = of_saving who addr (disks.save_program old name from to)
-rows_tell_their_answers disks (access.LoadProgram addr name replace declared homes) who = of_program who addr (disks.load_program name replace)
+rows_tell_their_answers disks (access.LoadProgram addr name replace declared homes) who = of_program who addr declared (disks.load_program name replace)
 rows_tell_their_answers disks (access.MovePlatter from to) who = of_moving from to disks.move_platter
 rows_tell_their_answers disks (access.MoveFile from name to) who = of_moving from to (disks.move_file name)
 
@@ -208,7 +216,7 @@ written_is_reached (access.DataEnd slot) who o i = inr i
 written_is_reached (access.DataLoad slot kinds) who o i = absurd i
 written_is_reached (access.Skip slot way) who o i = absurd i
 written_is_reached (access.SaveProgram addr old name from to) who o i = inr (inr i)
-written_is_reached (access.LoadProgram addr name replace declared homes) who o i = inr (elim i [ inl e ↦ inl e | inr none ↦ absurd none ])
+written_is_reached (access.LoadProgram addr name replace declared homes) who o i = inr (elim i [ inl e ↦ inl e | inr named ↦ inr (inr (inr named)) ])
 written_is_reached (access.MovePlatter from to) who o i = inr (inr (inr i))
 written_is_reached (access.MoveFile from name to) who o i = inr (inr (inr i))
 

@@ -21,10 +21,11 @@ use Rattle.b2_access.specs.declared.accesses.Answer.{Answer}
 use Rattle.b2_access.specs.declared.accesses.Answer.TheVariants as answer
 use Rattle.b2_access.specs.AnswerKinds.{is_done, is_done_or_code, is_of_key, is_of_limits, is_of_line, is_of_listing, is_of_loading, is_of_opening, is_of_place, is_of_search}
 use Rattle.b2_access.specs.Disks.{DiskWork, FourNumbers, Loaded, Made}
-use Rattle.b2_access.specs.Reach.{Reach, at_disk, at_disks, at_names, at_printer, at_terminal, disk_and_text, if_any, objects_held, objects_reached, objects_written, own_text, to_free, to_take}
+use Rattle.b2_access.specs.Reach.{Reach, at_disk, at_disks, at_names, at_printer, at_terminal, disk_and_text, if_any, objects_held, objects_named, objects_reached, objects_written, own_text, to_free, to_take}
 use Rattle.b2_access.specs.declared.reached.TextUse.TheVariants as text
 use Rattle.b2_access.specs.declared.reached.Written.{Written}
-use Rattle.b2_access.specs.Task.{Task, Look, Tell, Refuse, Missing, also_puts, answers, puts, wider}
+use Rattle.b2_access.specs.Store.{IsIn}
+use Rattle.b2_access.specs.Task.{AreIn, Task, Look, Tell, Refuse, Missing, also_puts, answers, puts, wider}
 
 -- A row. What is reached is the same for all partitions and in all stores; what is written and done is so for the one that asks. What
 -- a disk does to an image is for the store to say.
@@ -84,9 +85,27 @@ abbrev pub puts_line : (who : ℕ) → ℕ → Option (List ℕ) → Option Text
 puts_line who n None text = erases who n n text
 puts_line who n (Some atoms) text = puts_atoms who n atoms text
 
--- the lines and the `@` variables go
-abbrev pub ClearTask : ℕ → Type 0
-ClearTask who = Task (object.Borrow who ∷ object.Text who ∷ object.Globals who ∷ []) (object.Text who ∷ object.Globals who ∷ [])
+-- whether a partition holds a name or a device, and whether another does
+abbrev pub is_held_by : ℕ → Option (Option ℕ) → Bool
+is_held_by who (Some (Some p)) = p == who
+is_held_by who h = false
+
+abbrev pub is_held_by_other : ℕ → Option (Option ℕ) → Bool
+is_held_by_other who (Some (Some p)) = not (p == who)
+is_held_by_other who h = false
+
+-- A name is given up, where there is one and the partition that asks holds it: nobody holds it where the rest isn't refused.
+abbrev pub gives_up_if : {reached written : List Object} → Bool → (name : List ℕ) → IsIn (object.Name name) written → Task reached written → Task reached written
+gives_up_if true name there t = also_puts (object.Name name) there None t
+gives_up_if false name there t = t
+
+abbrev pub gives_up : {reached written : List Object} (who : ℕ) (name : Option (List ℕ)) → AreIn (objects_named name) reached → AreIn (objects_named name) written → Task reached written → Task reached written
+gives_up who None looked told t = t
+gives_up who (Some name) looked told t = Look (object.Name name) (looked (object.Name name) (inl refl)) (λ h. gives_up_if (is_held_by who h) name (told (object.Name name) (inl refl)) t)
+
+-- the lines and the `@` variables go, and a name is given up
+abbrev pub ClearTask : ℕ → Option (List ℕ) → Type 0
+ClearTask who name = Task (object.Borrow who ∷ object.Text who ∷ object.Globals who ∷ objects_named name) (object.Text who ∷ object.Globals who ∷ objects_named name)
 
 abbrev pub no_lines : TextState → TextState
 no_lines t = record t { lines = [] }
@@ -94,14 +113,20 @@ no_lines t = record t { lines = [] }
 abbrev pub no_globals : VarsState → VarsState
 no_globals v = record v { table = finite.empty }
 
-abbrev pub clears_both : (who : ℕ) → TextState → Option VarsState → ClearTask who
-clears_both who t None = puts (object.Text who) (inl refl) (no_lines t) answer.Done
-clears_both who t (Some v) =
+abbrev pub clears_both : (who : ℕ) (name : Option (List ℕ)) → TextState → Option VarsState → ClearTask who name
+clears_both who name t None = puts (object.Text who) (inl refl) (no_lines t) answer.Done
+clears_both who name t (Some v) =
     Tell (record { target = object.Text who; there = inl refl; value = no_lines t } ∷ record { target = object.Globals who; there = inr (inl refl); value = no_globals v } ∷ []) answer.Done
 
-abbrev pub clears : (who : ℕ) → Option TextState → ClearTask who
-clears who None = answers answer.Done
-clears who (Some t) = Look (object.Globals who) (inr (inr (inl refl))) (clears_both who t)
+abbrev pub clears_text : (who : ℕ) (name : Option (List ℕ)) → Option TextState → ClearTask who name
+clears_text who name None = answers answer.Done
+clears_text who name (Some t) = Look (object.Globals who) (inr (inr (inl refl))) (clears_both who name t)
+
+abbrev pub clears_own : (who : ℕ) (name : Option (List ℕ)) → ClearTask who name
+clears_own who name = Look (object.Text who) (inr (inl refl)) (clears_text who name)
+
+abbrev pub clears : (who : ℕ) (name : Option (List ℕ)) → ClearTask who name
+clears who name = gives_up who name (λ o i. inr (inr (inr i))) (λ o i. inr (inr i)) (clears_own who name)
 
 -- the row of an access of one terminal, and that of an edit
 abbrev pub terminal_row : (term : ℕ) → (Answer → Bool) → (Option TerminalState → TerminalTask term) → AccessRow
@@ -186,20 +211,24 @@ abbrev pub saves_in : (who : ℕ) (addr : List ℕ) → (TextState → List ℕ 
 saves_in who addr made None = answers answer.Done
 saves_in who addr made (Some image) = Look (object.Text who) (inl refl) (saves_text who addr made image)
 
-abbrev pub LoadTask : ℕ → List ℕ → Type 0
-LoadTask who addr = Task (object.Borrow who ∷ object.Text who ∷ object.Hog addr ∷ object.Platter addr ∷ []) (object.Text who ∷ [])
+-- a program that is loaded, for which a name is given up
+abbrev pub LoadTask : ℕ → List ℕ → Option (List ℕ) → Type 0
+LoadTask who addr declared = Task (object.Borrow who ∷ object.Text who ∷ object.Hog addr ∷ object.Platter addr ∷ objects_named declared) (object.Text who ∷ objects_named declared)
 
-abbrev pub loads : (who : ℕ) (addr : List ℕ) → Result TextState ℕ → LoadTask who addr
-loads who addr (Ok t) = puts (object.Text who) (inl refl) t answer.Done
-loads who addr (Err code) = Refuse code
+abbrev pub becomes_text : (who : ℕ) (addr : List ℕ) (declared : Option (List ℕ)) → TextState → LoadTask who addr declared
+becomes_text who addr declared t = puts (object.Text who) (inl refl) t answer.Done
 
-abbrev pub loads_text : (who : ℕ) (addr : List ℕ) → (List ℕ → TextState → Result TextState ℕ) → List ℕ → Option TextState → LoadTask who addr
-loads_text who addr made image None = answers answer.Done
-loads_text who addr made image (Some t) = loads who addr (made image t)
+abbrev pub loads : (who : ℕ) (addr : List ℕ) (declared : Option (List ℕ)) → Result TextState ℕ → LoadTask who addr declared
+loads who addr declared (Ok t) = gives_up who declared (λ o i. inr (inr (inr (inr i)))) (λ o i. inr i) (becomes_text who addr declared t)
+loads who addr declared (Err code) = Refuse code
 
-abbrev pub loads_from : (who : ℕ) (addr : List ℕ) → (List ℕ → TextState → Result TextState ℕ) → Option (List ℕ) → LoadTask who addr
-loads_from who addr made None = answers answer.Done
-loads_from who addr made (Some image) = Look (object.Text who) (inr (inl refl)) (loads_text who addr made image)
+abbrev pub loads_text : (who : ℕ) (addr : List ℕ) (declared : Option (List ℕ)) → (List ℕ → TextState → Result TextState ℕ) → List ℕ → Option TextState → LoadTask who addr declared
+loads_text who addr declared made image None = answers answer.Done
+loads_text who addr declared made image (Some t) = loads who addr declared (made image t)
+
+abbrev pub loads_from : (who : ℕ) (addr : List ℕ) (declared : Option (List ℕ)) → (List ℕ → TextState → Result TextState ℕ) → Option (List ℕ) → LoadTask who addr declared
+loads_from who addr declared made None = answers answer.Done
+loads_from who addr declared made (Some image) = Look (object.Text who) (inr (inl refl)) (loads_text who addr declared made image)
 
 -- from a disk to another
 abbrev pub MoveTask : List ℕ → List ℕ → Type 0
@@ -241,10 +270,6 @@ takes who (a ∷ addrs) = also_puts (object.Hog a) (inl refl) (Some who) (wider 
 abbrev pub FreeTask : ℕ → List (List ℕ) → Type 0
 FreeTask who addrs = Task (objects_reached who (to_free addrs)) (objects_held addrs)
 
-abbrev pub is_held_by : ℕ → Option (Option ℕ) → Bool
-is_held_by who (Some (Some p)) = p == who
-is_held_by who h = false
-
 abbrev pub frees_if : (who : ℕ) → Bool → (a : List ℕ) (addrs : List (List ℕ)) → FreeTask who (a ∷ addrs) → FreeTask who (a ∷ addrs)
 frees_if who true a addrs t = also_puts (object.Hog a) (inl refl) None t
 frees_if who false a addrs t = t
@@ -260,19 +285,12 @@ names_of name old = name ∷ if_any old
 abbrev pub DeclareTask : List ℕ → Option (List ℕ) → Type 0
 DeclareTask name old = Task (map object.Name (names_of name old)) (map object.Name (names_of name old))
 
--- whether another holds it
-abbrev pub is_held_by_other : ℕ → Option (Option ℕ) → Bool
-is_held_by_other who (Some (Some p)) = not (p == who)
-is_held_by_other who h = false
-
--- it is held by who asks, who gives up the other where it is the own
-abbrev pub gives_up_if : (who : ℕ) → Bool → (name old : List ℕ) → DeclareTask name (Some old)
-gives_up_if who true name old = also_puts (object.Name old) (inr (inl refl)) None (puts (object.Name name) (inl refl) (Some who) answer.Done)
-gives_up_if who false name old = puts (object.Name name) (inl refl) (Some who) answer.Done
+-- it is held by who asks, and the other is given up
+abbrev pub holds_name : (who : ℕ) (name : List ℕ) (old : Option (List ℕ)) → DeclareTask name old
+holds_name who name old = puts (object.Name name) (inl refl) (Some who) answer.Done
 
 abbrev pub takes_name : (who : ℕ) (name : List ℕ) (old : Option (List ℕ)) → DeclareTask name old
-takes_name who name None = puts (object.Name name) (inl refl) (Some who) answer.Done
-takes_name who name (Some old) = Look (object.Name old) (inr (inl refl)) (λ h. gives_up_if who (is_held_by who h) name old)
+takes_name who name old = gives_up who old (λ o i. inr i) (λ o i. inr i) (holds_name who name old)
 
 abbrev pub declares : (who : ℕ) (name : List ℕ) (old : Option (List ℕ)) → Option (Option ℕ) → DeclareTask name old
 declares who name old h = if is_held_by_other who h then Refuse X78_NAME_HELD else takes_name who name old
@@ -295,7 +313,7 @@ row (access.Key term) = terminal_row term is_of_key (takes_key term)
 row (access.PutLine line atoms homes) = edit_row is_done_or_code (λ who. puts_line who line atoms)
 row (access.Erase from to homes) = edit_row is_done (λ who. erases who from to)
 row (access.ClearAll name homes) =
-    record { reach = record own_text { variables = true }; writes = λ who. object.Text who ∷ object.Globals who ∷ []; tells = is_done; does = λ disks who. Look (object.Text who) (inr (inl refl)) (clears who) }
+    record { reach = record own_text { variables = true; names = if_any name }; writes = λ who. object.Text who ∷ object.Globals who ∷ objects_named name; tells = is_done; does = λ disks who. clears who name }
 row (access.Declare name old) =
     record { reach = at_names (names_of name old); writes = λ who. map object.Name (names_of name old); tells = is_done_or_code; does = λ disks who. Look (object.Name name) (inl refl) (declares who name old) }
 row (access.FindPart name) = record { reach = at_names (name ∷ []); writes = λ who. []; tells = is_of_search; does = λ disks who. Look (object.Name name) (inl refl) (finds name) }
@@ -312,7 +330,12 @@ row (access.Skip slot way) = finding_row slot.addr is_of_place (answer.Moved slo
 row (access.SaveProgram addr old name from to) =
     record { reach = disk_and_text addr text.Read; writes = λ who. object.Platter addr ∷ []; tells = is_done_or_code; does = λ disks who. Look (object.Platter addr) (inr (inr (inl refl))) (saves_in who addr (disks.save_program old name from to)) }
 row (access.LoadProgram addr name replace declared homes) =
-    record { reach = disk_and_text addr text.Edited; writes = λ who. object.Text who ∷ []; tells = is_done_or_code; does = λ disks who. Look (object.Platter addr) (inr (inr (inr (inl refl)))) (loads_from who addr (disks.load_program name replace)) }
+    record {
+      reach = record (disk_and_text addr text.Edited) { names = if_any declared };
+      writes = λ who. object.Text who ∷ objects_named declared;
+      tells = is_done_or_code;
+      does = λ disks who. Look (object.Platter addr) (inr (inr (inr (inl refl)))) (loads_from who addr declared (disks.load_program name replace));
+    }
 row (access.MovePlatter from to) = moving_row from to (λ disks. disks.move_platter)
 row (access.MoveFile from name to) = moving_row from to (λ disks. disks.move_file name)
 

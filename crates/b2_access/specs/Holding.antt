@@ -94,6 +94,8 @@ changes_device a = is_some (image_changed a)
 -- whether it may change who holds a name
 abbrev pub changes_name : Access → Bool
 changes_name (access.Declare name old) = true
+changes_name (access.ClearAll name homes) = is_some name
+changes_name (access.LoadProgram addr name replace declared homes) = is_some declared
 changes_name a = false
 
 abbrev pub OtherImagesStay : Type 0

@@ -77,6 +77,9 @@ abbrev pub if_any : Option (List ℕ) → List (List ℕ)
 if_any None = []
 if_any (Some name) = name ∷ []
 
+abbrev pub objects_named : Option (List ℕ) → List Object
+objects_named name = map object.Name (if_any name)
+
 abbrev pub at_names : List (List ℕ) → Reach
 at_names names = record nothing { names = names }
 
@@ -94,7 +97,7 @@ own_text = record nothing { text = text.Edited }
 
 -- what is reached beside devices, as a value of the program says it
 abbrev pub reach_of : Reached → Reach
-reach_of r = record nothing { terminal = r.terminal; text = r.text; variables = r.variables; names = if_any r.name ++ if_any r.other_name }
+reach_of r = record nothing { terminal = r.terminal; text = r.text; variables = r.variables; names = if_any r.name ++ if_any r.old_name }
 
 -- the objects that are reached: an edit looks at who stands inside the text
 abbrev pub terminal_objects : Option ℕ → List Object
@@ -147,4 +150,4 @@ is_device_written devices = true
 -- and beside devices
 abbrev pub objects_written : Written → ℕ → List Object
 objects_written w who =
-    terminal_objects w.terminal ++ (where_written w.text (object.Text who) ++ (where_written w.variables (object.Globals who) ++ map object.Name (if_any w.name ++ if_any w.other_name)))
+    terminal_objects w.terminal ++ (where_written w.text (object.Text who) ++ (where_written w.variables (object.Globals who) ++ map object.Name (if_any w.name ++ if_any w.old_name)))

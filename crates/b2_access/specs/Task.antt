@@ -6,6 +6,10 @@ use Rattle.b2_access.specs.declared.objects.Object.{Object}
 use Rattle.b2_access.specs.declared.accesses.Answer.{Answer}
 use Rattle.b2_access.specs.Store.{ContentOf, IsIn}
 
+-- all of some objects are among others
+abbrev pub AreIn : List Object → List Object → Type 0
+AreIn xs os = (o : Object) → IsIn o xs → IsIn o os
+
 -- a new content of an object that is written
 pub record Put (written : List Object) : Type 0 where
   pub target : Object

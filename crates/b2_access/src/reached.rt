@@ -30,20 +30,20 @@ pub struct Reached {
     pub variables: bool,
     /// A name.
     pub name: Option<Name8>,
-    /// Another name.
-    pub other_name: Option<Name8>,
+    /// A name that is given up.
+    pub old_name: Option<Name8>,
 }
 
 /// Nothing.
 fn reaches_nothing() -> Reached
-    ensures { result ≡ record { terminal = None; text = TextUse.Unused; variables = false; name = None; other_name = None } }
+    ensures { result ≡ record { terminal = None; text = TextUse.Unused; variables = false; name = None; old_name = None } }
 {
     Reached {
         terminal: None,
         text: TextUse::Unused,
         variables: false,
         name: None,
-        other_name: None,
+        old_name: None,
     }
 }
 
@@ -67,13 +67,23 @@ fn own_text(text: TextUse) -> Reached
     }
 }
 
-/// A name, and another where there is one.
-fn at_names(name: Name8, other: Option<Name8>) -> Reached
-    ensures { reach_of result ≡ reach.at_names (names_of name other) }
+/// The text of the partition that asks, which is edited, and a name that is given up for that, where there is one.
+fn edited_text(old: Option<Name8>) -> Reached
+    ensures { reach_of result ≡ record reach.own_text { names = reach.if_any old } }
+{
+    Reached {
+        old_name: old,
+        ..own_text(TextUse::Edited)
+    }
+}
+
+/// A name, and one that is given up where there is one.
+fn at_names(name: Name8, old: Option<Name8>) -> Reached
+    ensures { reach_of result ≡ reach.at_names (names_of name old) }
 {
     Reached {
         name: Some(name),
-        other_name: other,
+        old_name: old,
         ..reaches_nothing()
     }
 }
@@ -87,14 +97,13 @@ pub fn reached_by(access: &Access) -> Reached
         | Access::ReadLine { term }
         | Access::Insert { term, .. }
         | Access::Key { term } => at_terminal(*term),
-        Access::PutLine { .. } | Access::Erase { .. } | Access::LoadProgram { .. } => {
-            own_text(TextUse::Edited)
-        }
-        Access::SaveProgram { .. } => own_text(TextUse::Read),
-        Access::ClearAll { .. } => Reached {
+        Access::PutLine { .. } | Access::Erase { .. } => edited_text(None),
+        Access::LoadProgram { declared, .. } => edited_text(*declared),
+        Access::ClearAll { name, .. } => Reached {
             variables: true,
-            ..own_text(TextUse::Edited)
+            ..edited_text(*name)
         },
+        Access::SaveProgram { .. } => own_text(TextUse::Read),
         Access::Declare { name, old } => at_names(*name, *old),
         Access::FindPart { name } => at_names(*name, None),
         Access::PrintTo { .. }
@@ -178,26 +187,26 @@ pub struct Written {
     pub variables: bool,
     /// A name.
     pub name: Option<Name8>,
-    /// Another name.
-    pub other_name: Option<Name8>,
+    /// A name that is given up.
+    pub old_name: Option<Name8>,
 }
 
 /// Nothing is written.
 fn writes_nothing() -> Written
-    ensures { result ≡ record { terminal = None; text = false; variables = false; name = None; other_name = None } }
+    ensures { result ≡ record { terminal = None; text = false; variables = false; name = None; old_name = None } }
 {
     Written {
         terminal: None,
         text: false,
         variables: false,
         name: None,
-        other_name: None,
+        old_name: None,
     }
 }
 
 /// A terminal is written.
 fn writes_terminal(term: Term) -> Written
-    ensures { result ≡ record { terminal = Some term; text = false; variables = false; name = None; other_name = None } }
+    ensures { result ≡ record { terminal = Some term; text = false; variables = false; name = None; old_name = None } }
 {
     Written {
         terminal: Some(term),
@@ -207,7 +216,7 @@ fn writes_terminal(term: Term) -> Written
 
 /// The text of the partition that asks is written.
 fn writes_text(variables: bool) -> Written
-    ensures { result ≡ record { terminal = None; text = true; variables = variables; name = None; other_name = None } }
+    ensures { result ≡ record { terminal = None; text = true; variables = variables; name = None; old_name = None } }
 {
     Written {
         text: true,
@@ -216,13 +225,23 @@ fn writes_text(variables: bool) -> Written
     }
 }
 
-/// A name is written, and another where there is one.
-fn writes_names(name: Name8, other: Option<Name8>) -> Written
-    ensures { result ≡ record { terminal = None; text = false; variables = false; name = Some name; other_name = other } }
+/// The text of the partition that asks is written, and a name that is given up for that.
+fn writes_text_and_name(variables: bool, old: Name8) -> Written
+    ensures { result ≡ record { terminal = None; text = true; variables = variables; name = None; old_name = Some old } }
+{
+    Written {
+        old_name: Some(old),
+        ..writes_text(variables)
+    }
+}
+
+/// A name is written, and one that is given up where there is one.
+fn writes_names(name: Name8, old: Option<Name8>) -> Written
+    ensures { result ≡ record { terminal = None; text = false; variables = false; name = Some name; old_name = old } }
 {
     Written {
         name: Some(name),
-        other_name: other,
+        old_name: old,
         ..writes_nothing()
     }
 }
@@ -230,17 +249,22 @@ fn writes_names(name: Name8, other: Option<Name8>) -> Written
 /// What an access writes beside devices, where nothing stops it.
 pub fn written_by(access: &Access) -> Written
     ensures written { writes_by result (devices_changed access.now) ≡ (row access.now).writes }
-    ensures names { (is_some result.name || is_some result.other_name) ≡ changes_name access.now }
+    ensures names { (is_some result.name || is_some result.old_name) ≡ changes_name access.now }
 {
     match access {
         Access::Show { term, .. }
         | Access::ReadLine { term }
         | Access::Insert { term, .. }
         | Access::Key { term } => writes_terminal(*term),
-        Access::PutLine { .. } | Access::Erase { .. } | Access::LoadProgram { .. } => {
-            writes_text(false)
-        }
-        Access::ClearAll { .. } => writes_text(true),
+        Access::PutLine { .. } | Access::Erase { .. } => writes_text(false),
+        Access::LoadProgram { declared, .. } => match declared {
+            None => writes_text(false),
+            Some(old) => writes_text_and_name(false, *old),
+        },
+        Access::ClearAll { name, .. } => match name {
+            None => writes_text(true),
+            Some(old) => writes_text_and_name(true, *old),
+        },
         Access::Declare { name, old } => match old {
             None => writes_names(*name, None),
             Some(old) => writes_names(*name, Some(*old)),

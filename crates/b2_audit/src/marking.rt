@@ -133,7 +133,7 @@ pub(crate) fn mark_touched(seen: &mut Seen, who: Part, access: &Access)
     touch_text(seen, who, reached.text);
     touch_variables(seen, who, reached.variables);
     touch_devices(seen, who, access);
-    touch_names(seen, who, reached.name, reached.other_name);
+    touch_names(seen, who, reached.name, reached.old_name);
 }
 
 /// Marks that a terminal is written, where one is.
@@ -211,7 +211,7 @@ fn mark_each_written(seen: &mut Seen, who: Part, access: &Access) -> Result<(), 
     write_terminal(seen, who, written.terminal)?;
     write_where(seen, who, Object::Text(who), written.text)?;
     write_where(seen, who, Object::Globals(who), written.variables)?;
-    write_names(seen, who, written.name, written.other_name)?;
+    write_names(seen, who, written.name, written.old_name)?;
     write_devices(seen, who, access)
 }
 

@@ -5,6 +5,7 @@ pub mod Meaning
 pub mod Start
 pub mod Changes
 pub mod Holders
+pub mod Names
 pub mod Refusals
 pub mod FileWork
 pub mod TwoRows

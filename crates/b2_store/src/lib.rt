@@ -7,7 +7,7 @@
 //!
 //! Stands on `b2_access` for what a store, its serving and its loans are, on `b2_text`, `b2_vars`, `b2_term` and `b2_platter`
 //! for what objects have, on `b2_catalog` for what a disk does, on `b2_atom` for lines and on `b2_base`. The definitions are in
-//! `specs/`: the store that `Stores` means in `Meaning`, `@` variables and the spare in `Spares`, how it starts in `Start`, what keys and fronts change in `Changes`, and
+//! `specs/`: the store that `Stores` means in `Meaning`, `@` variables and the spare in `Spares`, who holds names in `Names`, how it starts in `Start`, what keys and fronts change in `Changes`, and
 //! what disks do to an image in `DiskWork`. What becomes of files on its platters (`Files`), and that each answer fits what was asked,
 //! stands in `laws`.
 #![tactic(auto)]
@@ -16,6 +16,7 @@ mod boot;
 mod data_files;
 mod disks;
 pub mod laws;
+mod names;
 mod part_list;
 mod printer;
 mod programs;

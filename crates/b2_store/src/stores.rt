@@ -1,15 +1,15 @@
 // The store: its rows, what stops an access, and how each is served and what is lent.
 ghost use Rattle.std.specs.Prelude.{◌≡◌, ◌≢◌, ◌≤◌, ℕ, true, length, List, [], ◌∷◌, Option, Some, None, IfOk, IfErr, OnOk, option_copied};
 ghost use Rattle.std.specs.List.{list_all};
-ghost use Rattle.b2_access.specs.AccessRows.{reach, line_answer, key_answer, is_held_by, is_held_by_other};
-ghost use Rattle.b2_access.specs.Loans.{holder_of, lender_at};
+ghost use Rattle.b2_access.specs.AccessRows.{reach, line_answer, key_answer, is_held_by};
+ghost use Rattle.b2_access.specs.Loans.{lender_at};
 ghost use Rattle.b2_access.specs.Reach.{to_take};
 ghost use Rattle.b2_access.specs.Stopping as stopping;
 ghost use Rattle.b2_access.specs.Store.{StoreState, content, put};
 ghost use Rattle.b2_access.specs.Touching.{IsLegal, MayWantMemory, is_short};
 ghost use Rattle.b2_store.specs.Asked.{moving};
 ghost use Rattle.b2_store.specs.Changes.{keyed_at, front_at, room_at};
-ghost use Rattle.b2_store.specs.Holders.{all_held, named, own_among, without_name_of};
+ghost use Rattle.b2_store.specs.Holders.{all_held, own_among};
 ghost use Rattle.b2_store.specs.Refusals.{IsRefusal, made_answer};
 ghost use Rattle.b2_store.specs.Start.{store_at_start};
 
@@ -19,6 +19,7 @@ use crate::data_files::{
     skip_records,
 };
 use crate::disks::{format_disk, limits_answer, scratch_file};
+use crate::names::Names;
 use crate::part_list::PartList;
 use crate::printer::Printer;
 use crate::programs::{load_text, save_text};
@@ -54,8 +55,7 @@ pub struct Stores {
     platters: Rows<Addr, Platter>,
     // Who holds each device.
     hogs: Rows<Addr, Option<Part>>,
-    // Who holds each name that was ever declared.
-    names: Rows<Name8, Option<Part>>,
+    names: Names,
 }
 
 /// A partition, where it is another.
@@ -139,7 +139,7 @@ impl Stores {
             printers: printers_of(alloc, &b.printers)?,
             platters: platters_of(alloc, &b.platters, platters)?,
             hogs: holders_of(alloc, &b.printers, &b.platters)?,
-            names: Rows::new(alloc),
+            names: Names::new(alloc),
         })
     }
 
@@ -311,16 +311,6 @@ impl Stores {
         }
     }
 
-    /// The partition that holds a name, None where nobody does.
-    fn name_holder(&self, name: Name8) -> Option<Part>
-        ensures { result ≡ holder_of (store_of self.now) name }
-    {
-        match self.names.get(name) {
-            Some(holder) => *holder,
-            None => None,
-        }
-    }
-
     /// Whose `@` variables are asked for.
     fn lender(&self, home: Part, at: &At) -> Option<Part>
         ensures { result ≡ lender_at home at.now (store_of self.now) }
@@ -328,59 +318,8 @@ impl Stores {
         match at {
             At::None => None,
             At::Home => Some(home),
-            At::Named(name) => self.name_holder(*name),
+            At::Named(name) => self.names.holder(*name),
         }
-    }
-
-    /// A name has another holder.
-    fn set_name_holder(&mut self, name: Name8, holder: Option<Part>) -> Result<(), NoMemory>
-        ensures { OnOk result (store_of self.new ≡ put (Object.Name name) holder (store_of self.old)) }
-    {
-        if let Some(row) = self.names.get_mut(name) {
-            *row = holder;
-            return Ok(());
-        }
-        self.names.add(name, holder)
-    }
-
-    /// Whether another partition holds a name.
-    fn is_held_by_other(&self, who: Part, name: Name8) -> bool
-        ensures { result ≡ is_held_by_other who (content (store_of self.now) (Object.Name name)) }
-    {
-        match self.name_holder(name) {
-            Some(p) => p != who,
-            None => false,
-        }
-    }
-
-    /// Whether a partition holds a name.
-    fn holds_name(&self, who: Part, name: Name8) -> bool
-        ensures { result ≡ is_held_by who (content (store_of self.now) (Object.Name name)) }
-    {
-        match self.name_holder(name) {
-            Some(p) => p == who,
-            None => false,
-        }
-    }
-
-    /// A partition gives up a name, where it holds it.
-    fn give_up(&mut self, who: Part, name: Name8) -> Result<(), NoMemory>
-        ensures { OnOk result (store_of self.new ≡ without_name_of who name (store_of self.old)) }
-    {
-        if self.holds_name(who, name) {
-            return self.set_name_holder(name, None);
-        }
-        Ok(())
-    }
-
-    /// A partition holds a name, and gives up another one that it holds, where one is given.
-    fn take_name(&mut self, who: Part, name: Name8, old: Option<Name8>) -> Result<(), NoMemory>
-        ensures { OnOk result (store_of self.new ≡ named who name old (store_of self.old)) }
-    {
-        if let Some(old) = old {
-            self.give_up(who, old)?;
-        }
-        self.set_name_holder(name, Some(who))
     }
 
     /// A partition declares a name, unless another one holds it.
@@ -388,10 +327,10 @@ impl Stores {
     fn declare(&mut self, who: Part, name: Name8, old: Option<Name8>) -> Result<Answer, NoMemory>
         ensures { IfOk result (Does who (Access.Declare name old) self.old self.new) }
     {
-        if self.is_held_by_other(who, name) {
+        if self.names.is_held_by_other(who, name) {
             return Ok(Answer::Refused(Code::known(X78_NAME_HELD)));
         }
-        self.take_name(who, name, old)?;
+        self.names.take(who, name, old)?;
         Ok(Answer::Done)
     }
 
@@ -399,7 +338,7 @@ impl Stores {
     fn find_part(&self, name: Name8) -> Answer
         ensures { (who : ℕ) → Does who (Access.FindPart name) self.now self.now result }
     {
-        match self.name_holder(name) {
+        match self.names.holder(name) {
             Some(p) => Answer::Holder(p),
             None => Answer::NoPart,
         }
@@ -504,17 +443,26 @@ impl Stores {
     }
 
     /// Takes all lines and all `@` variables of a partition away.
-    fn clear_all(&mut self, who: Part) -> Answer
-        ensures { (name : Option (List ℕ)) (homes : ℕ) → Does who (Access.ClearAll name homes) self.old self.new result }
+    fn clear_own(&mut self, who: Part)
+        ensures { (homes : ℕ) → Does who (Access.ClearAll None homes) self.old self.new Answer.Done }
     {
         let Some(text) = self.texts.get_mut(who) else {
-            return Answer::Done;
+            return;
         };
         text.clear();
         let owner = Some(who);
         if self.globals.has(&owner) {
             self.globals.lend(&owner).clear();
         }
+    }
+
+    /// The same, and the partition gives up a name that it holds, where one is given.
+    #[tactic(auto, using(crate::proofs::Names::cleared))]
+    fn clear_all(&mut self, who: Part, name: Option<Name8>) -> Answer
+        ensures { (homes : ℕ) → Does who (Access.ClearAll name homes) self.old self.new result }
+    {
+        self.names.give_up(who, name);
+        self.clear_own(who);
         Answer::Done
     }
 
@@ -655,16 +603,17 @@ impl Stores {
         }
     }
 
-    /// Loads the lines of a program into the text of a partition.
-    #[tactic(auto, using(crate::proofs::Same::with_same))]
+    /// Loads the lines of a program into the text of a partition, which gives up the name that it has declared.
+    #[tactic(auto, using(crate::proofs::Same::with_same, crate::proofs::Names::loaded))]
     fn load_program(
         &mut self,
         who: Part,
         addr: Addr,
         name: Name8,
         replace: bool,
+        declared: Option<Name8>,
     ) -> Result<Answer, NoMemory>
-        ensures { (declared : Option (List ℕ)) (homes : ℕ) → IfOk result (Does who (Access.LoadProgram addr name replace declared homes) self.old self.new) }
+        ensures { (homes : ℕ) → IfOk result (Does who (Access.LoadProgram addr name replace declared homes) self.old self.new) }
     {
         let Some(platter) = self.platters.get(addr) else {
             return Ok(Answer::Done);
@@ -673,7 +622,10 @@ impl Stores {
             return Ok(Answer::Done);
         };
         match load_text(self.alloc, platter, name, text, replace) {
-            Ok(()) => Ok(Answer::Done),
+            Ok(()) => {
+                self.names.give_up(who, declared);
+                Ok(Answer::Done)
+            }
             Err(fault) => refusal(fault),
         }
     }
@@ -716,7 +668,7 @@ impl Stores {
                 None => Ok(self.erase(who, *line, *line)),
             },
             Access::Erase { from, to, .. } => Ok(self.erase(who, *from, *to)),
-            Access::ClearAll { .. } => Ok(self.clear_all(who)),
+            Access::ClearAll { name, .. } => Ok(self.clear_all(who, *name)),
             Access::Declare { name, old } => self.declare(who, *name, *old),
             Access::FindPart { name } => Ok(self.find_part(*name)),
             Access::Limits { addr, name } => Ok(self.limits(*addr, *name)),
@@ -745,8 +697,9 @@ impl Stores {
                 addr,
                 name,
                 replace,
+                declared,
                 ..
-            } => self.load_program(who, *addr, *name, *replace),
+            } => self.load_program(who, *addr, *name, *replace, *declared),
             Access::MovePlatter { from, to } => self.move_files(*from, *to, None),
             Access::MoveFile { from, name, to } => self.move_files(*from, *to, Some(*name)),
         }
@@ -793,7 +746,7 @@ impl Shared for Stores {
     }
 
     fn holder(&self, name: Name8) -> Option<Part> {
-        self.name_holder(name)
+        self.names.holder(name)
     }
 
     fn serve(&mut self, who: Part, access: &Access) -> Result<Answer, NoMemory> {

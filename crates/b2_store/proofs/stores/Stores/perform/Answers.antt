@@ -17,7 +17,7 @@ returns-in-Erase-clause-done c = subst (λ a. Does c.args.who a c.args.self.now 
 
 pub returns-in-ClearAll-clause-done : goal.returns-in-ClearAll-clause-done
 returns-in-ClearAll-clause-done c =
-    subst (λ a. Does c.args.who a c.args.self.now c.clear_all.new.self c.clear_all.result) (sym c.in-ClearAll.is) (c.clear_all.ensures c.in-ClearAll.name c.in-ClearAll.homes)
+    subst (λ a. Does c.args.who a c.args.self.now c.clear_all.new.self c.clear_all.result) (sym c.in-ClearAll.is) (c.clear_all.ensures c.in-ClearAll.homes)
 
 pub returns-in-Limits-clause-done : goal.returns-in-Limits-clause-done
 returns-in-Limits-clause-done c = subst (λ a. Does c.args.who a c.args.self.now c.args.self.now c.limits.result) (sym c.in-Limits.is) (c.limits.ensures c.args.who)

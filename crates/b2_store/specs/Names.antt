@@ -1,0 +1,20 @@
+-- Who holds names, in rows: one name is given up, or another is taken for it.
+use Rattle.std.specs.Prelude.{ℕ, List, Option, Some, None, if◌then◌else◌}
+use Rattle.b2_access.specs.AccessRows.{is_held_by}
+use Rattle.b2_access.specs.Rows.{NameRows, name_row, with_name_row}
+
+-- who holds a name, which is there always
+abbrev pub holding : List ℕ → NameRows → Option (Option ℕ)
+holding name rows = Some (name_row name rows)
+
+-- a partition gives up a name, where it holds it
+abbrev pub without_one : ℕ → List ℕ → NameRows → NameRows
+without_one who name rows = if is_held_by who (holding name rows) then with_name_row name rows None else rows
+
+abbrev pub without_name : ℕ → Option (List ℕ) → NameRows → NameRows
+without_name who None rows = rows
+without_name who (Some name) rows = without_one who name rows
+
+-- it gives up one, and holds another
+abbrev pub named : ℕ → List ℕ → Option (List ℕ) → NameRows → NameRows
+named who name old rows = with_name_row name (without_name who old rows) (Some who)
