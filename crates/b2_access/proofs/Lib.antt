@@ -19,3 +19,4 @@ pub mod Shown
 pub mod Working
 pub mod OpenFiles
 pub mod Loans
+pub mod Named

@@ -40,10 +40,12 @@ at_terminal_marks_none among t a is = marks_none among a (homes_none t a is)
 pub at_terminal_is_legal : (t : ℕ) (a : Access) → IsAtTerminal t a → IsLegal a
 at_terminal_is_legal t (access.PutLine line atoms homes) is = no_terminal t (terminal_is t (access.PutLine line atoms homes) is)
 at_terminal_is_legal t (access.DataNew addr None sectors name) is = no_terminal t (terminal_is t (access.DataNew addr None sectors name) is)
+at_terminal_is_legal t (access.DataNew addr (Some old) sectors name) is = no_terminal t (terminal_is t (access.DataNew addr (Some old) sectors name) is)
 at_terminal_is_legal t (access.DataSave slot values) is = no_terminal t (terminal_is t (access.DataSave slot values) is)
 at_terminal_is_legal t (access.DataEnd slot) is = no_terminal t (terminal_is t (access.DataEnd slot) is)
 at_terminal_is_legal t (access.DataLoad slot kinds) is = no_terminal t (terminal_is t (access.DataLoad slot kinds) is)
 at_terminal_is_legal t (access.Skip slot way) is = no_terminal t (terminal_is t (access.Skip slot way) is)
+at_terminal_is_legal t (access.SaveProgram addr old name from to) is = no_terminal t (terminal_is t (access.SaveProgram addr old name from to) is)
 at_terminal_is_legal t (access.MovePlatter from to) is = no_terminal t (terminal_is t (access.MovePlatter from to) is)
 at_terminal_is_legal t (access.MoveFile from name to) is = no_terminal t (terminal_is t (access.MoveFile from name to) is)
 at_terminal_is_legal t a is = tt

@@ -1,6 +1,7 @@
 -- What an access touches and writes, and what it takes.
 use Rattle.std.specs.Prelude.{◌≡◌, ◌≢◌, ◌≤◌, ◌&&◌, nat_le, ℕ, Bool, true, List, [], length, Some, None, if◌then◌else◌}
 use Rattle.std.specs.List.{list_all}
+use Rattle.b2_base.specs.Names.{is_name8}
 use Rattle.b2_dec.specs.declared.values.Value.{Value}
 use Rattle.b2_dec.specs.declared.values.Value.TheVariants as value
 use Rattle.b2_access.specs.declared.objects.Object.{Object}
@@ -25,15 +26,21 @@ abbrev pub is_short : Value → Bool
 is_short (value.Number x) = true
 is_short (value.Alpha bytes) = nat_le 1 (length bytes) && nat_le (length bytes) 124
 
--- Lines have numbers up to 9999; a new file has at least two sectors; a place in a file is none before its first sector; what is
--- saved a record may have; and files are moved to another disk.
+-- a name of a file: one with the blanks at its end
+abbrev pub IsName : List ℕ → Type 0
+IsName name = (is_name8 name ≡ true) × (length name ≡ 8)
+
+-- Lines have numbers up to 9999; a new file has at least two sectors, and one that is made has a name; a place in a file is none before
+-- its first sector; what is saved a record may have; and files are moved to another disk.
 abbrev pub IsLegal : Access → Type 0
 IsLegal (access.PutLine line atoms homes) = line ≤ 9999
-IsLegal (access.DataNew addr None sectors name) = 2 ≤ sectors
+IsLegal (access.DataNew addr None sectors name) = (2 ≤ sectors) × IsName name
+IsLegal (access.DataNew addr (Some old) sectors name) = IsName name
 IsLegal (access.DataSave slot values) = (list_all is_short values ≡ true) × (slot.start ≤ slot.pos)
 IsLegal (access.DataEnd slot) = slot.start ≤ slot.pos
 IsLegal (access.DataLoad slot kinds) = slot.start ≤ slot.pos
 IsLegal (access.Skip slot way) = slot.start ≤ slot.pos
+IsLegal (access.SaveProgram addr old name from to) = IsName name
 IsLegal (access.MovePlatter from to) = from ≢ to
 IsLegal (access.MoveFile from name to) = from ≢ to
 IsLegal a = Unit {0}

@@ -48,7 +48,7 @@ long-rest used number (group ∷ groups) h =
       long-rest (length (group_bytes group)) (number + 1) groups (and-right (goes_over used group && fits_in_sector group) (go_on (length (group_bytes group)) groups) h),
     )
 
-long-groups : (groups : List (List Value)) → is_record groups ≡ true → AllLong (sectors_from 1 groups)
+pub long-groups : (groups : List (List Value)) → is_record groups ≡ true → AllLong (sectors_from 1 groups)
 long-groups [] h = cc
 long-groups (group ∷ groups) h = (
   long-sector (sector_kind true (is_none groups)) 1 group (and-left (fits_in_sector group) (go_on (length (group_bytes group)) groups) h),

@@ -1,23 +1,29 @@
 -- What statements on disks ask for: accesses that name no terminal and mark no home, at platters that the partition may use.
 use Rattle.std.proofs.Common.{◌≡◌, ℕ, Bool, true, false, if◌then◌else◌, List, Option, Some, None, Result, Ok, Err, refl}
-use Rattle.b2_base.specs.declared.codes.TheConstants.{P48_DEVICE}
+use Rattle.b2_base.specs.Names.{is_name8, padded8}
+use Rattle.b2_base.specs.declared.codes.TheConstants.{D87_FILE_NAME, P48_DEVICE}
+use Rattle.b2_alpha.specs.Values.{value_of}
 use Rattle.b2_atom.specs.Tree.{Trees}
-use Rattle.b2_expr.specs.Answers.{◌>>=◌}
+use Rattle.b2_expr.specs.Answers.{◌>>=◌, TextAnswer, or_code}
+use Rattle.b2_expr.specs.Scope.{Context}
+use Rattle.b2_expr.specs.Value.{text}
 use Rattle.b2_access.specs.Causes.{terminal_of}
 use Rattle.b2_access.specs.Devices.{is_platter_for}
 use Rattle.b2_access.specs.Homes.{HomesIn, homes_of}
 use Rattle.b2_access.specs.OwnDevices.{ReachesListed}
 use Rattle.b2_access.specs.OwnTerminal.{NamesAlone}
-use Rattle.b2_access.specs.Touching.{IsLegal}
+use Rattle.b2_access.specs.Touching.{IsLegal, IsName}
 use Rattle.b2_access.specs.declared.accesses.Access.{Access}
 use Rattle.b2_access.specs.declared.devices.Device.{Device}
 use Rattle.b2_access.specs.declared.planned.Outcome.TheVariants as outcome
 use Rattle.b2_access.specs.declared.planned.Planned.{Planned}
 use Rattle.b2_access.specs.declared.planned.Planned.TheVariants as planned
 use Rattle.b2_access.proofs.Homes.{marks_none}
+use Rattle.b2_access.proofs.Named.{padded-is_name}
 use Rattle.b2_access.proofs.OwnTerminal.{names_none}
 use Rattle.b2_drive.specs.Asking.{asks_or_fails}
 use Rattle.b2_drive.specs.Drives.{DrivesSeen, device_named, drive_used, platter_meant, platter_used}
+use Rattle.b2_drive.specs.FileNames.{file_name, name_given}
 
 -- an access that reaches devices that are listed for a partition, names no terminal, marks no home, and may be asked for
 pub record Fits (devices : List Device) (who : ℕ) (a : Access) : Type 0 where
@@ -52,3 +58,15 @@ module _ (F : Planned → Type 0) (d : DrivesSeen) (failed : (code : ℕ) → F 
   pub after_value : {A : Type 0} (r : Result A ℕ) (next : A → Result Access ℕ) → ((x : A) → Asked (next x)) → Asked (r >>= next)
   after_value (Ok x) next h = h x
   after_value (Err code) next h = failed code
+
+  -- a name
+  name_by : (b : Bool) (bytes : List ℕ) (next : List ℕ → Result Access ℕ) → is_name8 bytes ≡ b → ((x : List ℕ) → IsName x → Asked (next x)) → Asked (or_code D87_FILE_NAME (if b then Some (padded8 bytes) else None) >>= next)
+  name_by true bytes next is h = h (padded8 bytes) (padded-is_name bytes is)
+  name_by false bytes next is h = failed D87_FILE_NAME
+
+  after_text : (r : TextAnswer) (next : List ℕ → Result Access ℕ) → ((x : List ℕ) → IsName x → Asked (next x)) → Asked ((r >>= file_name) >>= next)
+  after_text (Ok bytes) next h = name_by (is_name8 (value_of bytes)) (value_of bytes) next refl h
+  after_text (Err code) next h = failed code
+
+  pub after_name : (e : Context) (t : Trees) (next : List ℕ → Result Access ℕ) → ((x : List ℕ) → IsName x → Asked (next x)) → Asked (name_given e t >>= next)
+  after_name e t next h = after_text (text e t) next h

@@ -16,7 +16,7 @@ use Rattle.b2_machine.specs.Turn.{counted_on, ended_turn, turn_from, unless_ende
 use Rattle.b2_machine.specs.declared.ends.Why.{Why}
 use Rattle.b2_store.specs.Changes.{with_terminal}
 use Rattle.b2_store.specs.DiskWork.{serves}
-use Rattle.b2_store.specs.Files.{AreGood, AreSound, HasFile, HasFront, HasWhole, IsAbout, IsProper}
+use Rattle.b2_store.specs.Files.{AreGood, AreSound, HasFile, HasFront, HasWhole, IsAbout}
 use Rattle.b2_store.proofs.Others.{other-records}
 use Rattle.b2_store.proofs.Sound.{platters-stay-sound}
 use Rattle.b2_sched.proofs.HeldTurns.{others_leave_held}
@@ -35,7 +35,7 @@ are-good : (s : StoreState) → AreSound s → AreGood s
 are-good s sound addr image there = (sound addr image there).0
 
 module _ (addr name : List ℕ) (Holds : StoreState → Type 0)
-    (served : (who : ℕ) (x : Access) (s : StoreState) → IsLegal x → IsProper x → AreGood s → (IsAbout addr name x → ⊥) → Holds s → Holds (serves s who x).after)
+    (served : (who : ℕ) (x : Access) (s : StoreState) → IsLegal x → AreGood s → (IsAbout addr name x → ⊥) → Holds s → Holds (serves s who x).after)
     (moved : (s t : StoreState) → content t (object.Platter addr) ≡ content s (object.Platter addr) → Holds s → Holds t) where
   -- so it does, and platters stay sound
   abbrev Both : StoreState → Type 0
@@ -43,7 +43,7 @@ module _ (addr name : List ℕ) (Holds : StoreState → Type 0)
 
   asked : (x : Option Access) (who : ℕ) (s : StoreState) → IsLegalIfAny x → AsksElsewhere addr name x → Both s → Both (left_where x who s)
   asked None who s legal h k = k
-  asked (Some x) who s legal h k = (platters-stay-sound who x s legal h.0 k.0, served who x s legal h.0 (are-good s k.0) h.1 k.1)
+  asked (Some x) who s legal h k = (platters-stay-sound who x s legal k.0, served who x s legal (are-good s k.0) h k.1)
 
   module _ (devices : List Device) where
     in_step : (me : Private) (s : StoreState) → LeavesFile addr name devices me s → Both s → Both (step_of devices me s).after
@@ -98,12 +98,12 @@ pub files_outlast_turns : FilesOutlastTurns
 files_outlast_turns w between addr e records sound h = (
   (λ pos most k.
       (in_actions addr e.name (λ s. HasFront s addr e pos records)
-      (λ who x s legal proper good about. (other-records who x s addr e records legal proper good about).0 pos most)
+      (λ who x s legal good about. (other-records who x s addr e records legal good about).0 pos most)
       (front_moved addr e pos records)
       between w h (sound, k)).1),
   (λ k.
       (in_actions addr e.name (λ s. HasWhole s addr e records)
-      (λ who x s legal proper good about. (other-records who x s addr e records legal proper good about).1)
+      (λ who x s legal good about. (other-records who x s addr e records legal good about).1)
       (whole_moved addr e records)
       between w h (sound, k)).1),
 )

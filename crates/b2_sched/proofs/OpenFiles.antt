@@ -29,10 +29,9 @@ use Rattle.b2_sched.proofs.Lasting.{by_actions}
 use Rattle.b2_sched.proofs.LegalSteps.{IsLegalIfAny, steps_ask_legally}
 use Rattle.b2_sched.proofs.StepEnds.{left_where, step_left}
 use Rattle.b2_sched.specs.Choice.{basic}
-use Rattle.b2_sched.specs.EachStep.{AtEachStep, EachInAction, EachInTurn, EachOf}
 use Rattle.b2_sched.specs.Lawful.{basic_asks_for_listed, basic_is_lawful, basic_keeps_open_files}
 use Rattle.b2_sched.specs.Laws.{all_actions}
-use Rattle.b2_sched.specs.OpenFiles.{AsksProperly, IsProperIfAny, OpenFilesAreListed}
+use Rattle.b2_sched.specs.OpenFiles.{OpenFilesAreListed}
 use Rattle.b2_sched.specs.Start.{booted, private_row}
 use Rattle.b2_sched.specs.Turns.{after_loan, step_of}
 use Rattle.b2_sched.specs.World.{WorldState, Action, Key, Front, Halt, Reset, Turn, asked_to_halt, asked_to_reset, does, does_all, private_of, with_turn}
@@ -41,37 +40,36 @@ use Rattle.b2_sched.specs.World.{WorldState, Action, Key, Front, Halt, Reset, Tu
 fits : (s : StoreState) → AreSound s → FitsFrom serves s
 fits s sound who a legal = answers-fit s who a legal (λ addr image there. (sound addr image there).0)
 
-left_sound : (x : Option Access) (who : ℕ) (s : StoreState) → IsLegalIfAny x → IsProperIfAny x → AreSound s → AreSound (left_where x who s)
-left_sound None who s legal proper sound = sound
-left_sound (Some x) who s legal proper sound = platters-stay-sound who x s legal proper sound
+left_sound : (x : Option Access) (who : ℕ) (s : StoreState) → IsLegalIfAny x → AreSound s → AreSound (left_where x who s)
+left_sound None who s legal sound = sound
+left_sound (Some x) who s legal sound = platters-stay-sound who x s legal sound
 
 module _ (devices : List Device) where
   abbrev Both : Private → StoreState → Type 0
   Both me s = HasOpenFiles devices me × AreSound s
 
-  in_step : (me : Private) (s : StoreState) → AsksProperly devices me s → Both me s → Both (step_of devices me s).me (step_of devices me s).after
-  in_step me s proper k =
+  in_step : (me : Private) (s : StoreState) → Both me s → Both (step_of devices me s).me (step_of devices me s).after
+  in_step me s k =
       let x = asking (basic devices) me s in (
         steps_keep_open_files basic basic_is_lawful basic_asks_for_listed basic_keeps_open_files itself serves after_loan devices me s (fits s k.1) k.0,
-        subst AreSound (sym (step_left (basic devices) me s)) (left_sound x.access x.who s (steps_ask_legally (basic devices) (basic_is_lawful devices) me s) proper k.1),
+        subst AreSound (sym (step_left (basic devices) me s)) (left_sound x.access x.who s (steps_ask_legally (basic devices) (basic_is_lawful devices) me s) k.1),
       )
 
   abbrev BothAfter : ℕ → Private → StoreState → ℕ → Type 0
   BothAfter n me s steps = Both (turn_from (basic devices) itself serves after_loan n me s steps).me (turn_from (basic devices) itself serves after_loan n me s steps).after
 
-  in_turn : (n : ℕ) (me : Private) (s : StoreState) (steps : ℕ) → EachInTurn AsksProperly devices n me s → Both me s → BothAfter n me s steps
+  in_turn : (n : ℕ) (me : Private) (s : StoreState) (steps : ℕ) → Both me s → BothAfter n me s steps
   unfolding turn_from
-  in_turn zero me s steps h k = k
-  in_turn (suc n) me s steps h k =
+  in_turn zero me s steps k = k
+  in_turn (suc n) me s steps k =
       let x = step_of devices me s in
-      by x.end.why refl (in_step me s h.0 k) (λ on. in_turn n x.me x.after (counted_on steps x.end) (h.1 on) (in_step me s h.0 k))
+      by x.end.why (in_step me s k) (in_turn n x.me x.after (counted_on steps x.end) (in_step me s k))
     where
-      by : (o : Option Why) → (step_of devices me s).end.why ≡ o → Both (step_of devices me s).me (step_of devices me s).after
-          → ((step_of devices me s).end.why ≡ None → BothAfter n (step_of devices me s).me (step_of devices me s).after (counted_on steps (step_of devices me s).end))
+      by : (o : Option Why) → Both (step_of devices me s).me (step_of devices me s).after → BothAfter n (step_of devices me s).me (step_of devices me s).after (counted_on steps (step_of devices me s).end)
           → Both (unless_ended o (λ w. ended_turn (counted_on steps (step_of devices me s).end) w (step_of devices me s).me (step_of devices me s).after) (turn_from (basic devices) itself serves after_loan n (step_of devices me s).me (step_of devices me s).after (counted_on steps (step_of devices me s).end))).me
           (unless_ended o (λ w. ended_turn (counted_on steps (step_of devices me s).end) w (step_of devices me s).me (step_of devices me s).after) (turn_from (basic devices) itself serves after_loan n (step_of devices me s).me (step_of devices me s).after (counted_on steps (step_of devices me s).end))).after
-      by None is here later = later is
-      by (Some why) is here later = here
+      by None here later = later
+      by (Some why) here later = here
 
 -- a world
 abbrev IsOpen : List Device → ℕ → Private → Type 0
@@ -84,22 +82,22 @@ sound_terminal : (o : Option TerminalState) (t : ℕ) (f : TerminalState → Ter
 sound_terminal None t f s sound = sound
 sound_terminal (Some x) t f s sound = sound
 
-turned : (p n : ℕ) (o : Option Private) (w : WorldState) → private_of p w ≡ o → EachOf AsksProperly w.devices n o w.store → AllOpen w → AllOpen (with_turn p o n w)
-turned p n None w is h k = k
-turned p n (Some me) w is h k =
-    let after = in_turn w.devices n me w.store 0 h (k.0 p me is, k.1) in
+turned : (p n : ℕ) (o : Option Private) (w : WorldState) → private_of p w ≡ o → AllOpen w → AllOpen (with_turn p o n w)
+turned p n None w is k = k
+turned p n (Some me) w is k =
+    let after = in_turn w.devices n me w.store 0 (k.0 p me is, k.1) in
     (each_row (IsOpen w.devices) p (turn_from (basic w.devices) itself serves after_loan n me w.store 0).me w.privates after.0 k.0, after.1)
 
-in_action : (x : Action) (w : WorldState) → EachInAction AsksProperly x w → AllOpen w → AllOpen (does x w)
-in_action (Key t key) w h k = (k.0, sound_terminal (content w.store (object.Terminal t)) t (keyed key) w.store k.1)
-in_action (Front t p) w h k = (k.0, sound_terminal (content w.store (object.Terminal t)) t (λ x. record x { front = p }) w.store k.1)
-in_action (Halt p) w h k = (each_changed (IsOpen w.devices) asked_to_halt (λ q me open_now. open_now) p (private_of p w) w.privates refl k.0, k.1)
-in_action (Reset p) w h k = (each_changed (IsOpen w.devices) asked_to_reset (λ q me open_now. open_now) p (private_of p w) w.privates refl k.0, k.1)
-in_action (Turn p n) w h k = turned p n (private_of p w) w refl h k
+in_action : (x : Action) (w : WorldState) → AllOpen w → AllOpen (does x w)
+in_action (Key t key) w k = (k.0, sound_terminal (content w.store (object.Terminal t)) t (keyed key) w.store k.1)
+in_action (Front t p) w k = (k.0, sound_terminal (content w.store (object.Terminal t)) t (λ x. record x { front = p }) w.store k.1)
+in_action (Halt p) w k = (each_changed (IsOpen w.devices) asked_to_halt (λ q me open_now. open_now) p (private_of p w) w.privates refl k.0, k.1)
+in_action (Reset p) w k = (each_changed (IsOpen w.devices) asked_to_reset (λ q me open_now. open_now) p (private_of p w) w.privates refl k.0, k.1)
+in_action (Turn p n) w k = turned p n (private_of p w) w refl k
 
-in_actions : (xs : List Action) (w : WorldState) → AtEachStep AsksProperly xs w → AllOpen w → AllOpen (does_all xs w)
-in_actions [] w h k = k
-in_actions (x ∷ rest) w h k = in_actions rest (does x w) h.1 (in_action x w h.0 k)
+in_actions : (xs : List Action) (w : WorldState) → AllOpen w → AllOpen (does_all xs w)
+in_actions [] w k = k
+in_actions (x ∷ rest) w k = in_actions rest (does x w) (in_action x w k)
 
 -- at the start of a boot no file is open
 first_by : (devices : List Device) (x : BootPartition) (xs : List BootPartition) (p : ℕ) (me : Private) → (row_of p (map private_row xs) ≡ Some me → IsOpen devices p me) → (b : Bool)
@@ -112,8 +110,8 @@ booted_open devices [] p me is = let clash : false ≡ true = ap (λ (o : Option
 booted_open devices (x ∷ xs) p me is = first_by devices x xs p me (booted_open devices xs p me) (x.number == p) is
 
 pub open_files_are_listed : OpenFilesAreListed
-open_files_are_listed b images log sound proper p me is =
+open_files_are_listed b images log sound p me is =
     let w = booted b images in
     let acts = all_actions b.quota log in
-    let after = (in_actions acts w proper (booted_open w.devices b.partitions, sound)).0 in
+    let after = (in_actions acts w (booted_open w.devices b.partitions, sound)).0 in
     subst (λ (ds : List Device). HasOpenFiles ds me) (all_keep_devices acts w) (after p me (ap (private_of p) (sym (by_actions log w)) ∙ is))

@@ -7,16 +7,16 @@ use Rattle.b2_access.specs.declared.accesses.Access.{Access}
 use Rattle.b2_access.specs.declared.devices.Device.{Device}
 use Rattle.b2_access.specs.declared.private.Private.{Private}
 use Rattle.b2_machine.specs.Touched.{asking}
-use Rattle.b2_store.specs.Files.{AreSound, HasFront, HasWhole, IsAbout, IsProper}
+use Rattle.b2_store.specs.Files.{AreSound, HasFront, HasWhole, IsAbout}
 use Rattle.b2_sched.specs.Choice.{basic}
 use Rattle.b2_sched.specs.EachStep.{AtEachStep}
 use Rattle.b2_sched.specs.Holding.{AreOfOthers, IsHeld, IsReached}
 use Rattle.b2_sched.specs.World.{WorldState, Action, does_all}
 
--- nothing is asked for, or what carries what its types allow and isn't about a file
+-- nothing is asked for, or what isn't about a file
 abbrev pub AsksElsewhere : List ℕ → List ℕ → Option Access → Type 0
 AsksElsewhere addr name None = Unit {0}
-AsksElsewhere addr name (Some x) = IsProper x × (IsAbout addr name x → ⊥)
+AsksElsewhere addr name (Some x) = IsAbout addr name x → ⊥
 
 -- a step asks so
 abbrev pub LeavesFile : List ℕ → List ℕ → List Device → Private → StoreState → Type 0

@@ -108,8 +108,8 @@ pub fn law_a_run_touches_listed_devices()
     ensures { RunsTouchListedDevices }
 {}
 
-/// Whatever was run from a boot with sound platters, by steps that ask for what carries what its types allow: each file that a partition has
-/// open is on a platter that the boot lists for it, with its place at its first sector or after it.
+/// Whatever was run from a boot with sound platters, each file that a partition has open is on a platter that the boot lists for it, with its
+/// place at its first sector or after it.
 pub fn law_open_files_are_listed()
     ensures { OpenFilesAreListed }
 {}

@@ -25,7 +25,7 @@ use Rattle.b2_access.specs.Lending.{SeenLent}
 use Rattle.b2_access.specs.OwnDevices.{IsAtDisk}
 use Rattle.b2_access.specs.Partition.{setting_of}
 use Rattle.b2_access.specs.Placed.{Statement}
-use Rattle.b2_access.specs.Touching.{IsLegal, is_short}
+use Rattle.b2_access.specs.Touching.{IsLegal, IsName, is_short}
 use Rattle.b2_access.specs.Views.{place_came}
 use Rattle.b2_access.specs.Working.{FileWorked, Working, leaves_files, planned_of, stops}
 use Rattle.b2_access.specs.declared.accesses.Access.{Access}
@@ -73,6 +73,10 @@ module _ (F : Planned → Type 0) (d : DrivesSeen) (failed : (code : ℕ) → F 
   after_value : {A : Type 0} (r : Result A ℕ) (next : A → Result Access ℕ) → ((x : A) → Asked (next x)) → Asked (r >>= next)
   unfolding Asked
   after_value r next h = asked.after_value F d failed r next h
+
+  after_name : (e : Context) (t : Trees) (next : List ℕ → Result Access ℕ) → ((x : List ℕ) → IsName x → Asked (next x)) → Asked (name_given e t >>= next)
+  unfolding Asked
+  after_name e t next h = asked.after_name F d failed e t next h
 
   -- a count is one from its least on
   count_by : (b : Bool) (least n : ℕ) (next : ℕ → Result Access ℕ) → (nat_le least n && nat_le n 16777215) ≡ b → ((x : ℕ) → least ≤ x → Asked (next x))
@@ -129,14 +133,14 @@ module _ (F : Planned → Type 0) (d : DrivesSeen) (failed : (code : ℕ) → F 
   unfolding Asked
   reuses_asked e addr (Put opening (In n old closing)) name listed =
       after_value (name_given e old) (λ o. name_given e name >>= (λ x. Ok (access.DataNew addr (Some o) 0 x)))
-      (λ o. after_value (name_given e name) (λ x. Ok (access.DataNew addr (Some o) 0 x)) (λ x. asks addr (access.DataNew addr (Some o) 0 x) listed refl tt))
+      (λ o. after_name e name (λ x. Ok (access.DataNew addr (Some o) 0 x)) (λ x named. asks addr (access.DataNew addr (Some o) 0 x) listed refl named))
   reuses_asked e addr t name listed = failed S18_ALPHA
 
   makes_asked : (e : Context) (addr : List ℕ) (sectors name : Trees) → is_platter_for d.who addr d.devices ≡ true → Asked (makes e addr sectors name)
   unfolding Asked
   makes_asked e addr sectors name listed =
       after_count 2 e sectors (λ n. name_given e name >>= (λ x. Ok (access.DataNew addr None n x)))
-      (λ n enough. after_value (name_given e name) (λ x. Ok (access.DataNew addr None n x)) (λ x. asks addr (access.DataNew addr None n x) listed refl enough))
+      (λ n enough. after_name e name (λ x. Ok (access.DataNew addr None n x)) (λ x named. asks addr (access.DataNew addr None n x) listed refl (enough, named)))
 
   new_file_asked : (e : Context) (addr : List ℕ) (t : Trees) → is_platter_for d.who addr d.devices ≡ true → Asked (new_file e addr t)
   unfolding Asked

@@ -24,7 +24,7 @@ use Rattle.b2_access.proofs.Courses.{each_course}
 use Rattle.b2_drive.specs.Asking.{asks_or_fails}
 use Rattle.b2_drive.specs.Drives.{DrivesSeen, drives_of}
 use Rattle.b2_drive.specs.FileNames.{name_given}
-use Rattle.b2_drive.proofs.Asked.{Fits, after_drive, after_value}
+use Rattle.b2_drive.proofs.Asked.{Fits, after_drive, after_name, after_value}
 use Rattle.b2_stmt_program.specs.Loading.{asks_to_load}
 use Rattle.b2_stmt_program.specs.Plan.{asked_of, does, is_refused, works}
 use Rattle.b2_stmt_program.specs.Saving.{asks_to_save, lines_saved, old_named, saves}
@@ -39,8 +39,8 @@ module _ (F : Planned → Type 0) (d : DrivesSeen) (failed : (code : ℕ) → F 
   save_asked e (Put word (In n drive (In k old (In m name lines)))) =
       after_drive F d failed drive (λ addr. old_named e (In k old Done) >>= (λ o. name_given e name >>= (λ x. Ok (saves addr o x (lines_saved lines)))))
       (λ addr listed. after_value F d failed (old_named e (In k old Done)) (λ o. name_given e name >>= (λ x. Ok (saves addr o x (lines_saved lines))))
-      (λ o. after_value F d failed (name_given e name) (λ x. Ok (saves addr o x (lines_saved lines)))
-      (λ x. asks (saves addr o x (lines_saved lines)) (record { listed = (listed, tt); terminal = refl; homes = refl; legal = tt }) refl)))
+      (λ o. after_name F d failed e name (λ x. Ok (saves addr o x (lines_saved lines)))
+      (λ x named. asks (saves addr o x (lines_saved lines)) (record { listed = (listed, tt); terminal = refl; homes = refl; legal = named }) refl)))
   save_asked e t = failed S18_ALPHA
 
   load_asked : (e : Context) (program : Bool) (t : Trees) → Asked (asks_to_load d e program t)

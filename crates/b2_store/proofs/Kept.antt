@@ -1,26 +1,26 @@
 -- Changes of one file of an image: the image stays good, with an index as long, and every other file stays as it is.
-use Rattle.std.proofs.Common.{◌≡◌, ◌⊎◌, ℕ, ◌+◌, ◌-◌, ◌<◌, ◌≤◌, Bool, false, cond, List, length, take, Option, Some, None, refl, sym, ap, ◌∙◌, inl, inr, arith}
+use Rattle.std.proofs.Common.{◌≡◌, ◌⊎◌, ℕ, ◌+◌, ◌-◌, ◌<◌, ◌≤◌, Bool, true, false, cond, List, length, take, Option, Some, None, refl, sym, ap, ◌∙◌, inl, inr, arith}
 use Rattle.std.specs.FinMap.{get, insert, remove, get-remove}
 use Rattle.std.specs.Cmp.Lexicographic.{nat_list_cmp_total}
 use Rattle.std.specs.Str.{bytes_eq}
 use Rattle.std.proofs.lemmas.Bool.{cases_lt, cases_order, false_from_ne_true}
 use Rattle.std.proofs.lemmas.List.{take-take}
 use Rattle.std.proofs.lemmas.Slice.Eq.{bytes_eq-Decides}
-use Rattle.b2_dec.specs.declared.values.Value.{Value}
 use Rattle.b2_platter.specs.declared.layout.Layout.TheVariants.{Narrow}
 use Rattle.b2_platter.specs.Checks.{Good}
-use Rattle.b2_platter.specs.Edits.{put_from}
+use Rattle.b2_platter.specs.Edits.{is_data_sector, put_from}
 use Rattle.b2_platter.specs.Image.{index_of, next_free, row, sector}
 use Rattle.b2_platter.specs.Slot.{slot_end, slot_start}
 use Rattle.b2_platter.proofs.Goodness.{Parts-of}
 use Rattle.b2_platter.proofs.Kept.{index-same, shared}
 use Rattle.b2_platter.proofs.Soundness.{Sound-from_Good}
-use Rattle.b2_platter.proofs.SectorRuns.{AllLong}
+use Rattle.b2_platter.proofs.SectorRuns.{AllLong, put-from}
 use Rattle.b2_catalog.specs.declared.entry.Entry.{Entry}
 use Rattle.b2_catalog.specs.Catalogue.{Catalogue, catalogue, entry_at}
 use Rattle.b2_catalog.specs.Changes.{put_row, scratched_slot}
 use Rattle.b2_catalog.specs.Calls.{with_scratched}
 use Rattle.b2_catalog.specs.Ways.{slot_found}
+use Rattle.b2_catalog.proofs.DataSectors.{catalogue-from, in-image}
 use Rattle.b2_catalog.proofs.Looking.{FileSlot-from, Holds-from, IsSlotOf-from}
 use Rattle.b2_catalog.proofs.MadeFiles.{get-other}
 use Rattle.b2_catalog.proofs.Mapping.{tie-eq}
@@ -28,10 +28,9 @@ use Rattle.b2_catalog.proofs.RowPuts.{length-row, put_index_same, put_sectors_ab
 use Rattle.b2_catalog.proofs.Scratching.{catalogue-scratched, entry_end, entry_start, scratched_good, stands}
 use Rattle.b2_catalog.proofs.Spelled.{says_scratched}
 use Rattle.b2_catalog.proofs.Using.{used-files, used-good}
-use Rattle.b2_record.specs.Writing.{record_of}
 use Rattle.b2_datafile.specs.Files.{with_end}
-use Rattle.b2_datafile.specs.Laws.{EndsAt, SavesAt}
-use Rattle.b2_datafile.proofs.Saved.{saved, saved-files, with_end-files, with_end-good, with_end-other}
+use Rattle.b2_datafile.specs.Laws.{EndsAt}
+use Rattle.b2_datafile.proofs.Saved.{with_end-files, with_end-good, with_end-other}
 use Rattle.b2_progfile.specs.Saving.{file_filled_with}
 use Rattle.b2_progfile.proofs.Filling.{all-put, files-stay, filled-others, still-there}
 use Rattle.b2_store.specs.Files.{StaysAs}
@@ -142,24 +141,26 @@ scratch-keeps image good name k found =
       };
     }
 
--- ---- a record that is saved, and an end mark
+-- ---- sectors that are put into a file, and an end mark
 
-pub save-keeps : (image : List ℕ) (e : Entry) (pos : ℕ) (values : List Value) → SavesAt image e pos values → Keeps image (put_from image pos (record_of values)) (λ q. e.name ≡ q)
-save-keeps image e pos values at =
-    let put = saved image e pos values at in
-    let low_is = at.low in
-    let high_is = at.high in
-    record {
-      good = put.good;
-      index = same-index image (put_from image pos (record_of values)) (put.before 0 (let first = after-index image at.good e at.file in omega (arith, first, low_is)));
-      others = λ f there other. record {
-        file = ap (λ (m : Catalogue). get m f.name) (saved-files image e pos values at) ∙ there;
-        sectors = λ n low high. elim (apart image at.good e f at.file there other n low high) as (λ _. sector (put_from image pos (record_of values)) n ≡ sector image n) [
-          | inl before ↦ put.before n (omega (arith, before, low_is))
-          | inr after ↦ put.after n (omega (arith, after, high_is))
-        ];
-      };
-    }
+module _ (image : List ℕ) (e : Entry) (pos : ℕ) (sectors : List (List ℕ)) (good : Good Narrow image) (file : get (catalogue image) e.name ≡ Some e) (long : AllLong sectors) (low : e.start ≤ pos) (high : pos + length sectors ≤ e.end) where
+  own : (n : ℕ) → pos ≤ n → n < pos + length sectors → is_data_sector Narrow image n ≡ true
+  own n from to = (in-image image e.name e good file).own n (omega (arith, from, low)) (omega (arith, to, high))
+
+  pub put-keeps : Keeps image (put_from image pos sectors) (λ q. e.name ≡ q)
+  put-keeps =
+      let put = put-from image pos sectors good long own in
+      record {
+        good = put.good;
+        index = same-index image (put_from image pos sectors) (put.before 0 (let first = after-index image good e file in omega (arith, first, low)));
+        others = λ f there other. record {
+          file = ap (λ (m : Catalogue). get m f.name) (catalogue-from image pos sectors good long own) ∙ there;
+          sectors = λ n from to. elim (apart image good e f file there other n from to) as (λ _. sector (put_from image pos sectors) n ≡ sector image n) [
+            | inl before ↦ put.before n (omega (arith, before, low))
+            | inr after ↦ put.after n (omega (arith, after, high))
+          ];
+        };
+      }
 
 pub end-keeps : (image : List ℕ) (e : Entry) (pos : ℕ) → EndsAt image e pos → Keeps image (with_end image e pos) (λ q. e.name ≡ q)
 end-keeps image e pos at =

@@ -43,8 +43,8 @@ use Rattle.b2_access.specs.declared.accesses.Answer.TheVariants as answer
 use Rattle.b2_access.specs.AccessRows.{no_file, row}
 use Rattle.b2_access.specs.AnswerKinds.{stops}
 use Rattle.b2_access.specs.Stopping.{first_other, first_there, inside_edited}
-use Rattle.b2_access.specs.Touching.{IsLegal}
-use Rattle.b2_store.specs.Files.{IsName, MadeFilesAreEmpty}
+use Rattle.b2_access.specs.Touching.{IsLegal, IsName}
+use Rattle.b2_store.specs.Files.{MadeFilesAreEmpty}
 use Rattle.b2_store.specs.FileWork.{entry_moved, new_file}
 use Rattle.b2_store.proofs.Answered.{as-made-is, new-parts, ok-same}
 use Rattle.b2_store.proofs.Kept.{Keeps, apart, end-keeps, fill-keeps, get-elsewhere, get-removed, keeps-both, stands-in}
@@ -141,13 +141,14 @@ pub record IsNew (image new : List ℕ) (addr : List ℕ) (old : Option (List �
   pub of_data : e.program ≡ false
   pub whole : IsWhole new e []
 
-pub legal-new : (addr : List ℕ) (old : Option (List ℕ)) (sectors : ℕ) (name : List ℕ) → IsLegal (access.DataNew addr old sectors name) → old ≡ None → 2 ≤ sectors
-legal-new addr None sectors name legal is = legal
-legal-new addr (Some old) sectors name legal is = cc
+legal-new : (addr : List ℕ) (old : Option (List ℕ)) (sectors : ℕ) (name : List ℕ) → IsLegal (access.DataNew addr old sectors name) → IsName name × (old ≡ None → 2 ≤ sectors)
+legal-new addr None sectors name legal = (legal.1, λ is. legal.0)
+legal-new addr (Some old) sectors name legal = (legal, λ is. (let never : Some old ≡ None = is in cc))
 
-pub new-data : (image addr : List ℕ) (old : Option (List ℕ)) (sectors : ℕ) (name new : List ℕ) (slot : Slot) → Good Narrow image → IsName name → (old ≡ None → 2 ≤ sectors)
+pub new-data : (image addr : List ℕ) (old : Option (List ℕ)) (sectors : ℕ) (name new : List ℕ) (slot : Slot) → Good Narrow image → IsLegal (access.DataNew addr old sectors name)
     → new_opened image addr old sectors name ≡ Ok (new, slot) → IsNew image new addr old name slot
-new-data image addr old sectors name new slot good is_name some h =
+new-data image addr old sectors name new slot good legal h =
+    let (is_name, some) = legal-new addr old sectors name legal in
     let p = new-parts image addr old sectors name new slot h in
     let between = p.0.0 in
     let e = p.0.1 in
@@ -172,11 +173,11 @@ same-slot : (a b : Slot) → answer.Opened a ≡ answer.Opened b → a ≡ b
 same-slot a b h = cc
 
 pub made-empty : MadeFilesAreEmpty
-made-empty who addr old sectors name image slot s legal is_name there good told =
+made-empty who addr old sectors name image slot s legal there good told =
     let a = access.DataNew addr old sectors name in
     let b = changed-by s addr image there (answer.Opened (no_file addr name)) (λ m. m.image) (λ m. answer.Opened m.told) (new_file addr old sectors name)
     (first_other who (first_there (row a).reach s)) (inside_edited who (row a).reach.text s) (ap stops told) in
-    let n = new-data image addr old sectors name b.new.image b.new.told good is_name (legal-new addr old sectors name legal) (as-made-is (new_opened image addr old sectors name) b.new b.is) in
+    let n = new-data image addr old sectors name b.new.image b.new.told good legal (as-made-is (new_opened image addr old sectors name) b.new b.is) in
     let same : slot ≡ b.new.told = same-slot slot b.new.told (sym told ∙ b.told) in
     (n.e, same ∙ n.slot_is, (b.new.image, record { there = b.there; good = n.keeps.good; file = n.file; live = n.live; of_data = n.of_data }, n.whole))
 

@@ -15,7 +15,6 @@ use Rattle.b2_catalog.specs.declared.entry.Entry.{Entry}
 use Rattle.b2_catalog.specs.Catalogue.{catalogue}
 use Rattle.b2_catalog.specs.Ways.{slot_found}
 use Rattle.b2_catalog.proofs.DataSectors.{in-image}
-use Rattle.b2_record.specs.Items.{AllStorable}
 use Rattle.b2_record.specs.Writing.{record_of}
 use Rattle.b2_datafile.specs.Files.{IsFront, IsWhole, new_opened, with_end}
 use Rattle.b2_datafile.specs.Slots.{file_of, write_refusal}
@@ -37,12 +36,12 @@ use Rattle.b2_access.specs.Store.{StoreState, content, put}
 use Rattle.b2_access.specs.Touching.{IsLegal}
 use Rattle.b2_access.proofs.Held.{other_images_stay}
 use Rattle.b2_store.specs.DiskWork.{disks, scratched_image, serves}
-use Rattle.b2_store.specs.Files.{AreGood, HasFile, IsAbout, IsProper, OtherFilesStay, OtherRecordsStay, StaysAs}
+use Rattle.b2_store.specs.Files.{AreGood, HasFile, IsAbout, OtherFilesStay, OtherRecordsStay, StaysAs}
 use Rattle.b2_store.specs.FileWork.{file_ended, file_moved, new_file, record_saved, text_saved}
 use Rattle.b2_store.proofs.Answered.{IsFileOf, as-made-is, end-told, file-parts, ok-same, save-told}
-use Rattle.b2_store.proofs.Kept.{Keeps, end-keeps, save-keeps, scratch-keeps}
-use Rattle.b2_store.proofs.Made.{MadeOf, file-keeps, legal-new, name-kept, new-data, program-keeps}
-use Rattle.b2_store.proofs.Records.{ends-at, saves-at}
+use Rattle.b2_store.proofs.Kept.{Keeps, end-keeps, put-keeps, scratch-keeps}
+use Rattle.b2_store.proofs.Made.{MadeOf, file-keeps, name-kept, new-data, program-keeps}
+use Rattle.b2_store.proofs.Records.{allowed-room, ends-at, record-long}
 
 pub same-bytes : (a b : List ℕ) → (a ≡ b) ⊎ (a ≡ b → ⊥)
 same-bytes a b = by (bytes_eq a b) refl
@@ -71,16 +70,18 @@ file-some : (image : List ℕ) (slot : Slot) (n : ℕ) (o : Option Entry) → fi
 file-some image slot n None is h = cc
 file-some image slot n (Some e) is h = (e, is)
 
-pub saved-keeps : (image : List ℕ) (slot : Slot) (values : List Value) (m : Made ℕ) → Good Narrow image → IsLegal (access.DataSave slot values) → AllStorable values → record_saved slot values image ≡ Ok m → Keeps image m.image (λ q. slot.name ≡ q)
-saved-keeps image slot values m good legal storable h =
+pub saved-keeps : (image : List ℕ) (slot : Slot) (values : List Value) (m : Made ℕ) → Good Narrow image → IsLegal (access.DataSave slot values) → record_saved slot values image ≡ Ok m → Keeps image m.image (λ q. slot.name ≡ q)
+saved-keeps image slot values m good legal h =
     let t = save-told slot values image m h in
-    let f = file-some image slot (length (record_of values)) (file_of image slot) refl t.0 in
+    let count = length (record_of values) in
+    let f = file-some image slot count (file_of image slot) refl t.0 in
     let is = file-parts image slot f.0 f.1 in
     let start = is.start in
     let low = legal.1 in
-    let at = saves-at image slot f.0 values good (file-there image slot f.0 is) f.1 (omega (arith, start, low)) legal.0 storable t.0 in
+    let room = (allowed-room f.0 slot.pos count (ap (λ (o : Option Entry). write_refusal o slot.pos count) (sym f.1) ∙ t.0)).0 in
     subst (λ (q : List ℕ). Keeps image q (λ q. slot.name ≡ q)) (sym (ap (λ (x : Made ℕ). x.image) t.1))
-    (subst (λ (n : List ℕ). Keeps image (put_from image slot.pos (record_of values)) (λ q. n ≡ q)) (slot-named image slot f.0 is) (save-keeps image f.0 slot.pos values at))
+    (subst (λ (n : List ℕ). Keeps image (put_from image slot.pos (record_of values)) (λ q. n ≡ q)) (slot-named image slot f.0 is)
+    (put-keeps image f.0 slot.pos (record_of values) good (file-there image slot f.0 is) (record-long values legal.0) (omega (arith, start, low)) room))
 
 pub ended-keeps : (image : List ℕ) (slot : Slot) (m : Made ℕ) → Good Narrow image → slot.start ≤ slot.pos → file_ended slot image ≡ Ok m → Keeps image m.image (λ q. slot.name ≡ q)
 ended-keeps image slot m good low h =
@@ -155,31 +156,31 @@ module _ (s : StoreState) (addr image : List ℕ) (e : Entry) (there : content s
   elsewhere : (who : ℕ) (a : Access) (d : List ℕ) → image_changed a ≡ Some d → (d ≡ addr → ⊥) → Left (serves s who a).after
   elsewhere who a d changed apart = as-before (serves s who a).after (other_images_stay disks who addr a s (λ is. apart (same-some d addr (sym changed ∙ is))))
 
-  left : (who : ℕ) (a : Access) → IsLegal a → IsProper a → AreGood s → (IsAbout addr e.name a → ⊥) → Left (serves s who a).after
-  left who (access.Scratch d name) legal proper all about =
+  left : (who : ℕ) (a : Access) → IsLegal a → AreGood s → (IsAbout addr e.name a → ⊥) → Left (serves s who a).after
+  left who (access.Scratch d name) legal all about =
       let a = access.Scratch d name in
       elim (same-bytes d addr) as (λ _. Left (serves s who a).after) [
         | inl is ↦ unless-left (stop who (row a).reach s) _ (change-left d is (λ q. name ≡ q) (λ same. about (is, same)) answer.Done (λ i. i) (λ i. answer.Done) (disks.scratch name) (λ n made. scratched-keeps image good name n (slot_found image name) refl made))
         | inr apart ↦ elsewhere who a d refl apart
       ]
-  left who (access.Format d index end) legal proper all about = elsewhere who (access.Format d index end) d refl about
-  left who (access.DataNew d old sectors name) legal proper all about =
+  left who (access.Format d index end) legal all about = elsewhere who (access.Format d index end) d refl about
+  left who (access.DataNew d old sectors name) legal all about =
       let a = access.DataNew d old sectors name in
       elim (same-bytes d addr) as (λ _. Left (serves s who a).after) [
         | inl is ↦ unless-left (stop who (row a).reach s) _
             (change-left d is (MadeOf old name) (λ same. about (is, same)) (answer.Opened (no_file d name)) (λ m. m.image) (λ m. answer.Opened m.told) (new_file d old sectors name)
-            (λ m made. (new-data image d old sectors name m.image m.told good proper (legal-new d old sectors name legal) (as-made-is (new_opened image d old sectors name) m made)).keeps))
+            (λ m made. (new-data image d old sectors name m.image m.told good legal (as-made-is (new_opened image d old sectors name) m made)).keeps))
         | inr apart ↦ elsewhere who a d refl apart
       ]
-  left who (access.DataSave slot values) legal proper all about =
+  left who (access.DataSave slot values) legal all about =
       let a = access.DataSave slot values in
       elim (same-bytes slot.addr addr) as (λ _. Left (serves s who a).after) [
         | inl is ↦ unless-left (stop who (row a).reach s) _
             (change-left slot.addr is (λ q. slot.name ≡ q) (λ same. about (is, same)) (answer.Moved slot.pos) (λ m. m.image) (λ m. answer.Moved m.told) (record_saved slot values)
-            (λ m made. saved-keeps image slot values m good legal proper made))
+            (λ m made. saved-keeps image slot values m good legal made))
         | inr apart ↦ elsewhere who a slot.addr refl apart
       ]
-  left who (access.DataEnd slot) legal proper all about =
+  left who (access.DataEnd slot) legal all about =
       let a = access.DataEnd slot in
       elim (same-bytes slot.addr addr) as (λ _. Left (serves s who a).after) [
         | inl is ↦ unless-left (stop who (row a).reach s) _
@@ -187,25 +188,25 @@ module _ (s : StoreState) (addr image : List ℕ) (e : Entry) (there : content s
             (λ m made. ended-keeps image slot m good legal made))
         | inr apart ↦ elsewhere who a slot.addr refl apart
       ]
-  left who (access.SaveProgram d old name from to) legal proper all about =
+  left who (access.SaveProgram d old name from to) legal all about =
       let a = access.SaveProgram d old name from to in
       elim (same-bytes d addr) as (λ _. Left (serves s who a).after) [
         | inl is ↦ unless-left (stop who (row a).reach s) _
-            (save-left d is (MadeOf old name) (λ same. about (is, same)) who (text_saved old name from to) (λ t n made. program-keeps image old name (lines_within from to t.lines) n good proper made))
+            (save-left d is (MadeOf old name) (λ same. about (is, same)) who (text_saved old name from to) (λ t n made. program-keeps image old name (lines_within from to t.lines) n good legal made))
         | inr apart ↦ elsewhere who a d refl apart
       ]
-  left who (access.MovePlatter from to) legal proper all about = elsewhere who (access.MovePlatter from to) to refl about
-  left who (access.MoveFile from name to) legal proper all about =
+  left who (access.MovePlatter from to) legal all about = elsewhere who (access.MovePlatter from to) to refl about
+  left who (access.MoveFile from name to) legal all about =
       let a = access.MoveFile from name to in
       elim (same-bytes to addr) as (λ _. Left (serves s who a).after) [
         | inl is ↦ unless-left (stop who (row a).reach s) _
             (move-left to is (λ q. name ≡ q) (λ same. about (is, same)) from (file_moved name) (λ source n listed made. file-keeps source image name n (all from source listed) good made) (content s (object.Platter from)) refl)
         | inr apart ↦ elsewhere who a to refl apart
       ]
-  left who a legal proper all about = as-before (serves s who a).after (other_images_stay disks who addr a s (λ is. let never : None ≡ Some addr = is in cc))
+  left who a legal all about = as-before (serves s who a).after (other_images_stay disks who addr a s (λ is. let never : None ≡ Some addr = is in cc))
 
 pub other-files : OtherFilesStay
-other-files who a s addr image e legal proper all there file about = left s addr image e there (all addr image there) file who a legal proper all about
+other-files who a s addr image e legal all there file about = left s addr image e there (all addr image there) file who a legal all about
 
 -- ---- and its records
 
@@ -227,13 +228,13 @@ whole-left image new e records good file k w =
     }
 
 pub other-records : OtherRecordsStay
-other-records who a s addr e records legal proper all about = (
+other-records who a s addr e records legal all about = (
   (λ pos most h.
       let file = h.1 in
-      let l = left s addr h.0 e file.there file.good file.file who a legal proper all about in
+      let l = left s addr h.0 e file.there file.good file.file who a legal all about in
       (l.0, file-left s (serves s who a).after addr h.0 l.0 e file l.1 l.2 l.3, front-left h.0 l.0 e pos records most l.3 h.2)),
   (λ h.
       let file = h.1 in
-      let l = left s addr h.0 e file.there file.good file.file who a legal proper all about in
+      let l = left s addr h.0 e file.there file.good file.file who a legal all about in
       (l.0, file-left s (serves s who a).after addr h.0 l.0 e file l.1 l.2 l.3, whole-left h.0 l.0 e records file.good file.file l.3 h.2)),
 )

@@ -13,20 +13,21 @@ use Rattle.b2_platter.specs.declared.layout.Layout.TheVariants.{Narrow}
 use Rattle.b2_platter.specs.Checks.{Good}
 use Rattle.b2_platter.specs.Edits.{put_from}
 use Rattle.b2_platter.specs.Image.{sector, sectors_at}
+use Rattle.b2_platter.proofs.SectorRuns.{AllLong}
 use Rattle.b2_catalog.specs.declared.entry.Entry.{Entry}
 use Rattle.b2_catalog.specs.Catalogue.{Catalogue, catalogue}
 use Rattle.b2_catalog.proofs.DataSectors.{get-put}
 use Rattle.b2_record.specs.Items.{AllStorable, is_short}
 use Rattle.b2_record.specs.Records.{Spells, is_none, is_record, sector_kind, sector_of, sectors_from}
 use Rattle.b2_record.specs.Writing.{groups_of, record_of}
-use Rattle.b2_record.proofs.Groups.{record-spelled}
+use Rattle.b2_record.proofs.Groups.{parted-groups, record-spelled}
 use Rattle.b2_record.proofs.Unique.{record-length}
 use Rattle.b2_datafile.specs.Files.{IsEndOfRecords, IsFront, end_mark, with_end}
 use Rattle.b2_datafile.specs.Laws.{EndsAt, SavesAt}
 use Rattle.b2_datafile.specs.Loading.{LoadsRecord, values_loaded}
 use Rattle.b2_datafile.specs.Moving.{Moves}
 use Rattle.b2_datafile.specs.Slots.{file_of, open_file, write_refusal}
-use Rattle.b2_datafile.proofs.Fronts.{fills-more}
+use Rattle.b2_datafile.proofs.Fronts.{fills-more, long-groups}
 use Rattle.b2_datafile.proofs.FromFunctions.{place-goes, some-loaded}
 use Rattle.b2_datafile.proofs.Functions.{record-loaded}
 use Rattle.b2_datafile.proofs.Passing.{some-groups}
@@ -75,10 +76,14 @@ groups-count : (number : ℕ) (groups : List (List Value)) → length (sectors_f
 groups-count number [] = refl
 groups-count number (g ∷ groups) = ap suc (groups-count (number + 1) groups)
 
-pub record-is : (values : List Value) → list_all touching.is_short values ≡ true → AllStorable values → length (record_of values) ≤ 255 → Spells values (record_of values)
+record-is : (values : List Value) → list_all touching.is_short values ≡ true → AllStorable values → length (record_of values) ≤ 255 → Spells values (record_of values)
 record-is values short storable few = record-spelled values storable (sym (short-all values) ∙ short) (omega (arith, few, groups-count 1 (groups_of values)))
 
-pub saves-at : (image : List ℕ) (slot : Slot) (e : Entry) (values : List Value) → Good Narrow image → get (catalogue image) e.name ≡ Some e → file_of image slot ≡ Some e → e.start ≤ slot.pos
+-- each of its sectors is whole, whatever its numbers are
+pub record-long : (values : List Value) → list_all touching.is_short values ≡ true → AllLong (record_of values)
+record-long values short = long-groups (groups_of values) (parted-groups [] values refl (sym (short-all values) ∙ short))
+
+saves-at : (image : List ℕ) (slot : Slot) (e : Entry) (values : List Value) → Good Narrow image → get (catalogue image) e.name ≡ Some e → file_of image slot ≡ Some e → e.start ≤ slot.pos
     → list_all touching.is_short values ≡ true → AllStorable values → write_refusal (file_of image slot) slot.pos (length (record_of values)) ≡ None → SavesAt image e slot.pos values
 saves-at image slot e values good file is low short storable none =
     let room = allowed-room e slot.pos (length (record_of values)) (ap (λ (o : Option Entry). write_refusal o slot.pos (length (record_of values))) (sym is) ∙ none) in
@@ -88,7 +93,7 @@ same-place : (a b : ℕ) → answer.Moved a ≡ answer.Moved b → a ≡ b
 same-place a b h = cc
 
 pub saved-follow : SavedRecordsFollow
-saved-follow who slot values to s e records legal proper opens front told =
+saved-follow who slot values to s e records legal storable opens front told =
     let a = access.DataSave slot values in
     let image = front.0 in
     let file = front.1 in
@@ -96,7 +101,7 @@ saved-follow who slot values to s e records legal proper opens front told =
     (first_other who (first_there (row a).reach s)) (inside_edited who (row a).reach.text s) (ap stops told) in
     let t = save-told slot values image b.new b.is in
     let is = file-open s slot e image opens file in
-    let at = saves-at image slot e values file.good file.file is (let low = legal.1 in omega (arith, low, opens.1)) legal.0 proper t.0 in
+    let at = saves-at image slot e values file.good file.file is (let low = legal.1 in omega (arith, low, opens.1)) legal.0 storable t.0 in
     let place : slot.pos + length (record_of values) ≡ to = sym (ap (λ (m : Made ℕ). m.told) t.1) ∙ same-place b.new.told to (sym b.told ∙ told) in
     let new : b.new.image ≡ put_from image slot.pos (record_of values) = ap (λ (m : Made ℕ). m.image) t.1 in (
       put_from image slot.pos (record_of values),

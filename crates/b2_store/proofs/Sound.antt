@@ -35,11 +35,11 @@ use Rattle.b2_access.specs.Store.{StoreState, content, put}
 use Rattle.b2_access.specs.Touching.{IsLegal}
 use Rattle.b2_access.proofs.Held.{other_images_stay}
 use Rattle.b2_store.specs.DiskWork.{can_format, disks, serves, with_index}
-use Rattle.b2_store.specs.Files.{AreSound, IsProper, IsSound, PlattersStaySound}
+use Rattle.b2_store.specs.Files.{AreSound, IsSound, PlattersStaySound}
 use Rattle.b2_store.specs.FileWork.{file_ended, file_moved, files_moved, new_file, record_saved, text_saved}
 use Rattle.b2_store.proofs.Answered.{as-made-is}
 use Rattle.b2_store.proofs.Kept.{Keeps}
-use Rattle.b2_store.proofs.Made.{file-keeps, legal-new, new-data, program-keeps}
+use Rattle.b2_store.proofs.Made.{file-keeps, new-data, program-keeps}
 use Rattle.b2_store.proofs.Others.{ended-keeps, same-bytes, saved-keeps, scratched-keeps}
 
 -- ---- images
@@ -167,38 +167,38 @@ module _ (s : StoreState) (all : AreSound s) where
     move-by None is = all
     move-by (Some source) is = move-to source (all from source is) (content s (object.Platter to)) refl
 
-  stay : (who : ℕ) (a : Access) → IsLegal a → IsProper a → AreSound (serves s who a).after
-  stay who (access.Scratch d name) legal proper =
+  stay : (who : ℕ) (a : Access) → IsLegal a → AreSound (serves s who a).after
+  stay who (access.Scratch d name) legal =
       let a = access.Scratch d name in
       unless-sound (stop who (row a).reach s) _ (change-sound d answer.Done (λ i. i) (λ i. answer.Done) (disks.scratch name)
       (λ image n sound made. kept-sound image n (λ q. name ≡ q) sound (scratched-keeps image sound.0 name n (slot_found image name) refl made)))
-  stay who (access.Format d index end) legal proper =
+  stay who (access.Format d index end) legal =
       let a = access.Format d index end in
       unless-sound (stop who (row a).reach s) _ (change-sound d answer.Done (λ i. i) (λ i. answer.Done) (disks.format index end) (λ image n sound made. with-index-sound index end image n sound made))
-  stay who (access.DataNew d old sectors name) legal proper =
+  stay who (access.DataNew d old sectors name) legal =
       let a = access.DataNew d old sectors name in
       unless-sound (stop who (row a).reach s) _ (change-sound d (answer.Opened (no_file d name)) (λ m. m.image) (λ m. answer.Opened m.told) (new_file d old sectors name)
-      (λ image m sound made. kept-sound image m.image _ sound (new-data image d old sectors name m.image m.told sound.0 proper (legal-new d old sectors name legal) (as-made-is (new_opened image d old sectors name) m made)).keeps))
-  stay who (access.DataSave slot values) legal proper =
+      (λ image m sound made. kept-sound image m.image _ sound (new-data image d old sectors name m.image m.told sound.0 legal (as-made-is (new_opened image d old sectors name) m made)).keeps))
+  stay who (access.DataSave slot values) legal =
       let a = access.DataSave slot values in
       unless-sound (stop who (row a).reach s) _ (change-sound slot.addr (answer.Moved slot.pos) (λ m. m.image) (λ m. answer.Moved m.told) (record_saved slot values)
-      (λ image m sound made. kept-sound image m.image (λ q. slot.name ≡ q) sound (saved-keeps image slot values m sound.0 legal proper made)))
-  stay who (access.DataEnd slot) legal proper =
+      (λ image m sound made. kept-sound image m.image (λ q. slot.name ≡ q) sound (saved-keeps image slot values m sound.0 legal made)))
+  stay who (access.DataEnd slot) legal =
       let a = access.DataEnd slot in
       unless-sound (stop who (row a).reach s) _ (change-sound slot.addr (answer.Moved slot.pos) (λ m. m.image) (λ m. answer.Moved m.told) (file_ended slot)
       (λ image m sound made. kept-sound image m.image (λ q. slot.name ≡ q) sound (ended-keeps image slot m sound.0 legal made)))
-  stay who (access.SaveProgram d old name from to) legal proper =
+  stay who (access.SaveProgram d old name from to) legal =
       let a = access.SaveProgram d old name from to in
       unless-sound (stop who (row a).reach s) _ (save-by who d (text_saved old name from to)
-      (λ t image n sound made. kept-sound image n _ sound (program-keeps image old name (lines_within from to t.lines) n sound.0 proper made)) (content s (object.Platter d)) refl)
-  stay who (access.MovePlatter from to) legal proper =
+      (λ t image n sound made. kept-sound image n _ sound (program-keeps image old name (lines_within from to t.lines) n sound.0 legal made)) (content s (object.Platter d)) refl)
+  stay who (access.MovePlatter from to) legal =
       let a = access.MovePlatter from to in
       unless-sound (stop who (row a).reach s) _ (move-by from to files_moved (λ source image n first second made. moved-sound source image n first second made) (content s (object.Platter from)) refl)
-  stay who (access.MoveFile from name to) legal proper =
+  stay who (access.MoveFile from name to) legal =
       let a = access.MoveFile from name to in
       unless-sound (stop who (row a).reach s) _ (move-by from to (file_moved name)
       (λ source image n first second made. kept-sound image n (λ q. name ≡ q) second (file-keeps source image name n first.0 second.0 made)) (content s (object.Platter from)) refl)
-  stay who a legal proper = other-sound who a refl
+  stay who a legal = other-sound who a refl
 
 pub platters-stay-sound : PlattersStaySound
-platters-stay-sound who a s legal proper all = stay s all who a legal proper
+platters-stay-sound who a s legal all = stay s all who a legal

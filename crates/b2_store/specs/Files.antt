@@ -1,7 +1,6 @@
 -- What becomes of the files on a store's platters, whoever asks for what.
 use Rattle.std.specs.Prelude.{◌≡◌, ◌↔◌, ◌≤◌, ◌+◌, ◌-◌, ◌⊎◌, ℕ, true, false, List, [], ◌∷◌, ◌++◌, length, Option, Some}
 use Rattle.std.specs.FinMap.{get}
-use Rattle.b2_base.specs.Names.{is_name8}
 use Rattle.b2_base.specs.declared.files.By.{By}
 use Rattle.b2_base.specs.declared.files.Slot.{Slot}
 use Rattle.b2_dec.specs.declared.values.Kind.{Kind}
@@ -56,22 +55,12 @@ HasWhole s addr e records = (image : List ℕ) × HasFile s addr e image × IsWh
 abbrev pub Opens : Slot → Entry → Type 0
 Opens slot e = (slot.name ≡ e.name) × (slot.start ≡ e.start)
 
--- a name of a file
-abbrev pub IsName : List ℕ → Type 0
-IsName name = (is_name8 name ≡ true) × (length name ≡ 8)
-
--- what an access carries is what its types allow: the name of a file that it makes is one, and a record may hold the values that it saves
-abbrev pub IsProper : Access → Type 0
-IsProper (access.DataNew addr old sectors name) = IsName name
-IsProper (access.SaveProgram addr old name from to) = IsName name
-IsProper (access.DataSave slot values) = AllStorable values
-IsProper a = Unit {0}
-
--- A record that is saved at a place follows the records up to there: with it they go up to the place that is told.
+-- A record that is saved at a place follows the records up to there, if its numbers are such as there are: with it they go up to the place
+-- that is told.
 abbrev pub SavedRecordsFollow : Type 0
 SavedRecordsFollow =
     (who : ℕ) (slot : Slot) (values : List Value) (to : ℕ) (s : StoreState) (e : Entry) (records : List (List Value))
-    → IsLegal (access.DataSave slot values) → IsProper (access.DataSave slot values) → Opens slot e → HasFront s slot.addr e slot.pos records → (serves s who (access.DataSave slot values)).answer ≡ answer.Moved to
+    → IsLegal (access.DataSave slot values) → AllStorable values → Opens slot e → HasFront s slot.addr e slot.pos records → (serves s who (access.DataSave slot values)).answer ≡ answer.Moved to
     → HasFront (serves s who (access.DataSave slot values)).after slot.addr e to (records ++ values ∷ [])
 
 -- An end mark that is written at a place makes the records up to there the whole of the file, and the place stays.
@@ -103,7 +92,7 @@ MovedPlacesGoOver =
 abbrev pub MadeFilesAreEmpty : Type 0
 MadeFilesAreEmpty =
     (who : ℕ) (addr : List ℕ) (old : Option (List ℕ)) (sectors : ℕ) (name image : List ℕ) (slot : Slot) (s : StoreState)
-    → IsLegal (access.DataNew addr old sectors name) → IsProper (access.DataNew addr old sectors name) → content s (object.Platter addr) ≡ Some image → Good Narrow image
+    → IsLegal (access.DataNew addr old sectors name) → content s (object.Platter addr) ≡ Some image → Good Narrow image
     → (serves s who (access.DataNew addr old sectors name)).answer ≡ answer.Opened slot
     → (e : Entry) × (slot ≡ opened addr e) × HasWhole (serves s who (access.DataNew addr old sectors name)).after addr e []
 
@@ -129,17 +118,17 @@ pub record StaysAs (image new : List ℕ) (e : Entry) : Type 0 where
 abbrev pub OtherFilesStay : Type 0
 OtherFilesStay =
     (who : ℕ) (a : Access) (s : StoreState) (addr image : List ℕ) (e : Entry)
-    → IsLegal a → IsProper a → AreGood s → content s (object.Platter addr) ≡ Some image → get (catalogue image) e.name ≡ Some e → (IsAbout addr e.name a → ⊥)
+    → IsLegal a → AreGood s → content s (object.Platter addr) ≡ Some image → get (catalogue image) e.name ≡ Some e → (IsAbout addr e.name a → ⊥)
     → (new : List ℕ) × (content (serves s who a).after (object.Platter addr) ≡ Some new) × Good Narrow new × StaysAs image new e
 
 -- So its records stay, up to a place and up to its end mark.
 abbrev pub OtherRecordsStay : Type 0
 OtherRecordsStay =
     (who : ℕ) (a : Access) (s : StoreState) (addr : List ℕ) (e : Entry) (records : List (List Value))
-    → IsLegal a → IsProper a → AreGood s → (IsAbout addr e.name a → ⊥)
+    → IsLegal a → AreGood s → (IsAbout addr e.name a → ⊥)
     → ((pos : ℕ) → pos ≤ e.end + 1 → HasFront s addr e pos records → HasFront (serves s who a).after addr e pos records)
     × (HasWhole s addr e records → HasWhole (serves s who a).after addr e records)
 
 -- Each access leaves every platter sound.
 abbrev pub PlattersStaySound : Type 0
-PlattersStaySound = (who : ℕ) (a : Access) (s : StoreState) → IsLegal a → IsProper a → AreSound s → AreSound (serves s who a).after
+PlattersStaySound = (who : ℕ) (a : Access) (s : StoreState) → IsLegal a → AreSound s → AreSound (serves s who a).after

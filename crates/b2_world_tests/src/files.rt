@@ -7,7 +7,7 @@
 // NAME` load one. `move FROM TO` moves all files, `move_file FROM NAME TO` one.
 ghost use Rattle.std.specs.Prelude.{◌≡◌, ◌≤◌, IfOk, IfSome, true};
 ghost use Rattle.std.specs.List.{list_all};
-ghost use Rattle.b2_access.specs.Touching.{IsLegal, is_short};
+ghost use Rattle.b2_access.specs.Touching.{IsLegal, IsName, is_short};
 
 use crate::pieces::word;
 use b2_access::Access;
@@ -111,6 +111,14 @@ fn at_slot(alloc: Global, kind: &str, rest: &[u8]) -> Result<Option<Access>, NoM
     })
 }
 
+/// The name of a file that is made, None where bytes aren't one.
+#[tactic(auto, using(b2_access::proofs::Named::name_is))]
+fn made_name(bytes: &[u8]) -> Option<Name8>
+    ensures { IfSome result IsName }
+{
+    Name8::of(bytes)
+}
+
 /// An access that makes or opens a data file, None where it is misspelled.
 fn at_data(kind: &str, rest: &[u8]) -> Option<Access>
     ensures { IfSome result IsLegal }
@@ -128,14 +136,14 @@ fn at_data(kind: &str, rest: &[u8]) -> Option<Access>
                 addr,
                 old: None,
                 sectors,
-                name: Name8::of(second)?,
+                name: made_name(second)?,
             })
         }
         "again" => Some(Access::DataNew {
             addr,
             old: Some(Name8::of(first)?),
             sectors: 0,
-            name: Name8::of(second)?,
+            name: made_name(second)?,
         }),
         _ => Some(Access::DataOpen {
             addr,
@@ -156,7 +164,7 @@ fn at_program(kind: &str, rest: &[u8]) -> Option<Access>
         "store" => Some(Access::SaveProgram {
             addr,
             old: None,
-            name: Name8::of(first)?,
+            name: made_name(first)?,
             from: number_of(second),
             to: number_of(third),
         }),
@@ -165,7 +173,7 @@ fn at_program(kind: &str, rest: &[u8]) -> Option<Access>
             Some(Access::SaveProgram {
                 addr,
                 old: Some(Name8::of(first)?),
-                name: Name8::of(second)?,
+                name: made_name(second)?,
                 from: number_of(from),
                 to: number_of(to),
             })
