@@ -14,4 +14,4 @@ pub mod Others
 pub mod Sound
 pub mod Spares
 pub mod Loans
-pub mod Names
+pub mod Naming

@@ -323,7 +323,7 @@ impl Stores {
     }
 
     /// A partition declares a name, unless another one holds it.
-    #[tactic(auto, using(crate::proofs::Names::declared, crate::proofs::Names::declared_by_another))]
+    #[tactic(auto, using(crate::proofs::Naming::declared, crate::proofs::Naming::declared_by_another))]
     fn declare(&mut self, who: Part, name: Name8, old: Option<Name8>) -> Result<Answer, NoMemory>
         ensures { IfOk result (Does who (Access.Declare name old) self.old self.new) }
     {
@@ -457,7 +457,7 @@ impl Stores {
     }
 
     /// The same, and the partition gives up a name that it holds, where one is given.
-    #[tactic(auto, using(crate::proofs::Names::cleared))]
+    #[tactic(auto, using(crate::proofs::Naming::cleared))]
     fn clear_all(&mut self, who: Part, name: Option<Name8>) -> Answer
         ensures { (homes : ℕ) → Does who (Access.ClearAll name homes) self.old self.new result }
     {
@@ -604,7 +604,7 @@ impl Stores {
     }
 
     /// Loads the lines of a program into the text of a partition, which gives up the name that it has declared.
-    #[tactic(auto, using(crate::proofs::Same::with_same, crate::proofs::Names::loaded))]
+    #[tactic(auto, using(crate::proofs::Same::with_same, crate::proofs::Naming::loaded))]
     fn load_program(
         &mut self,
         who: Part,
