@@ -11,7 +11,7 @@ use Rattle.b2_access.specs.AccessRows.{DeclareTask, becomes_text, clears, clears
 use Rattle.b2_access.specs.AnswerKinds.{is_done}
 use Rattle.b2_access.specs.Answering.{TellsOnly}
 use Rattle.b2_access.specs.Reach.{objects_named}
-use Rattle.b2_access.specs.Rows.{NameRows, row_of, with_name_row, with_row}
+use Rattle.b2_access.specs.Rows.{NameRows, device_row, holder_in, row_of, with_device_row, with_or_added, with_row}
 use Rattle.b2_access.specs.Serving.{performs}
 use Rattle.b2_access.specs.Sharing.{Gives}
 use Rattle.b2_access.specs.Store.{StoreState}
@@ -19,7 +19,7 @@ use Rattle.b2_access.specs.Task.{AreIn, Refuse, Task}
 use Rattle.b2_access.proofs.Holders.{given_up, gives_up_first, performs_on, performs_same}
 use Rattle.b2_access.proofs.Told.{of_text}
 use Rattle.b2_store.specs.DiskWork.{disks}
-use Rattle.b2_store.specs.Names.{holding, named, without_name}
+use Rattle.b2_store.specs.Names.{freed_in, holding, named, without_name}
 
 abbrev done : StoreState → Gives StoreState
 done s = record { after = s; answer = answer.Done }
@@ -30,11 +30,16 @@ with_names rows s = record s { names = rows }
 -- a name is given up in its rows
 names_left : (who : ℕ) (name : Option (List ℕ)) (s : StoreState) → given_up who name s s ≡ with_names (without_name who name s.names) s
 names_left who None s = refl
-names_left who (Some name) s = by (is_held_by who (holding name s.names))
+names_left who (Some name) s = by_row (device_row name s.names)
   where
-    by : (own : Bool) → (if own then with_names (with_name_row name s.names None) s else s) ≡ with_names (if own then with_name_row name s.names None else s.names) s
+    by : (own : Bool) → (if own then with_names (with_device_row name s.names None) s else s) ≡ with_names (if own then with_device_row name s.names None else s.names) s
     by true = refl
     by false = refl
+    by_row : (row : Option (Option ℕ))
+        → (if is_held_by who (Some (holder_in row)) then with_names (with_or_added row name s.names None) s else s)
+        ≡ with_names (if is_held_by who (Some (holder_in row)) then freed_in row name s.names else s.names) s
+    by_row None = refl
+    by_row (Some holder) = by (is_held_by who (Some holder))
 
 -- and then the rest is done
 left : {ts ws : List Object} (who : ℕ) (name : Option (List ℕ)) (looked : AreIn (objects_named name) ts) (told : AreIn (objects_named name) ws) (t : Task ts ws) (s : StoreState) → TellsOnly is_done t

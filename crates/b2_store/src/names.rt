@@ -1,8 +1,8 @@
 // Who holds which name of global text.
 ghost use Rattle.std.specs.Prelude.{◌≡◌, [], OnOk};
-ghost use Rattle.b2_access.specs.AccessRows.{is_held_by_other};
+ghost use Rattle.b2_access.specs.AccessRows.{is_held_by, is_held_by_other};
 ghost use Rattle.b2_access.specs.Rows.{name_row, with_name_row};
-ghost use Rattle.b2_store.specs.Names.{holding, named, without_name, without_one};
+ghost use Rattle.b2_store.specs.Names.{freed, holding, named, without_name, without_one};
 
 use crate::rows::Rows;
 use b2_base::{Name8, NoMemory, Part};
@@ -64,14 +64,31 @@ impl Names {
         self.rows.add(name, holder)
     }
 
+    /// Whether a partition holds a name.
+    fn is_held_by(&self, who: Part, name: Name8) -> bool
+        ensures { result ≡ is_held_by who (holding name self.now) }
+    {
+        match self.holder(name) {
+            Some(p) => p == who,
+            None => false,
+        }
+    }
+
+    /// Nobody holds a name any more, where one did.
+    fn free(&mut self, name: Name8)
+        ensures { self.new ≡ freed name self.old }
+    {
+        if let Some(row) = self.rows.get_mut(name) {
+            *row = None;
+        }
+    }
+
     /// A partition gives up a name that it holds; where it doesn't, all stays.
     fn give_up_one(&mut self, who: Part, name: Name8)
         ensures { self.new ≡ without_one who name self.old }
     {
-        if let Some(row) = self.rows.get_mut(name) {
-            if *row == Some(who) {
-                *row = None;
-            }
+        if self.is_held_by(who, name) {
+            self.free(name);
         }
     }
 

@@ -457,7 +457,6 @@ impl Stores {
     }
 
     /// The same, and the partition gives up a name that it holds, where one is given.
-    #[tactic(auto, using(crate::proofs::Naming::cleared))]
     fn clear_all(&mut self, who: Part, name: Option<Name8>) -> Answer
         ensures { (homes : ℕ) → Does who (Access.ClearAll name homes) self.old self.new result }
     {
