@@ -32,7 +32,7 @@ use b2_catalog::enter;
 use b2_platter::Platter;
 use b2_store::{StoreBoot, Stores};
 use b2_term::KeyItem;
-use b2_vars::Var;
+use b2_vars::{Var, Vars};
 use std::alloc::Global;
 use std::fmt::Write;
 
@@ -433,6 +433,43 @@ fn show_note(had: &[u8], into: &mut String) -> Result<(), NoMemory> {
     show_named(into, "had", had)
 }
 
+/// The variable N$.
+const NOTE: Var = Var {
+    letter: b'N',
+    digit: None,
+    alpha: true,
+    array: false,
+};
+
+/// Shows the word that N$ has among some variables.
+fn show_noted(globals: &Vars, into: &mut String) -> Result<(), NoMemory> {
+    match globals.alpha(NOTE, 0, 0) {
+        Ok(had) => show_note(word(had).0, into)?,
+        Err(code) => show_code(into, code)?,
+    }
+    Ok(())
+}
+
+/// Shows the code of a fault, where memory didn't fail.
+fn show_refused(fault: Fault, into: &mut String) -> Result<(), NoMemory> {
+    match fault {
+        Fault::Code(code) => {
+            into.push(' ')?;
+            show_code(into, code)?;
+            Ok(())
+        }
+        Fault::NoMemory => Err(NoMemory),
+    }
+}
+
+/// Gives N$ another word, or shows the code with which that is refused.
+fn set_note(globals: &mut Vars, other: &[u8], into: &mut String) -> Result<(), NoMemory> {
+    match globals.set_alpha(NOTE, 0, 0, other) {
+        Ok(()) => Ok(()),
+        Err(fault) => show_refused(fault, into),
+    }
+}
+
 /// Shows the word that N$ has among the `@` variables that are lent, and gives it another one, where one is spelled; or shows that none
 /// are found.
 fn note_lent(lent: Lent<'_>, other: &[u8], into: &mut String) -> Result<(), NoMemory> {
@@ -440,28 +477,11 @@ fn note_lent(lent: Lent<'_>, other: &[u8], into: &mut String) -> Result<(), NoMe
         into.push_str("none found")?;
         return Ok(());
     }
-    let note = Var {
-        letter: b'N',
-        digit: None,
-        alpha: true,
-        array: false,
-    };
-    match lent.globals.alpha(note, 0, 0) {
-        Ok(had) => show_note(word(had).0, into)?,
-        Err(code) => show_code(into, code)?,
-    }
+    show_noted(lent.globals, into)?;
     if other.is_empty() {
         return Ok(());
     }
-    match lent.globals.set_alpha(note, 0, 0, other) {
-        Ok(()) => Ok(()),
-        Err(Fault::Code(code)) => {
-            into.push(' ')?;
-            show_code(into, code)?;
-            Ok(())
-        }
-        Err(Fault::NoMemory) => Err(NoMemory),
-    }
+    set_note(lent.globals, other, into)
 }
 
 /// Uses the `@` variables that a store of any kind lends.
