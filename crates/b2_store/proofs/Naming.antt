@@ -35,6 +35,7 @@ names_left who (Some name) s = by_row (device_row name s.names)
     by : (own : Bool) → (if own then with_names (with_device_row name s.names None) s else s) ≡ with_names (if own then with_device_row name s.names None else s.names) s
     by true = refl
     by false = refl
+
     by_row : (row : Option (Option ℕ))
         → (if is_held_by who (Some (holder_in row)) then with_names (with_or_added row name s.names None) s else s)
         ≡ with_names (if is_held_by who (Some (holder_in row)) then freed_in row name s.names else s.names) s
@@ -79,6 +80,6 @@ module _ (who : ℕ) (s : StoreState) where
 
   pub cleared : (name : Option (List ℕ)) → performs (clears who None) (with_names (without_name who name s.names) s) ≡ performs (clears who name) s
   cleared name = sym (
-    left who name (λ o i. inr (inr (inr i))) (λ o i. inr (inr i)) (clears_own who name) s (of_text who name)
-    ∙ same_clearing name (without_name who name s.names) (row_of who s.texts)
-  )
+      left who name (λ o i. inr (inr (inr i))) (λ o i. inr (inr i)) (clears_own who name) s (of_text who name)
+      ∙ same_clearing name (without_name who name s.names) (row_of who s.texts)
+      )
