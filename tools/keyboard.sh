@@ -25,9 +25,19 @@ make_work_folder() {
     work=$(mktemp -d /dev/shm/b2.XXXXXX 2>/dev/null) || work=$(mktemp -d) || fail 2 "no folder for the outputs can be made"
 }
 
+# The files of the disk and of the printer, where words name them.
+disk= printer=
+take_device_word() { # WORD FILE
+    case $1 in
+        --disk) disk=$2 ;;
+        --printer) printer=$2 ;;
+        *) return 1 ;;
+    esac
+    [ -n "$2" ] || fail 2 "$1 wants a file"
+}
+
 # A boot file of one partition with the largest areas. It has a disk or a printer where `disk` or `printer` names a file: the disk
 # begins as the file `disk` of the work folder, blank where that isn't there.
-disk= printer=
 write_boot() { # FILE QUOTA
     printf '%s\n' "quota = $2" '' '[[terminal]]' 'number = 1' 'front = 1' '' \
         '[[partition]]' 'number = 1' 'terminal = 1' 'text = 24' 'data = 24' 'globals = 8' >"$1"
@@ -55,6 +65,21 @@ put_devices() {
     { [ -z "$disk" ] || put_file "$work/out.D11" "$disk"; } && { [ -z "$printer" ] || put_file "$work/out.p215" "$printer"; }
 }
 
+# Whether a boot file can name a disk so.
+is_image_name() { # NAME
+    [[ $1 =~ ^[A-Za-z0-9._/-]{1,190}$ ]]
+}
+
+# Puts the boot file, which names the disk as it was at the start where that is kept.
+kept_boot() { # NAME
+    sed "s|^image = \"disk\"|image = \"$1\"|" "$work/boot"
+}
+
+# Keeps the disk as it was at the start, where it wasn't blank.
+keep_disk() { # FILE
+    [ ! -e "$work/disk" ] || cp -- "$work/disk" "$1"
+}
+
 # Runs the log and the lines that are given here after it. Sets `rise` to the steps that counted beyond `steps`; or sets
 # `refusal` to the program's line, where it ends with another status than 0. No `$( )` stands here: inside of one, a trapped
 # signal breaks bash 5.2.
@@ -74,12 +99,17 @@ transcript() { # TERMINAL
     printf -v out '%s/out.t%02d' "$work" "$1"
 }
 
+# Sets `size` to how many bytes a file has.
+size_of() { # FILE
+    wc -c <"$1" >"$work/size"
+    read -r size <"$work/size"
+}
+
 # Shows what the transcript has beyond its first `shown` bytes. SHOW leaves in the file `held` how many of the last bytes it
 # held back, where it does so.
 show_new() { # SHOW
     local size held=0
-    wc -c <"$out" >"$work/size"
-    read -r size <"$work/size"
+    size_of "$out"
     ((size > shown)) || return 0
     echo 0 >"$work/held"
     tail -c +$((shown + 1)) "$out" | "$1"

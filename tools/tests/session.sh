@@ -110,6 +110,66 @@ shared_terminal() {
     replays
 }
 
+# What was saved on the disk and printed is there afterwards, and so are both in the session that goes on.
+devices() {
+    session="a session with a disk and a printer"
+    rm -f s.log* my.disk report.txt
+    begin_session --disk my.disk --printer report.txt
+    see READY && see : && send 'DATASAVE DC OPEN T,5,"KEPT":DATASAVE DC 7:DATASAVE DC END\r' && see 'DC END\r' && see '\n:' &&
+        send '\017' && see '[nothing new at printer 215]' &&
+        send 'SELECT PRINT 215:PRINT "A REPORT"\r' && see '"A REPORT"\r' && see '\n:' &&
+        send '\017' && see '[printer 215]' && see 'A REPORT\r' && send '\017' && see '[nothing new at printer 215]'
+    send '\004'
+    end_session 0
+    replays
+    is_text "$session: what was printed" report.txt 'A REPORT\n'
+    same "$session: the disk" my.disk again.D11
+    session="a session that goes on with its devices"
+    begin_session
+    see READY && see 'A REPORT"\r' && see : && send '\017' && see '[nothing new at printer 215]' &&
+        send 'DATALOAD DC OPEN T,"KEPT":DATALOAD DC N:PRINT N\r' && see 'PRINT N\r' && see '\n:' &&
+        send '\017' && see '[printer 215]' && see ' 7 ' && send 'SCRATCH T,"KEPT"\r' && see 'KEPT"\r' && see '\n:'
+    send '\004'
+    end_session 0
+    replays
+    is_text "$session: what was printed" report.txt 'A REPORT\n 7 \n'
+    same "$session: the disk" my.disk again.D11
+    session="a session with the disk of another one"
+    cp my.disk before.disk
+    mkdir -p first && mv s.log* first
+    begin_session --disk my.disk
+    see READY && see : && send 'LIST DC T\r' && see KEPT && see '\n:' && send 'DATASAVE DC OPEN T,5,"MORE"\r' && see 'MORE"\r' && see '\n:'
+    send '\004'
+    end_session 0
+    replays
+    same "$session: the disk as it was before" s.log.disk before.disk
+    same "$session: the disk" my.disk again.D11
+    rm -f s.log* && mv first/* .
+    session="a session whose disk was changed since"
+    cp my.disk before.disk
+    begin_session
+    see 'my.disk is not as the session left it'
+    end_session 2
+    same "$session: the disk stays" my.disk before.disk
+    session="a session that began with another disk"
+    begin_session --disk before.disk
+    see 's.log began with other devices'
+    end_session 2
+    session="a session whose disk is changed meanwhile"
+    rm -f s.log*
+    begin_session --disk my.disk
+    see READY && see : && send 'SCRATCH T,"MORE"\r' && see 'MORE"\r' && see '\n:' && rm my.disk && echo other >my.disk && send '\004' &&
+        see 'my.disk was changed meanwhile and stays so'
+    end_session 2
+    is_text "$session: the disk stays" my.disk 'other\n'
+    session="a session without a printer"
+    rm -f s.log*
+    begin_session
+    see READY && see : && send '\017' && see '[there is no printer]'
+    send '\004'
+    end_session 0
+}
+
 signals() {
     local signal number
     for signal in TERM:143 HUP:129 INT:130; do
@@ -152,6 +212,7 @@ if command -v script >/dev/null 2>&1; then
     one_terminal
     two_terminals
     shared_terminal
+    devices
     signals
     limits
 else
