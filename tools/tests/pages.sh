@@ -13,6 +13,37 @@ examples_run() {
     if [ "$count" -ge 8 ]; then ok; else bad "examples" "only $count listings"; fi
 }
 
+# The boot file and the log of the run that leaves the disk with which a boot file of the examples begins.
+day_before() { # BOOT
+    case $1 in
+        kept.toml) echo disk.toml disk.log ;;
+        totals.toml) echo orders.toml orders.log ;;
+        start.toml) echo disk.toml articles.log ;;
+        nextday.toml) echo depot.toml depot.log ;;
+    esac
+}
+
+# What comes out otherwise under other orders of an example's log is what the page says, and nothing else.
+examples_under_other_orders() {
+    local boot log before_boot before_log
+    sed -n 's/^| `\([a-z]*\.toml\) \([a-z]*\.log\)` .*/\1 \2/p' "$top/examples/README.md" | sort -u >"$work/logs"
+    while read -r boot log; do
+        read -r before_boot before_log < <(day_before "$boot")
+        [ -z "$before_boot" ] || ./b2 run "examples/$before_boot" "examples/$before_log" out >"$work/out"
+        awk -v row="| \`$boot $log\` | " '
+            /^## / { inside = $0 == "## Under other orders" }
+            inside && index($0, row) == 1 { $0 = substr($0, length(row) + 1); sub(/ \|.*/, ""); gsub(/, /, "\n"); print }
+            ' "$top/examples/README.md" >"$work/wanted"
+        ./b2 vary "examples/$boot" "examples/$log" 10 >"$work/told" 2>"$work/err"
+        is_empty "$boot $log under other orders" "$work/err"
+        sed -n 's/^\(.*\): otherwise in [1-9].*/\1/p' "$work/told" >"$work/otherwise"
+        same "$boot $log under other orders" "$work/otherwise" "$work/wanted"
+    done <"$work/logs"
+    ls "$top/examples" | sed -n '/\.log$/p' >"$work/wanted"
+    cut -d' ' -f2 "$work/logs" | sort >"$work/listed"
+    same "examples/README.md lists each log once" "$work/listed" "$work/wanted"
+}
+
 # Whether a command is one for the tests of sessions, or these tests themselves.
 is_tried_elsewhere() { # COMMAND
     [[ $1 == './b2 live'* || $1 == *live.log* || $1 == './b2 test' ]]
@@ -92,6 +123,8 @@ export work
 examples_run
 consoles_run docs/USING.md
 consoles_run README.md
+consoles_run examples/README.md
 for page in README.md docs/USING.md docs/CODES.md examples/README.md; do commands_in_text_run "$page"; done
 codes_are_shown
+examples_under_other_orders
 gives 0 "ARCHITECTURE.md has the picture of crates.txt" "$top/tools/picture" --check
