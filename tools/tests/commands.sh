@@ -191,6 +191,9 @@ try_refuses() {
     gives 2 "live without a terminal" ./b2 live
     gives 2 "live --fast" ./b2 live --fast
     gives 2 "live nofile" ./b2 live nofile
+    gives 2 "live --disk without a file" ./b2 live --disk
+    gives 2 "live --disk with a boot file" ./b2 live --disk my.disk examples/two.toml
+    is_text "live --disk with a boot file" "$work/err" 'live: a boot file says itself which disks and printers there are\n'
 }
 
 # What is kept shows the same again, up to the RUN and from there on.
@@ -260,7 +263,7 @@ vary_leaves_alone_what_is_apart() {
         ./b2 type 1 loops.bas
         ./b2 type 2 loops.bas
         for line in 'type 1 RUN' 'type 2 RUN' 'rounds 30' 'type 1 7' 'rounds 3' 'type 2 9' 'rounds 5' 'halt 1' 'rounds 2' 'halt 2' \
-            'turn 2 3' 'rounds 2' 'type 1 PRINT X>0' 'type 2 PRINT X>0' 'rounds 2'; do echo "$line"; done
+            'turn 2 3' 'rounds 2' 'type 1 PRINT SGN(X)' 'type 2 PRINT SGN(X)' 'rounds 2'; do echo "$line"; done
     } >loops.log
     gives 0 "vary: nothing in common" ./b2 vary examples/two.toml loops.log 40
     is_text "vary: nothing in common" "$work/out" 'terminal 1: otherwise in 0 of 40\nterminal 2: otherwise in 0 of 40\n'
@@ -268,6 +271,92 @@ vary_leaves_alone_what_is_apart() {
     gives 0 "vary: a shared terminal" ./b2 vary examples/front.toml examples/front.log 5
     printf 'turn 1 1\nturn 2 1\ntype 1 PRINT 1\nturn 1 9\n' >turns.log
     gives 0 "vary: turns alone" ./b2 vary examples/two.toml turns.log 5
+    is_text "vary: turns alone" "$work/out" 'terminal 1: otherwise in 0 of 5\nterminal 2: otherwise in 0 of 5\n'
+    gives 0 "vary --show: turns alone" ./b2 vary --show 1 examples/two.toml turns.log
+    same "vary: turns alone stay" vary.log turns.log
+}
+
+# A log in which two partitions want one disk, and the second has it just in time.
+write_tight_log() { # LINES BEFORE
+    local line='10 $OPEN /D11:FOR I=1 TO 100:NEXT I:$CLOSE:PRINT "DONE"'
+    printf '%b' "$1" >tight.log
+    printf '%s\n' "type 1 $line" "type 2 $line" 'rounds 3' 'type 1 RUN' 'type 2 RUN' 'rounds 12' >>tight.log
+}
+
+# Who comes too late for the disk gets more turns until all wait again, where the limits leave any.
+vary_gives_more_turns() {
+    local turns=4999
+    write_tight_log ''
+    gives 0 "vary: more turns" ./b2 vary examples/orders.toml tight.log 20
+    is_text "vary: more turns" "$work/out" \
+        'terminal 1: otherwise in 0 of 20\nterminal 2: otherwise in 0 of 20\ndisk D11: otherwise in 0 of 20\n'
+    gives 0 "vary: an order that wants eight rounds more" ./b2 vary --show 6 examples/orders.toml tight.log
+    has "vary: an order that wants eight rounds more" vary.log 'rounds 8'
+    # Turns of a partition that isn't there grant steps as well.
+    write_tight_log "$(for ((; turns > 0; turns--)); do echo 'turn 9 1000'; done)\nturn 9 350\n"
+    gives 20 "vary: no more turns" ./b2 vary examples/orders.toml tight.log 20
+    has "vary: no more turns" "$work/out" "of them somebody may only have come too late for a key: the log's limits leave no more turns"
+}
+
+# A stand-in for the program, that says who is apart, and shows at terminal 1 what a command makes of the log.
+write_stand_in() { # LIST COMMAND
+    printf '%s\n' '#!/bin/sh' 'echo run >>runs' "$2 <\"\$3\" >\"\$4.t01\"" 'echo >"$4.t02"' "echo 'turns 1 steps 1 dropped 0 apart $1'" >stand_in
+    chmod +x stand_in
+    rm -f runs
+}
+
+stand_in() { # WORD..
+    B2_PROGRAM=$PWD/stand_in "$top/tools/vary" "$@"
+}
+
+vary_reports_a_fault_of_the_machine() {
+    printf '%s\n' 'rounds 2' 'type 1 RUN' 'rounds 9' >rounds.log
+    write_stand_in 1,2 cksum
+    gives 21 "vary: a fault of the machine" stand_in examples/two.toml rounds.log 3
+    has "vary: a fault of the machine" "$work/out" \
+        'a fault of the machine: partition 1 is apart, and terminal 1 came out otherwise: seed 1, order 1'
+    if grep -q 'partition 2' "$work/out"; then bad "vary: a fault of the machine" "$(cat "$work/out")"; else ok; fi
+    write_stand_in 2 cksum
+    gives 20 "vary: no fault of who isn't apart" stand_in examples/two.toml rounds.log 3
+    rm stand_in
+    gives 127 "vary without the program" stand_in examples/two.toml rounds.log 3
+}
+
+# Who waits after each of many lines is asked by one run, beside that of the log itself and those of the orders.
+vary_asks_little() {
+    local count
+    for ((count = 0; count < 500; count++)); do printf '%s\n' 'type 1 PRINT 1' 'rounds 3' 'type 2 PRINT 2' 'rounds 3'; done >long.log
+    write_stand_in - true
+    gives 0 "vary: a log of many lines" stand_in examples/two.toml long.log 10
+    if [ "$(wc -l <runs)" -eq 12 ]; then ok; else bad "vary: a log of many lines" "$(wc -l <runs) runs"; fi
+}
+
+# Halts, resets and fronts stay where they are among the turns.
+vary_keeps_what_else_happens() {
+    local line terminal
+    {
+        printf '%s\n' '10 FOR I=1 TO 50:NEXT I:PRINT "DONE";#PART' '20 X=X+1:GOTO 20' >part.bas
+        echo 'rounds 2'
+        ./b2 type 1 part.bas
+        echo 'front 1 2'
+        ./b2 type 1 part.bas 2
+        ./b2 type 2 part.bas 3
+        for line in 'type 1 RUN' 'type 2 RUN' 'rounds 3' 'front 1 1' 'type 1 RUN' 'rounds 9' 'halt 1' 'halt 3' 'rounds 2' 'turn 2 7' \
+            'type 1 PRINT SGN(X);#PART' 'type 2 PRINT SGN(X);#PART' 'rounds 2' 'front 1 2' 'rounds 1' 'reset 2' 'rounds 2'; do echo "$line"; done
+    } >halts.log
+    gives 0 "vary: halts and fronts run" ./b2 run examples/apart.toml halts.log first
+    gives 0 "vary: halts and fronts" ./b2 vary examples/apart.toml halts.log 20
+    is_text "vary: halts and fronts" "$work/out" 'terminal 1: otherwise in 0 of 20\nterminal 2: otherwise in 0 of 20\n'
+    gives 0 "vary: an order with halts and fronts" ./b2 vary --show 2 examples/apart.toml halts.log
+    { printf -- '-- terminal 1\n' && cat first.t01 && printf '\n-- terminal 2\n' && cat first.t02 && echo; } >wanted
+    same "vary: an order with halts and fronts" "$work/out" wanted
+    grep -v -e '^turn' -e '^rounds' halts.log >wanted
+    grep -v -e '^turn' -e '^rounds' vary.log >"$work/kept"
+    same "vary: what an order keeps" "$work/kept" wanted
+    gives 0 "vary: an order with halts and fronts again" ./b2 run examples/apart.toml vary.log again
+    for terminal in 01 02; do
+        same "vary: terminal $terminal of an order with halts and fronts" "again.t$terminal" "first.t$terminal"
+    done
 }
 
 vary_refuses() {
@@ -285,10 +374,29 @@ vary_refuses() {
     echo 'sing 1' >bad.log
     gives 5 "vary: a bad log" ./b2 vary examples/two.toml bad.log
     is_text "vary: a bad log" "$work/err" 'vary: bad log 1 2\n'
+    printf '%s\n' 'rounds 100000' 'rounds 30000' >long.log
+    gives 5 "vary: a log that grants too much" ./b2 vary examples/two.toml long.log
+}
+
+# Limits are named before anything is run.
+vary_names_limits() {
+    local count
+    write_stand_in 1 cksum
     sed 's/^quota = .*/quota = 1/' examples/two.toml >slow.toml
-    for words in 1 2 3 4 5; do echo 'rounds 100000'; done >long.log
-    gives 2 "vary: a log that is too long" ./b2 vary slow.toml long.log
-    has "vary: a log that is too long" "$work/err" 'vary: with a line for each turn the log has up to 10000000 bytes, and at most 4194304 are taken'
+    for count in 1 2 3 4 5; do echo 'rounds 100000'; done >long.log
+    gives 2 "vary: a log that is too long" stand_in slow.toml long.log
+    is_text "vary: a log that is too long" "$work/err" \
+        'vary: with a line for each turn the log has up to 10000000 bytes, and at most 4194304 are taken\n'
+    for ((count = 0; count < 4999; count++)); do echo 'turn 9 1000'; done >full.log
+    echo 'turn 9 959' >>full.log
+    cp full.log fuller.log
+    echo 'rounds 1' >>full.log
+    printf '%s\n' 'turn 9 1' 'rounds 1' >>fuller.log
+    gives 2 "vary: a log that grants all steps" stand_in examples/two.toml fuller.log
+    is_text "vary: a log that grants all steps" "$work/err" \
+        'vary: the log grants 5000000 steps; at most 4999998 leave one for each partition, to ask whether it waits\n'
+    if [ -e runs ]; then bad "vary: limits" "$(wc -l <runs) runs before they were named"; else ok; fi
+    gives 2 "vary: a log that grants all steps but one" ./b2 vary examples/two.toml full.log
 }
 
 try_has_devices() {
@@ -330,4 +438,9 @@ try_has_devices
 vary_finds_what_depends_on_the_order
 vary_shows_an_order
 vary_leaves_alone_what_is_apart
+vary_gives_more_turns
+vary_reports_a_fault_of_the_machine
+vary_asks_little
+vary_keeps_what_else_happens
 vary_refuses
+vary_names_limits
