@@ -9,19 +9,22 @@ use Rattle.b2_access.specs.declared.accesses.Access.{Access}
 use Rattle.b2_access.specs.declared.accesses.Access.TheVariants as access
 use Rattle.b2_access.specs.declared.reached.TextUse.{TextUse}
 use Rattle.b2_access.specs.declared.reached.TextUse.TheVariants as text
-use Rattle.b2_access.specs.AccessRows.{frees, frees_if, is_held_by, names_of, row}
+use Rattle.b2_access.specs.AccessRows.{frees, frees_if, holder_at, holder_entered, is_held_by, names_of, reach, row}
 use Rattle.b2_access.specs.AnswerKinds.{is_done, is_wait}
 use Rattle.b2_access.specs.Answering.{may_stop_by}
+use Rattle.b2_access.specs.Borrowers.{homes_marked}
 use Rattle.b2_access.specs.Contents.{content_other}
 use Rattle.b2_access.specs.Disks.{DiskWork}
 use Rattle.b2_access.specs.Holding.{AgreeBut, Asks, HeldIsOutOfReach, HeldStaysAsItIs, IsAddressIn, IsContentOf, OtherHoldersStay, OtherImagesStay, WhoAsksWaits, device_of, holders_changed, image_changed}
-use Rattle.b2_access.specs.Reach.{DevicePart, DeviceReach, HoldFreed, HoldTaken, WithPlatter, WithPrinter, Reach, device_objects, if_any, objects_held, objects_reached, part_objects, terminal_objects, text_objects, to_free, to_take, variable_objects}
+use Rattle.b2_access.specs.Reach.{DevicePart, DeviceReach, HoldFreed, HoldTaken, WithPlatter, WithPrinter, Reach, borrow_entered, borrows, device_objects, entered_objects, entered_text, if_any, objects_held, objects_named, objects_reached, part_objects, terminal_objects, text_objects, to_free, to_take, variable_objects}
 use Rattle.b2_access.specs.Serving.{performs, serves, unless_stopped}
 use Rattle.b2_access.specs.Sharing.{Gives}
 use Rattle.b2_access.specs.Stopping.{at_front, first_inside, first_other, first_there, holders, in_front, inside_edited, stop, stop_by, stopping_holder}
 use Rattle.b2_access.specs.Store.{StoreState, content, put, IsIn}
-use Rattle.b2_access.specs.Task.{wider}
+use Rattle.b2_access.specs.Task.{in_left, wider}
+use Rattle.b2_access.specs.Touching.{touched}
 use Rattle.b2_access.specs.declared.accesses.Answer.{Answer}
+use Rattle.b2_access.proofs.Unwritten.{no_borrow, no_borrow_entered, no_borrows, no_hold, no_names, of_kinds}
 use Rattle.b2_access.proofs.Holders.{also_first, performs_on, performs_same, wider_same}
 use Rattle.b2_access.proofs.RowLaws.{leaves}
 use Rattle.b2_access.proofs.TaskLaws.{gives_alike, leaves_others}
@@ -115,16 +118,27 @@ module _ (d : List ℕ) (o : Object) (is : device_of o ≡ Some d) where
   of_devices [] i = i
   of_devices (x ∷ ds) i = elim (split o (part_objects x.address x.part) (device_objects ds) i) [ inl j ↦ inl (of_part x.address x.part j) | inr j ↦ inr (of_devices ds j) ]
 
-  is_reached : (who : ℕ) (r : Reach) → IsIn o (objects_reached who r) → IsDevice d r.devices
-  is_reached who r i = elim (split o (terminal_objects r.terminal) _ i) [
+  no_entered_text : (holder : Option ℕ) → IsIn o (entered_text holder) → ⊥
+  no_entered_text None i = i
+  no_entered_text (Some g) i = elim i [ inl e ↦ clash (object.Text g) refl e | inr j ↦ elim j [ inl e ↦ clash (object.Borrow g) refl e | inr none ↦ none ] ]
+
+  no_entered : (entered : Option (List ℕ)) (holder : Option ℕ) → IsIn o (entered_objects entered holder) → ⊥
+  no_entered None holder i = i
+  no_entered (Some name) holder i = elim i [ inl e ↦ clash (object.Name name) refl e | inr j ↦ no_entered_text holder j ]
+
+  is_reached : (who : ℕ) (holder : Option ℕ) (r : Reach) → IsIn o (objects_reached who holder r) → IsDevice d r.devices
+  is_reached who holder r i = elim (split o (terminal_objects r.terminal) _ i) [
     | inl j ↦ absurd (no_terminal r.terminal j)
     | inr j ↦ elim (split o (text_objects who r.text) _ j) [
       | inl k ↦ absurd (no_text who r.text k)
       | inr k ↦ elim (split o (variable_objects who r.variables) _ k) [
         | inl l ↦ absurd (no_variables who r.variables l)
-        | inr l ↦ elim (split o (map object.Borrow r.borrowers) _ l) [
+        | inr l ↦ elim (split o (borrows r.borrowers) _ l) [
           | inl m ↦ absurd (no_borrower r.borrowers m)
-          | inr m ↦ elim (split o (device_objects r.devices) _ m) [ inl n ↦ of_devices r.devices n | inr n ↦ absurd (no_name r.names n) ]
+          | inr m ↦ elim (split o (device_objects r.devices) _ m) [
+            | inl n ↦ of_devices r.devices n
+            | inr n ↦ absurd (elim (split o (entered_objects r.entered holder) _ n) [ inl x ↦ no_entered r.entered holder x | inr x ↦ no_name r.names x ])
+          ]
         ]
       ]
     ]
@@ -160,16 +174,16 @@ are_stopping (access.MoveFile from name to) goes = (refl, (refl, tt))
 are_stopping a goes = tt
 
 module _ (disks : DiskWork) (who p : ℕ) (d : List ℕ) (o : Object) (a : Access) (s : StoreState) (held : content s (object.Hog d) ≡ Some (Some p)) (apart : p ≢ who) (is : device_of o ≡ Some d) (goes : is_freeing a ≡ false) where
-  unwritten : first_other who (first_there (row a).reach s) ≡ None → IsIn o ((row a).writes who) → ⊥
+  unwritten : first_other who (first_there (row a).reach s) ≡ None → IsIn o ((row a).writes who (holder_at a s)) → ⊥
   unwritten none i =
-      let there = is_reached d o is who (row a).reach (written_is_reached a who o i) in
+      let there = is_reached d o is who (holder_at a s) (row a).reach (written_is_reached a who (holder_at a s) o i) in
       met who p apart (first_there (row a).reach s) (among_right p (at_front (row a).reach.terminal s) (holders (row a).reach.devices s) (holds_one p d (row a).reach.devices s held (are_stopping a goes) there)) none
 
   stays : (first inside : Option ℕ) → first_other who (first_there (row a).reach s) ≡ first
-      → content (unless_stopped (stop_by first inside) (performs ((row a).does disks who) s) s).after o ≡ content s o
+      → content (unless_stopped (stop_by first inside) (performs ((row a).does disks who (holder_at a s)) s) s).after o ≡ content s o
   stays (Some q) inside e = refl
   stays None (Some q) e = refl
-  stays None None e = leaves_others ((row a).does disks who) s o (unwritten e)
+  stays None None e = leaves_others ((row a).does disks who (holder_at a s)) s o (unwritten e)
 
 -- and freeing leaves what another holds
 module _ (who p : ℕ) (d : List ℕ) (o : Object) (s : StoreState) (held : content s (object.Hog d) ≡ Some (Some p)) (apart : p ≢ who) (is : device_of o ≡ Some d) where
@@ -216,13 +230,9 @@ asked_meets who p d (x ∷ ds) s held i = elim i [
 pub who_asks_waits : WhoAsksWaits
 who_asks_waits disks who p d a s held apart asks = by (first_other who (first_there (row a).reach s)) (inside_edited who (row a).reach.text s) refl
   where
-    by : (first inside : Option ℕ) → first_other who (first_there (row a).reach s) ≡ first → is_wait (unless_stopped (stop_by first inside) (performs ((row a).does disks who) s) s).answer ≡ true
+    by : (first inside : Option ℕ) → first_other who (first_there (row a).reach s) ≡ first → is_wait (unless_stopped (stop_by first inside) (performs ((row a).does disks who (holder_at a s)) s) s).answer ≡ true
     by (Some q) inside e = refl
     by None inside e = absurd (met who p apart (first_there (row a).reach s) (among_right p (at_front (row a).reach.terminal s) (holders (row a).reach.devices s) (asked_meets who p d (row a).reach.devices s held asks)) e)
-
--- objects of a kind aren't those of another
-of_kinds : (is_kind : Object → Bool) (o x : Object) → is_kind o ≡ true → is_kind x ≡ false → o ≡ x → ⊥
-of_kinds is_kind o x is other e = false≢true (sym other ∙ ap is_kind (sym e) ∙ is)
 
 abbrev is_hog : Object → Bool
 is_hog (object.Hog a) = true
@@ -236,14 +246,22 @@ abbrev is_platter : Object → Bool
 is_platter (object.Platter a) = true
 is_platter o = false
 
-no_hold : (is_kind : Object → Bool) (o : Object) → is_kind o ≡ true → ((a : List ℕ) → is_kind (object.Hog a) ≡ false) → (addrs : List (List ℕ)) → IsIn o (objects_held addrs) → ⊥
-no_hold is_kind o is others [] i = i
-no_hold is_kind o is others (a ∷ addrs) i = elim i [ inl e ↦ of_kinds is_kind o (object.Hog a) is (others a) e | inr j ↦ no_hold is_kind o is others addrs j ]
+-- an object of a kind that is none of texts, of those who stand inside them, of `@` variables and of names is written by none of these
+module _ (is_kind : Object → Bool) (o : Object) (is : is_kind o ≡ true) (texts : (p : ℕ) → is_kind (object.Text p) ≡ false) (borrowers : (p : ℕ) → is_kind (object.Borrow p) ≡ false) (variables : (p : ℕ) → is_kind (object.Globals p) ≡ false) (names : (n : List ℕ) → is_kind (object.Name n) ≡ false) where
+  no_edit : (who : ℕ) (homes : List ℕ) (rest : List Object) → (IsIn o rest → ⊥) → IsIn o (object.Text who ∷ (borrows homes ++ rest)) → ⊥
+  no_edit who homes rest out i = elim i [ inl e ↦ of_kinds is_kind o (object.Text who) is (texts who) e | inr j ↦ no_borrows is_kind o is borrowers homes rest out j ]
 
--- a name is no device
-no_names : (is_kind : Object → Bool) (o : Object) → is_kind o ≡ true → ((n : List ℕ) → is_kind (object.Name n) ≡ false) → (ns : List (List ℕ)) → IsIn o (map object.Name ns) → ⊥
-no_names is_kind o is others [] i = i
-no_names is_kind o is others (n ∷ ns) i = elim i [ inl e ↦ of_kinds is_kind o (object.Name n) is (others n) e | inr j ↦ no_names is_kind o is others ns j ]
+  no_edit_alone : (who : ℕ) (homes : List ℕ) → IsIn o (object.Text who ∷ borrows homes) → ⊥
+  no_edit_alone who homes i = elim i [ inl e ↦ of_kinds is_kind o (object.Text who) is (texts who) e | inr j ↦ no_borrow is_kind o is borrowers homes j ]
+
+  no_clearing : (who : ℕ) (homes : List ℕ) (name : Option (List ℕ)) → IsIn o (object.Text who ∷ object.Globals who ∷ (borrows homes ++ objects_named name)) → ⊥
+  no_clearing who homes name i = elim i [
+    | inl e ↦ of_kinds is_kind o (object.Text who) is (texts who) e
+    | inr j ↦ elim j [ inl e ↦ of_kinds is_kind o (object.Globals who) is (variables who) e | inr k ↦ no_borrows is_kind o is borrowers homes (objects_named name) (no_names is_kind o is names (if_any name)) k ]
+  ]
+
+  no_loading : (who : ℕ) (homes : List ℕ) (declared : Option (List ℕ)) → IsIn o (object.Text who ∷ (borrows homes ++ objects_named declared)) → ⊥
+  no_loading who homes declared i = no_edit who homes (objects_named declared) (no_names is_kind o is names (if_any declared)) i
 
 -- an access that changes other holders, or none, doesn't write this one
 held_in : (d : List ℕ) (addrs : List (List ℕ)) → IsIn (object.Hog d) (objects_held addrs) → IsAddressIn d addrs
@@ -253,28 +271,26 @@ held_in d (a ∷ addrs) i = elim i [ inl e ↦ inl (same_device d (object.Hog d)
 no_holder : (d : List ℕ) (x : Object) → is_hog x ≡ false → IsIn (object.Hog d) (x ∷ []) → ⊥
 no_holder d x other i = elim i [ inl e ↦ of_kinds is_hog (object.Hog d) x refl other e | inr never ↦ never ]
 
-holder_unwritten : (who : ℕ) (d : List ℕ) (a : Access) → (IsAddressIn d (holders_changed a) → ⊥) → IsIn (object.Hog d) ((row a).writes who) → ⊥
-holder_unwritten who d (access.OpenDevices addrs) out i = out (held_in d addrs i)
-holder_unwritten who d (access.CloseDevices addrs) out i = out (held_in d addrs i)
-holder_unwritten who d (access.ClearAll name homes) out i = elim i [
-  | inl e ↦ of_kinds is_hog (object.Hog d) (object.Text who) refl refl e
-  | inr j ↦ elim j [ inl e ↦ of_kinds is_hog (object.Hog d) (object.Globals who) refl refl e | inr k ↦ no_names is_hog (object.Hog d) refl (λ n. refl) (if_any name) k ]
-]
-holder_unwritten who d (access.LoadProgram addr name replace declared homes) out i = elim i [
-  | inl e ↦ of_kinds is_hog (object.Hog d) (object.Text who) refl refl e
-  | inr j ↦ no_names is_hog (object.Hog d) refl (λ n. refl) (if_any declared) j
-]
-holder_unwritten who d (access.Declare name old) out i = no_names is_hog (object.Hog d) refl (λ n. refl) (names_of name old) i
-holder_unwritten who d (access.FindPart name) out i = i
-holder_unwritten who d (access.Limits addr name) out i = i
-holder_unwritten who d (access.ListDisk addr) out i = i
-holder_unwritten who d (access.DataOpen addr name) out i = i
-holder_unwritten who d (access.DataLoad slot kinds) out i = i
-holder_unwritten who d (access.Skip slot way) out i = i
-holder_unwritten who d a out i = no_holder d _ refl i
+holder_unwritten : (who : ℕ) (holder : Option ℕ) (d : List ℕ) (a : Access) → (IsAddressIn d (holders_changed a) → ⊥) → IsIn (object.Hog d) ((row a).writes who holder) → ⊥
+holder_unwritten who holder d (access.OpenDevices addrs) out i = out (held_in d addrs i)
+holder_unwritten who holder d (access.CloseDevices addrs) out i = out (held_in d addrs i)
+holder_unwritten who holder d (access.PutLine line atoms homes) out i = no_edit_alone is_hog (object.Hog d) refl (λ p. refl) (λ p. refl) (λ p. refl) (λ n. refl) who (homes_marked homes) i
+holder_unwritten who holder d (access.Erase from to homes) out i = no_edit_alone is_hog (object.Hog d) refl (λ p. refl) (λ p. refl) (λ p. refl) (λ n. refl) who (homes_marked homes) i
+holder_unwritten who holder d (access.ClearAll name homes) out i = no_clearing is_hog (object.Hog d) refl (λ p. refl) (λ p. refl) (λ p. refl) (λ n. refl) who (homes_marked homes) name i
+holder_unwritten who holder d (access.LoadProgram addr name replace declared homes) out i = no_loading is_hog (object.Hog d) refl (λ p. refl) (λ p. refl) (λ p. refl) (λ n. refl) who (homes_marked homes) declared i
+holder_unwritten who holder d (access.Enter name mark) out i = no_borrow_entered is_hog (object.Hog d) refl (λ p. refl) holder i
+holder_unwritten who holder d (access.Drop homes) out i = no_borrow is_hog (object.Hog d) refl (λ p. refl) (homes_marked homes) i
+holder_unwritten who holder d (access.Declare name old) out i = no_names is_hog (object.Hog d) refl (λ n. refl) (names_of name old) i
+holder_unwritten who holder d (access.FindPart name) out i = i
+holder_unwritten who holder d (access.Limits addr name) out i = i
+holder_unwritten who holder d (access.ListDisk addr) out i = i
+holder_unwritten who holder d (access.DataOpen addr name) out i = i
+holder_unwritten who holder d (access.DataLoad slot kinds) out i = i
+holder_unwritten who holder d (access.Skip slot way) out i = i
+holder_unwritten who holder d a out i = no_holder d _ refl i
 
 pub other_holders_stay : OtherHoldersStay
-other_holders_stay disks who d a s out = leaves (row a) disks who s (object.Hog d) (holder_unwritten who d a out)
+other_holders_stay disks who d a s out = leaves (row a) disks who s (object.Hog d) (holder_unwritten who (holder_at a s) d a out)
 
 -- an access that changes another image, or none, doesn't write this one
 no_other : (d : List ℕ) (x : Object) → device_of x ≡ None → IsIn (object.Platter d) (x ∷ []) → ⊥
@@ -283,37 +299,35 @@ no_other d x none i = elim i [ inl e ↦ clash d (object.Platter d) refl x none 
 no_image : (d addr : List ℕ) → Some addr ≢ Some d → IsIn (object.Platter d) (object.Platter addr ∷ []) → ⊥
 no_image d addr apart i = elim i [ inl e ↦ apart (ap Some (sym (same_device d (object.Platter d) refl (object.Platter addr) addr refl e))) | inr never ↦ never ]
 
-image_unwritten : (who : ℕ) (d : List ℕ) (a : Access) → image_changed a ≢ Some d → IsIn (object.Platter d) ((row a).writes who) → ⊥
-image_unwritten who d (access.PrintTo addr bytes column) apart i = elim i [ inl e ↦ of_kinds is_platter (object.Platter d) (object.Printer addr) refl refl e | inr never ↦ never ]
-image_unwritten who d (access.OpenDevices addrs) apart i = no_hold is_platter (object.Platter d) refl (λ a. refl) addrs i
-image_unwritten who d (access.CloseDevices addrs) apart i = no_hold is_platter (object.Platter d) refl (λ a. refl) addrs i
-image_unwritten who d (access.ClearAll name homes) apart i = elim i [
-  | inl e ↦ clash d (object.Platter d) refl (object.Text who) refl e
-  | inr j ↦ elim j [ inl e ↦ clash d (object.Platter d) refl (object.Globals who) refl e | inr k ↦ no_names is_platter (object.Platter d) refl (λ n. refl) (if_any name) k ]
-]
-image_unwritten who d (access.LoadProgram addr name replace declared homes) apart i = elim i [
-  | inl e ↦ clash d (object.Platter d) refl (object.Text who) refl e
-  | inr j ↦ no_names is_platter (object.Platter d) refl (λ n. refl) (if_any declared) j
-]
-image_unwritten who d (access.Declare name old) apart i = no_names is_platter (object.Platter d) refl (λ n. refl) (names_of name old) i
-image_unwritten who d (access.FindPart name) apart i = i
-image_unwritten who d (access.Limits addr name) apart i = i
-image_unwritten who d (access.ListDisk addr) apart i = i
-image_unwritten who d (access.Scratch addr name) apart i = no_image d addr apart i
-image_unwritten who d (access.Format addr index end) apart i = no_image d addr apart i
-image_unwritten who d (access.DataNew addr old sectors name) apart i = no_image d addr apart i
-image_unwritten who d (access.DataOpen addr name) apart i = i
-image_unwritten who d (access.DataSave slot values) apart i = no_image d slot.addr apart i
-image_unwritten who d (access.DataEnd slot) apart i = no_image d slot.addr apart i
-image_unwritten who d (access.DataLoad slot kinds) apart i = i
-image_unwritten who d (access.Skip slot way) apart i = i
-image_unwritten who d (access.SaveProgram addr old name from to) apart i = no_image d addr apart i
-image_unwritten who d (access.MovePlatter from to) apart i = no_image d to apart i
-image_unwritten who d (access.MoveFile from name to) apart i = no_image d to apart i
-image_unwritten who d a apart i = no_other d _ refl i
+image_unwritten : (who : ℕ) (holder : Option ℕ) (d : List ℕ) (a : Access) → image_changed a ≢ Some d → IsIn (object.Platter d) ((row a).writes who holder) → ⊥
+image_unwritten who holder d (access.PrintTo addr bytes column) apart i = elim i [ inl e ↦ of_kinds is_platter (object.Platter d) (object.Printer addr) refl refl e | inr never ↦ never ]
+image_unwritten who holder d (access.OpenDevices addrs) apart i = no_hold is_platter (object.Platter d) refl (λ a. refl) addrs i
+image_unwritten who holder d (access.CloseDevices addrs) apart i = no_hold is_platter (object.Platter d) refl (λ a. refl) addrs i
+image_unwritten who holder d (access.PutLine line atoms homes) apart i = no_edit_alone is_platter (object.Platter d) refl (λ p. refl) (λ p. refl) (λ p. refl) (λ n. refl) who (homes_marked homes) i
+image_unwritten who holder d (access.Erase from to homes) apart i = no_edit_alone is_platter (object.Platter d) refl (λ p. refl) (λ p. refl) (λ p. refl) (λ n. refl) who (homes_marked homes) i
+image_unwritten who holder d (access.ClearAll name homes) apart i = no_clearing is_platter (object.Platter d) refl (λ p. refl) (λ p. refl) (λ p. refl) (λ n. refl) who (homes_marked homes) name i
+image_unwritten who holder d (access.LoadProgram addr name replace declared homes) apart i = no_loading is_platter (object.Platter d) refl (λ p. refl) (λ p. refl) (λ p. refl) (λ n. refl) who (homes_marked homes) declared i
+image_unwritten who holder d (access.Enter name mark) apart i = no_borrow_entered is_platter (object.Platter d) refl (λ p. refl) holder i
+image_unwritten who holder d (access.Drop homes) apart i = no_borrow is_platter (object.Platter d) refl (λ p. refl) (homes_marked homes) i
+image_unwritten who holder d (access.Declare name old) apart i = no_names is_platter (object.Platter d) refl (λ n. refl) (names_of name old) i
+image_unwritten who holder d (access.FindPart name) apart i = i
+image_unwritten who holder d (access.Limits addr name) apart i = i
+image_unwritten who holder d (access.ListDisk addr) apart i = i
+image_unwritten who holder d (access.Scratch addr name) apart i = no_image d addr apart i
+image_unwritten who holder d (access.Format addr index end) apart i = no_image d addr apart i
+image_unwritten who holder d (access.DataNew addr old sectors name) apart i = no_image d addr apart i
+image_unwritten who holder d (access.DataOpen addr name) apart i = i
+image_unwritten who holder d (access.DataSave slot values) apart i = no_image d slot.addr apart i
+image_unwritten who holder d (access.DataEnd slot) apart i = no_image d slot.addr apart i
+image_unwritten who holder d (access.DataLoad slot kinds) apart i = i
+image_unwritten who holder d (access.Skip slot way) apart i = i
+image_unwritten who holder d (access.SaveProgram addr old name from to) apart i = no_image d addr apart i
+image_unwritten who holder d (access.MovePlatter from to) apart i = no_image d to apart i
+image_unwritten who holder d (access.MoveFile from name to) apart i = no_image d to apart i
+image_unwritten who holder d a apart i = no_other d _ refl i
 
 pub other_images_stay : OtherImagesStay
-other_images_stay disks who d a s apart = leaves (row a) disks who s (object.Platter d) (image_unwritten who d a apart)
+other_images_stay disks who d a s apart = leaves (row a) disks who s (object.Platter d) (image_unwritten who (holder_at a s) d a apart)
 
 -- what a device has is looked at neither by what stops an access nor, where nothing does, by what it does
 abbrev no_content : (d : List ℕ) (o : Object) → is_platter o ≡ false → is_printer o ≡ false → IsContentOf d o → ⊥
@@ -352,10 +366,15 @@ abbrev Alike : List ℕ → Gives StoreState → Gives StoreState → Type 0
 Alike d x y = (x.answer ≡ y.answer) × AgreeBut d x.after y.after
 
 -- where nothing stops it, none of what it reaches is what the device has
-performed_alike : (disks : DiskWork) (who : ℕ) (d : List ℕ) (a : Access) (s t : StoreState) → AgreeBut d s t → ((o : Object) → IsIn o (objects_reached who (row a).reach) → IsContentOf d o → ⊥)
-    → Alike d (performs ((row a).does disks who) s) (performs ((row a).does disks who) t)
+same_holding : (entered : Option (List ℕ)) (d : List ℕ) (s t : StoreState) → AgreeBut d s t → holder_entered entered s ≡ holder_entered entered t
+same_holding None d s t agree = refl
+same_holding (Some name) d s t agree = let same = agree (object.Name name) (no_content d (object.Name name) refl refl) in cc
+
+performed_alike : (disks : DiskWork) (who : ℕ) (d : List ℕ) (a : Access) (s t : StoreState) → AgreeBut d s t → ((o : Object) → IsIn o (touched s who a) → IsContentOf d o → ⊥)
+    → Alike d (performs ((row a).does disks who (holder_at a s)) s) (performs ((row a).does disks who (holder_at a t)) t)
 performed_alike disks who d a s t agree out =
-    let g = gives_alike ((row a).does disks who) s t (λ o i. agree o (out o i)) in
+    let g = gives_alike ((row a).does disks who (holder_at a s)) s t (λ o i. agree o (out o i)) in
+    subst (λ (holder : Option ℕ). Alike d (performs ((row a).does disks who (holder_at a s)) s) (performs ((row a).does disks who holder) t)) (same_holding (reach a).entered d s t agree)
     (g.answers, λ o c. g.contents o (agree o c))
 
 unless_alike : (d : List ℕ) (y : Option Answer) (x z : Gives StoreState) (s t : StoreState) → AgreeBut d s t → (y ≡ None → Alike d x z) → Alike d (unless_stopped y x s) (unless_stopped y z t)
@@ -367,15 +386,15 @@ first_none None inside e = refl
 first_none (Some q) inside e = cc
 
 module _ (disks : DiskWork) (who p : ℕ) (d : List ℕ) (a : Access) (s t : StoreState) (held : content s (object.Hog d) ≡ Some (Some p)) (apart : p ≢ who) (agree : AgreeBut d s t) where
-  served_apart : ((o : Object) → stop who (row a).reach s ≡ None → IsIn o (objects_reached who (row a).reach) → IsContentOf d o → ⊥) → Alike d (serves disks s who a) (serves disks t who a)
+  served_apart : ((o : Object) → stop who (row a).reach s ≡ None → IsIn o (touched s who a) → IsContentOf d o → ⊥) → Alike d (serves disks s who a) (serves disks t who a)
   served_apart out =
       let same = same_stopped who (row a).reach d s t agree in
-      let by = unless_alike d (stop who (row a).reach s) (performs ((row a).does disks who) s) (performs ((row a).does disks who) t) s t agree (λ none. performed_alike disks who d a s t agree (λ o i c. out o none i c)) in
-      subst (λ (y : Option Answer). Alike d (serves disks s who a) (unless_stopped y (performs ((row a).does disks who) t) t)) same by
+      let by = unless_alike d (stop who (row a).reach s) (performs ((row a).does disks who (holder_at a s)) s) (performs ((row a).does disks who (holder_at a t)) t) s t agree (λ none. performed_alike disks who d a s t agree (λ o i c. out o none i c)) in
+      subst (λ (y : Option Answer). Alike d (serves disks s who a) (unless_stopped y (performs ((row a).does disks who (holder_at a t)) t) t)) same by
 
-  unreached : is_freeing a ≡ false → (o : Object) → stop who (row a).reach s ≡ None → IsIn o (objects_reached who (row a).reach) → IsContentOf d o → ⊥
+  unreached : is_freeing a ≡ false → (o : Object) → stop who (row a).reach s ≡ None → IsIn o (touched s who a) → IsContentOf d o → ⊥
   unreached goes o none i c =
-      let there = is_reached d o (content_device d o c) who (row a).reach i in
+      let there = is_reached d o (content_device d o c) who (holder_at a s) (row a).reach i in
       met who p apart (first_there (row a).reach s) (among_right p (at_front (row a).reach.terminal s) (holders (row a).reach.devices s) (holds_one p d (row a).reach.devices s held (are_stopping a goes) there))
       (first_none (first_other who (first_there (row a).reach s)) (inside_edited who (row a).reach.text s) none)
 

@@ -1,6 +1,10 @@
 pub mod TaskLaws
 pub mod RowLaws
 pub mod Told
+pub mod Unwritten
+pub mod Borrowers
+pub mod Entering
+pub mod Appended
 pub mod Locality
 pub mod Causes
 pub mod Delays
@@ -19,4 +23,5 @@ pub mod Shown
 pub mod Working
 pub mod OpenFiles
 pub mod Loans
+pub mod Leading
 pub mod Named

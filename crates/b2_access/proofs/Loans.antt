@@ -1,6 +1,7 @@
 -- A loan ends well: what it lent is as it left it, and all else stays.
 use Rattle.std.specs.Prelude.{◌≡◌, ◌≢◌, ℕ, Option, Some, None, option_map, refl}
 use Rattle.std.proofs.Common.{sym, ap, subst, ◌∙◌}
+use Rattle.b2_vars.specs.Globals.{unreached}
 use Rattle.b2_vars.specs.Tables.{VarsState}
 use Rattle.b2_access.specs.declared.lending.At.{At}
 use Rattle.b2_access.specs.declared.lending.At.TheVariants as at
@@ -40,10 +41,10 @@ again_by (Some p) w s = by (content s (object.Globals p)) refl
 
 module _ {M : Type 0} (store : M → StoreState) (lending : Loan M) (loans : LoansGlobals store lending) where
   abbrev after : ℕ → ℕ → At → M → VarsState → StoreState
-  after who home whose m w = store (lending who home whose m (left_at home whose (store m) w))
+  after who home whose m w = store (lending who home whose m (unreached (left_at home whose (store m) w)))
 
   ended : (who home : ℕ) (whose : At) (m : M) (w : VarsState) → after who home whose m w ≡ with_globals_at home whose (store m) (left_at home whose (store m) w)
-  ended who home whose m w = loans who home whose m (left_at home whose (store m) w)
+  ended who home whose m w = loans who home whose m (unreached (left_at home whose (store m) w))
 
   pub loans_end_well : LoansEndWell store lending
   loans_end_well who home whose m w =

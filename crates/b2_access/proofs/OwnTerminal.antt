@@ -1,5 +1,5 @@
 -- Accesses that name no terminal but one; and those that reach it and nothing else, which mark no home and put no line.
-use Rattle.std.specs.Prelude.{◌≡◌, ℕ, Bool, Option, None, Some, refl}
+use Rattle.std.specs.Prelude.{◌≡◌, ℕ, Bool, [], Option, None, Some, refl}
 use Rattle.std.proofs.Common.{ap}
 use Rattle.b2_access.specs.Causes.{terminal_of}
 use Rattle.b2_access.specs.Homes.{HomesIn, homes_of}
@@ -23,16 +23,12 @@ terminal_is t a is = ap (λ (r : Reach). r.terminal) is
 pub at_terminal_names_own : (t : ℕ) (a : Access) → IsAtTerminal t a → NamesAlone t a
 at_terminal_names_own t a is = names_own t a (terminal_is t a is)
 
--- an edit reaches no terminal, and a disk is none
+-- an edit reaches no terminal, nor does who leaves a text or gives some back, and a disk is none
 no_terminal : {A : Type 0} (t : ℕ) → ◌≡◌ {A = Option ℕ} None (Some t) → A
 no_terminal t e = absurd (cc)
 
-homes_none : (t : ℕ) (a : Access) → IsAtTerminal t a → homes_of a ≡ 0
-homes_none t (access.PutLine line atoms homes) is = no_terminal t (terminal_is t (access.PutLine line atoms homes) is)
-homes_none t (access.Erase from to homes) is = no_terminal t (terminal_is t (access.Erase from to homes) is)
-homes_none t (access.ClearAll name homes) is = no_terminal t (terminal_is t (access.ClearAll name homes) is)
-homes_none t (access.LoadProgram addr name replace declared homes) is = no_terminal t (terminal_is t (access.LoadProgram addr name replace declared homes) is)
-homes_none t a is = refl
+homes_none : (t : ℕ) (a : Access) → IsAtTerminal t a → homes_of a ≡ []
+homes_none t a is = ap (λ (r : Reach). r.borrowers) is
 
 pub at_terminal_marks_none : (among : ℕ → Bool) (t : ℕ) (a : Access) → IsAtTerminal t a → HomesIn among a
 at_terminal_marks_none among t a is = marks_none among a (homes_none t a is)

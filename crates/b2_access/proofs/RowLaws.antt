@@ -10,24 +10,19 @@ use Rattle.b2_access.specs.declared.accesses.Answer.{Answer}
 use Rattle.b2_access.specs.declared.accesses.Answer.TheVariants as answer
 use Rattle.b2_access.specs.declared.reached.TextUse.{TextUse}
 use Rattle.b2_access.specs.declared.reached.TextUse.TheVariants as text
-use Rattle.b2_access.specs.AccessRows.{AccessRow}
+use Rattle.b2_access.specs.AccessRows.{AccessRow, holder_entered}
 use Rattle.b2_access.specs.AnswerKinds.{holds_up, stops}
 use Rattle.b2_access.specs.Answering.{TellsOnly, is_edited, may_stop, may_stop_by, may_wait}
 use Rattle.b2_access.specs.Causes.{IsFirstOther}
 use Rattle.b2_access.specs.Disks.{DiskWork}
-use Rattle.b2_access.specs.Reach.{DevicePart, DeviceReach, HoldFreed, HoldTaken, WithPlatter, WithPrinter, Reach, device_objects, objects_reached, part_objects, terminal_objects, text_objects, variable_objects}
+use Rattle.b2_access.specs.Reach.{DevicePart, DeviceReach, HoldFreed, HoldTaken, WithPlatter, WithPrinter, Reach, borrows, device_objects, entered_objects, objects_reached, part_objects, terminal_objects, text_objects, variable_objects}
 use Rattle.b2_access.specs.Serving.{performs, serves_row, unless_stopped}
+use Rattle.b2_access.specs.Sharing.{Gives}
 use Rattle.b2_access.specs.Stopping.{at_front, first_inside, first_other, first_there, holders, in_front, inside_edited, stop, stop_by, stopping_holder}
 use Rattle.b2_access.specs.Store.{StoreState, content, IsIn, AgreeOn}
+use Rattle.b2_access.specs.Task.{in_left, in_right}
+use Rattle.b2_access.specs.Touching.{entered_in}
 use Rattle.b2_access.proofs.TaskLaws.{IsTold, gives_alike, is_told, keeps_listed, leaves_others}
-
-pub in_left : (o : Object) (xs ys : List Object) → IsIn o xs → IsIn o (xs ++ ys)
-in_left o [] ys i = absurd i
-in_left o (x ∷ xs) ys i = elim i [ inl e ↦ inl e | inr j ↦ inr (in_left o xs ys j) ]
-
-pub in_right : (o : Object) (xs ys : List Object) → IsIn o ys → IsIn o (xs ++ ys)
-in_right o [] ys i = i
-in_right o (x ∷ xs) ys i = inr (in_right o xs ys i)
 
 -- stores that agree on some objects agree on each of two parts of them
 agree_left : (xs ys : List Object) (s t : StoreState) → AgreeOn (xs ++ ys) s t → AgreeOn xs s t
@@ -62,18 +57,30 @@ same_inside who text.Unused s t agree = refl
 same_inside who text.Read s t agree = refl
 same_inside who text.Edited s t agree = ap first_inside (agree (object.Borrow who) (inl refl))
 
-same_stop : (who : ℕ) (r : Reach) (s t : StoreState) → AgreeOn (objects_reached who r) s t → stop who r s ≡ stop who r t
-same_stop who r s t agree =
+same_stop : (who : ℕ) (holder : Option ℕ) (r : Reach) (s t : StoreState) → AgreeOn (objects_reached who holder r) s t → stop who r s ≡ stop who r t
+same_stop who holder r s t agree =
     let after_terminal = agree_right (terminal_objects r.terminal) _ s t agree in
     let after_text = agree_right (text_objects who r.text) _ s t after_terminal in
     let after_variables = agree_right (variable_objects who r.variables) _ s t after_text in
-    let after_borrowers = agree_right _ _ s t after_variables in
+    let after_borrowers = agree_right (borrows r.borrowers) _ s t after_variables in
     let front = same_front r.terminal s t (agree_left (terminal_objects r.terminal) _ s t agree) in
     let held = same_holders r.devices s t (agree_left (device_objects r.devices) _ s t after_borrowers) in
     let inside = same_inside who r.text s t (agree_left (text_objects who r.text) _ s t after_terminal) in
     ap (λ f. stop_by (first_other who (f ++ holders r.devices s)) (inside_edited who r.text s)) front
     ∙ ap (λ hs. stop_by (first_other who (at_front r.terminal t ++ hs)) (inside_edited who r.text s)) held
     ∙ ap (stop_by (first_other who (first_there r t))) inside
+
+-- and so is who holds the name by which a text is entered
+same_entered : (entered : Option (List ℕ)) (holder : Option ℕ) (s t : StoreState) → AgreeOn (entered_objects entered holder) s t → holder_entered entered s ≡ holder_entered entered t
+same_entered None holder s t agree = refl
+same_entered (Some name) holder s t agree = let same = agree (object.Name name) (inl refl) in cc
+
+pub same_holder : (who : ℕ) (holder : Option ℕ) (r : Reach) (s t : StoreState) → AgreeOn (objects_reached who holder r) s t → holder_entered r.entered s ≡ holder_entered r.entered t
+same_holder who holder r s t agree =
+    let after_text = agree_right (text_objects who r.text) _ s t (agree_right (terminal_objects r.terminal) _ s t agree) in
+    let after_borrowers = agree_right (borrows r.borrowers) _ s t (agree_right (variable_objects who r.variables) _ s t after_text) in
+    let after_devices = agree_right (device_objects r.devices) _ s t after_borrowers in
+    same_entered r.entered holder s t (agree_left (entered_objects r.entered holder) _ s t after_devices)
 
 -- The first other of some partitions.
 pub first_is : (who q : ℕ) (ps : List ℕ) → (first_other who ps ≡ Some q) ↔ IsFirstOther who q ps
@@ -119,63 +126,71 @@ waits_there who q None (d ∷ ds) s is = by d.part (waits_there who q None ds s)
     by WithPrinter later e = refl
 waits_there who q (Some term) ds s is = refl
 
-either_left : (a b : Bool) → a ≡ true → (a || b) ≡ true
+pub either_left : (a b : Bool) → a ≡ true → (a || b) ≡ true
 either_left true b h = refl
 either_left false b h = absurd (false≢true h)
 
-either_right : (a b : Bool) → b ≡ true → (a || b) ≡ true
+pub either_right : (a b : Bool) → b ≡ true → (a || b) ≡ true
 either_right true b h = refl
 either_right false b h = h
 
+-- what a row does in a store
 module _ (r : AccessRow) (disks : DiskWork) (who : ℕ) where
+  abbrev holder_in : StoreState → Option ℕ
+  holder_in s = holder_entered r.reach.entered s
+
   -- in two stores
-  pub served_alike : (s t : StoreState) → AgreeOn (objects_reached who r.reach) s t
+  pub served_alike : (s t : StoreState) → AgreeOn (objects_reached who (holder_in s) r.reach) s t
       → ((serves_row r disks s who).answer ≡ (serves_row r disks t who).answer)
       × ((o : Object) → content s o ≡ content t o → content (serves_row r disks s who).after o ≡ content (serves_row r disks t who).after o)
   served_alike s t agree =
-      let same = same_stop who r.reach s t agree in
+      let same = same_stop who (holder_in s) r.reach s t agree in
+      let held = same_holder who (holder_in s) r.reach s t agree in
       let h = by (stop who r.reach s) in (
-        h.0 ∙ ap (λ y. (unless_stopped y (performs (r.does disks who) t) t).answer) same,
-        λ o e. h.1 o e ∙ ap (λ y. content (unless_stopped y (performs (r.does disks who) t) t).after o) same,
+        h.0 ∙ ap (λ y. (unless_stopped y (performs (r.does disks who (holder_in s)) t) t).answer) same ∙ ap (λ x. (unless_stopped (stop who r.reach t) (performs (r.does disks who x) t) t).answer) held,
+        λ o e. h.1 o e ∙ ap (λ y. content (unless_stopped y (performs (r.does disks who (holder_in s)) t) t).after o) same ∙ ap (λ x. content (unless_stopped (stop who r.reach t) (performs (r.does disks who x) t) t).after o) held,
       )
     where
       by : (y : Option Answer)
-          → ((unless_stopped y (performs (r.does disks who) s) s).answer ≡ (unless_stopped y (performs (r.does disks who) t) t).answer)
-          × ((o : Object) → content s o ≡ content t o → content (unless_stopped y (performs (r.does disks who) s) s).after o ≡ content (unless_stopped y (performs (r.does disks who) t) t).after o)
-      by None = let h = gives_alike (r.does disks who) s t agree in (h.answers, h.contents)
+          → ((unless_stopped y (performs (r.does disks who (holder_in s)) s) s).answer ≡ (unless_stopped y (performs (r.does disks who (holder_in s)) t) t).answer)
+          × ((o : Object) → content s o ≡ content t o → content (unless_stopped y (performs (r.does disks who (holder_in s)) s) s).after o ≡ content (unless_stopped y (performs (r.does disks who (holder_in s)) t) t).after o)
+      by None = let h = gives_alike (r.does disks who (holder_in s)) s t agree in (h.answers, h.contents)
       by (Some y) = (refl, λ o e. e)
 
   -- what isn't written stays, and what is listed does
-  pub leaves : (s : StoreState) (o : Object) → (IsIn o (r.writes who) → ⊥) → content (serves_row r disks s who).after o ≡ content s o
+  pub leaves : (s : StoreState) (o : Object) → (IsIn o (r.writes who (holder_in s)) → ⊥) → content (serves_row r disks s who).after o ≡ content s o
   leaves s o out = by (stop who r.reach s)
     where
-      by : (y : Option Answer) → content (unless_stopped y (performs (r.does disks who) s) s).after o ≡ content s o
-      by None = leaves_others (r.does disks who) s o out
+      by : (y : Option Answer) → content (unless_stopped y (performs (r.does disks who (holder_in s)) s) s).after o ≡ content s o
+      by None = leaves_others (r.does disks who (holder_in s)) s o out
       by (Some y) = refl
 
   pub keeps : (s : StoreState) (o : Object) → IsSome (content s o) → IsSome (content (serves_row r disks s who).after o)
   keeps s o listed = by (stop who r.reach s)
     where
-      by : (y : Option Answer) → IsSome (content (unless_stopped y (performs (r.does disks who) s) s).after o)
-      by None = keeps_listed (r.does disks who) s o listed
+      by : (y : Option Answer) → IsSome (content (unless_stopped y (performs (r.does disks who (holder_in s)) s) s).after o)
+      by None = keeps_listed (r.does disks who (holder_in s)) s o listed
       by (Some y) = listed
 
-  module _ (tells : TellsOnly r.tells (r.does disks who)) (s : StoreState) where
-    told : IsTold r.tells (r.does disks who) s
-    told = is_told r.tells (r.does disks who) s tells
+  module _ (tells : (holder : Option ℕ) → TellsOnly r.tells (r.does disks who holder)) (s : StoreState) where
+    abbrev performed : Gives StoreState
+    performed = performs (r.does disks who (holder_in s)) s
+
+    told : IsTold r.tells (r.does disks who (holder_in s)) s
+    told = is_told r.tells (r.does disks who (holder_in s)) s (tells (holder_in s))
 
     -- one that is stopped changes nothing
     pub stops_unchanged : stops (serves_row r disks s who).answer ≡ true → (serves_row r disks s who).after ≡ s
     stops_unchanged = by (stop who r.reach s)
       where
-        by : (y : Option Answer) → stops (unless_stopped y (performs (r.does disks who) s) s).answer ≡ true → (unless_stopped y (performs (r.does disks who) s) s).after ≡ s
+        by : (y : Option Answer) → stops (unless_stopped y performed s).answer ≡ true → (unless_stopped y performed s).after ≡ s
         by None e = told.unchanged e
         by (Some y) e = refl
 
     abbrev given : Option ℕ → Option ℕ → Answer
-    given first inside = (unless_stopped (stop_by first inside) (performs (r.does disks who) s) s).answer
+    given first inside = (unless_stopped (stop_by first inside) performed s).answer
 
-    never_held_up : (y : Answer) → holds_up y ≡ true → (performs (r.does disks who) s).answer ≡ y → ⊥
+    never_held_up : (y : Answer) → holds_up y ≡ true → performed.answer ≡ y → ⊥
     never_held_up y up e = false≢true (sym told.goes_on ∙ ap holds_up e ∙ up)
 
     -- Wait is for the first other
@@ -205,13 +220,13 @@ module _ (r : AccessRow) (disks : DiskWork) (who : ℕ) where
         (λ e. let h = by.0 e in let there = inside.0 h.1 in (nobody.0 h.0, there.0, there.1), λ h. by.1 (nobody.1 h.0, inside.1 (h.1, h.2)))
 
     -- a code is the row's, where nothing stops it
-    refuses_by : (c : ℕ) (first inside : Option ℕ) → (given first inside ≡ answer.Refused c) ↔ ((first ≡ None) × (inside ≡ None) × ((performs (r.does disks who) s).answer ≡ answer.Refused c))
+    refuses_by : (c : ℕ) (first inside : Option ℕ) → (given first inside ≡ answer.Refused c) ↔ ((first ≡ None) × (inside ≡ None) × (performed.answer ≡ answer.Refused c))
     refuses_by c (Some p) inside = (λ e. cc, λ h. let no = h.0 in cc)
     refuses_by c None (Some p) = (λ e. cc, λ h. let no = h.1 in cc)
     refuses_by c None None = (λ e. (refl, refl, e), λ h. h.2)
 
     pub refuses : (c : ℕ) → ((serves_row r disks s who).answer ≡ answer.Refused c)
-        ↔ (((p : ℕ) → IsFirstOther who p (first_there r.reach s) → ⊥) × (is_edited r.reach.text ≡ true → first_inside (content s (object.Borrow who)) ≡ None) × ((performs (r.does disks who) s).answer ≡ answer.Refused c))
+        ↔ (((p : ℕ) → IsFirstOther who p (first_there r.reach s) → ⊥) × (is_edited r.reach.text ≡ true → first_inside (content s (object.Borrow who)) ≡ None) × (performed.answer ≡ answer.Refused c))
     refuses c =
         let by = refuses_by c (first_other who (first_there r.reach s)) (inside_edited who r.reach.text s) in
         let nobody = nobody_first who (first_there r.reach s) in
@@ -219,13 +234,13 @@ module _ (r : AccessRow) (disks : DiskWork) (who : ℕ) where
         (λ e. let h = by.0 e in (nobody.0 h.0, outside.0 h.1, h.2), λ h. by.1 (nobody.1 h.0, outside.1 h.1, h.2))
 
     -- that nobody is there is the row's, where nothing stops it
-    misses_by : (first inside : Option ℕ) → (given first inside ≡ answer.NoPart) ↔ ((first ≡ None) × (inside ≡ None) × ((performs (r.does disks who) s).answer ≡ answer.NoPart))
+    misses_by : (first inside : Option ℕ) → (given first inside ≡ answer.NoPart) ↔ ((first ≡ None) × (inside ≡ None) × (performed.answer ≡ answer.NoPart))
     misses_by (Some p) inside = (λ e. cc, λ h. let no = h.0 in cc)
     misses_by None (Some p) = (λ e. cc, λ h. let no = h.1 in cc)
     misses_by None None = (λ e. (refl, refl, e), λ h. h.2)
 
     pub misses : ((serves_row r disks s who).answer ≡ answer.NoPart)
-        ↔ (((p : ℕ) → IsFirstOther who p (first_there r.reach s) → ⊥) × (is_edited r.reach.text ≡ true → first_inside (content s (object.Borrow who)) ≡ None) × ((performs (r.does disks who) s).answer ≡ answer.NoPart))
+        ↔ (((p : ℕ) → IsFirstOther who p (first_there r.reach s) → ⊥) × (is_edited r.reach.text ≡ true → first_inside (content s (object.Borrow who)) ≡ None) × (performed.answer ≡ answer.NoPart))
     misses =
         let by = misses_by (first_other who (first_there r.reach s)) (inside_edited who r.reach.text s) in
         let nobody = nobody_first who (first_there r.reach s) in
@@ -245,7 +260,18 @@ module _ (r : AccessRow) (disks : DiskWork) (who : ℕ) where
         inside_is_edited q text.Read e = cc
         inside_is_edited q text.Edited e = refl
     answers_by None None first_is inside_is =
-        let y = (performs (r.does disks who) s).answer in either_right (may_stop r.reach y) (r.tells y) told.says
+        let y = performed.answer in either_right (may_stop r.reach y) (r.tells y) told.says
 
     pub answered : (may_stop r.reach (serves_row r disks s who).answer || r.tells (serves_row r disks s who).answer) ≡ true
     answered = answers_by (first_other who (first_there r.reach s)) (inside_edited who r.reach.text s) refl refl
+
+    -- and where nothing stops it, the text that it wrote of is the one that its answer says
+    wrote_by : ((holder : Option ℕ) → stops (performs (r.does disks who holder) s).answer ≡ false → r.writes who (entered_in (performs (r.does disks who holder) s).answer) ≡ r.writes who holder)
+        → (first inside : Option ℕ) → stops (given first inside) ≡ false → r.writes who (entered_in (given first inside)) ≡ r.writes who (holder_in s)
+    wrote_by says (Some q) inside e = cc
+    wrote_by says None (Some q) e = cc
+    wrote_by says None None e = says (holder_in s) e
+
+    pub wrote : ((holder : Option ℕ) → stops (performs (r.does disks who holder) s).answer ≡ false → r.writes who (entered_in (performs (r.does disks who holder) s).answer) ≡ r.writes who holder)
+        → stops (serves_row r disks s who).answer ≡ false → r.writes who (entered_in (serves_row r disks s who).answer) ≡ r.writes who (holder_in s)
+    wrote says = wrote_by says (first_other who (first_there r.reach s)) (inside_edited who r.reach.text s)

@@ -2,13 +2,15 @@
 -- stays.
 use Rattle.std.proofs.Common.{◌≡◌, ◌∙◌, ℕ, Bool, List, Option, Some, None, ap, inl, inr, refl}
 use Rattle.b2_base.specs.declared.files.Slot.{Slot}
+use Rattle.b2_vars.specs.Globals.{Globals, MayBecome}
 use Rattle.b2_access.specs.Homes.{FinishesWithin, IsWithin, PlannedIn, PlansWithin}
 use Rattle.b2_access.specs.Keeping.{FinishesInPlace, FinishesKeepFiles, FinishesKeepHeld, FinishesKeepNone, PlansInPlace, PlansKeepFiles, PlansKeepHeld, PlansKeepNone}
 use Rattle.b2_access.specs.Lending.{SeenLent}
 use Rattle.b2_access.specs.OwnTerminal.{FinishesAtTerminal, PlannedAt, PlansAtTerminal}
 use Rattle.b2_access.specs.Pending.{FinishesToShow, KeepsOrShows, PendingOutput, PlansToShow}
+use Rattle.b2_access.specs.Reaching.{FinishesReach, PlansReach, ReachedUnlessAsks}
 use Rattle.b2_access.specs.Waiting.{FinishesUnchanged, PlansBeforeChanges, UnchangedIfAsks}
-use Rattle.b2_access.specs.Working.{Ends, Plans, ChangesNothing, FileWork, FileWorked, HolderWork, HolderWorked, LeadsWithin, PlansEachWithin, PlansEachAtTerminal, Work, Worked, Working, as_planned, file_work_of, files_finish_by, finishes_by, holder_work_of, holders_finish_by, planned_of, plans_by, put_all, put_back, put_files, put_holdings, waiting_after, work_of}
+use Rattle.b2_access.specs.Working.{Ends, Plans, ChangesNothing, EachReaches, FileWork, FileWorked, HolderWork, HolderWorked, LeadsWithin, PlansEachReach, PlansEachWithin, PlansEachAtTerminal, Work, Worked, Working, as_planned, file_work_of, files_finish_by, finishes_by, globals_after, holder_work_of, holders_finish_by, planned_of, plans_by, put_all, put_back, put_files, put_holdings, told_of_globals, waiting_after, work_of}
 use Rattle.b2_access.specs.declared.accesses.Access.{Access}
 use Rattle.b2_access.specs.declared.accesses.Answer.{Answer}
 use Rattle.b2_access.specs.declared.planned.Planned.{Planned}
@@ -40,6 +42,15 @@ before_changes : (me : Private) (s : SeenLent) (k : Working) → UnchangedIfAsks
 before_changes me s (Ends w) = tt
 before_changes me s (Plans p) = unchanged_if_asks me s p
 
+-- what it leaves of the `@` variables
+reached_unless_asks : (g : Globals) (p : Planned) → ReachedUnlessAsks g g p
+reached_unless_asks g (planned.Done o) = record { unreached = λ h. refl; absent = λ h. refl; there = refl }
+reached_unless_asks g (planned.Ask a) = refl
+
+reaches : (me : Private) (s : SeenLent) (k : Working) → MayBecome s.globals (globals_after (told_of_globals k) s.globals) → ReachedUnlessAsks s.globals (as_planned me s k).globals (as_planned me s k).planned
+reaches me s (Ends w) h = h
+reaches me s (Plans p) h = reached_unless_asks s.globals p
+
 -- WHAT IT PLANS
 module _ (way : Private → SeenLent → Working) where
   pub plans_within : PlansEachWithin way → PlansWithin (plans_by way)
@@ -61,6 +72,9 @@ module _ (way : Private → SeenLent → Working) where
   pub plans_before_changes : PlansBeforeChanges (plans_by way)
   plans_before_changes me s = before_changes me s (way me s)
 
+  pub plans_reach : PlansEachReach way → PlansReach (plans_by way)
+  plans_reach h me s = reaches me s (way me s) (h me s)
+
   pub plans_keep_files : PlansKeepFiles (plans_by way)
   plans_keep_files me s = after_plan (λ x. (x.part ≡ me.part) × (x.slots ≡ me.slots)) me s (way me s) (λ w. (refl, refl))
 
@@ -70,7 +84,7 @@ module _ (way : Private → SeenLent → Working) where
 -- AND HOW IT FINISHES
 module _ (way : Access → Answer → Private → SeenLent → Worked) where
   pub finishes_within : LeadsWithin (λ x a me s. (way x a me s).outcome) → FinishesWithin (finishes_by way)
-  finishes_within h among x a me s w = (within among me (way x a me s).work me.slots me.held w, h among x a me s w.place)
+  finishes_within h among x a me s leads w = (within among me (way x a me s).work me.slots me.held w, h among x a me s w.place)
 
   pub finishes_in_place : FinishesInPlace (finishes_by way)
   finishes_in_place x a me s = refl
@@ -87,6 +101,9 @@ module _ (way : Access → Answer → Private → SeenLent → Worked) where
   pub finishes_unchanged : ChangesNothing work_of (λ x a me s. (way x a me s).work) → FinishesUnchanged (finishes_by way)
   finishes_unchanged h x a me s is = ap (λ (w : Work). put_back w me) (h x a me s is)
 
+  pub finishes_reach : ChangesNothing work_of (λ x a me s. (way x a me s).work) → EachReaches (λ x a me s. (way x a me s).work) → FinishesReach (finishes_by way)
+  finishes_reach h r x a me s = (r x a me s, λ is. ap (λ (w : Work). globals_after w.globals s.globals) (h x a me s is))
+
   pub finishes_keep_files : FinishesKeepFiles (finishes_by way)
   finishes_keep_files x a me s = (refl, refl)
 
@@ -96,7 +113,7 @@ module _ (way : Access → Answer → Private → SeenLent → Worked) where
 -- a statement on data files
 module _ (way : Access → Answer → Private → SeenLent → FileWorked) where
   pub files_finish_within : LeadsWithin (λ x a me s. (way x a me s).outcome) → FinishesWithin (files_finish_by way)
-  files_finish_within h among x a me s w = (within among me (way x a me s).work.work (way x a me s).work.slots me.held w, h among x a me s w.place)
+  files_finish_within h among x a me s leads w = (within among me (way x a me s).work.work (way x a me s).work.slots me.held w, h among x a me s w.place)
 
   pub files_finish_in_place : FinishesInPlace (files_finish_by way)
   files_finish_in_place x a me s = refl
@@ -113,13 +130,16 @@ module _ (way : Access → Answer → Private → SeenLent → FileWorked) where
   pub files_finish_unchanged : ChangesNothing file_work_of (λ x a me s. (way x a me s).work) → FinishesUnchanged (files_finish_by way)
   files_finish_unchanged h x a me s is = ap (λ (w : FileWork). put_files w me) (h x a me s is)
 
+  pub files_finish_reach : ChangesNothing file_work_of (λ x a me s. (way x a me s).work) → EachReaches (λ x a me s. (way x a me s).work.work) → FinishesReach (files_finish_by way)
+  files_finish_reach h r x a me s = (r x a me s, λ is. ap (λ (w : FileWork). globals_after w.work.globals s.globals) (h x a me s is))
+
   pub files_finish_keep_held : FinishesKeepHeld (files_finish_by way)
   files_finish_keep_held x a me s = (refl, refl)
 
 -- one that takes or frees devices
 module _ (way : Access → Answer → Private → SeenLent → HolderWorked) where
   pub holders_finish_within : LeadsWithin (λ x a me s. (way x a me s).outcome) → FinishesWithin (holders_finish_by way)
-  holders_finish_within h among x a me s w = (within among me (way x a me s).work.work me.slots (way x a me s).work.held w, h among x a me s w.place)
+  holders_finish_within h among x a me s leads w = (within among me (way x a me s).work.work me.slots (way x a me s).work.held w, h among x a me s w.place)
 
   pub holders_finish_in_place : FinishesInPlace (holders_finish_by way)
   holders_finish_in_place x a me s = refl
@@ -135,6 +155,9 @@ module _ (way : Access → Answer → Private → SeenLent → HolderWorked) whe
 
   pub holders_finish_unchanged : ChangesNothing holder_work_of (λ x a me s. (way x a me s).work) → FinishesUnchanged (holders_finish_by way)
   holders_finish_unchanged h x a me s is = ap (λ (w : HolderWork). put_holdings w me) (h x a me s is)
+
+  pub holders_finish_reach : ChangesNothing holder_work_of (λ x a me s. (way x a me s).work) → EachReaches (λ x a me s. (way x a me s).work.work) → FinishesReach (holders_finish_by way)
+  holders_finish_reach h r x a me s = (record { unreached = λ h. refl; absent = λ h. refl; there = refl }, λ is. refl)
 
   pub holders_finish_keep_files : FinishesKeepFiles (holders_finish_by way)
   holders_finish_keep_files x a me s = (refl, refl)

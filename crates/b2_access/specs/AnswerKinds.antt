@@ -87,3 +87,10 @@ abbrev pub is_of_search : Answer → Bool
 is_of_search (answer.Holder p) = true
 is_of_search answer.NoPart = true
 is_of_search x = false
+
+-- what entering the text of another comes to
+abbrev pub is_of_entering : Answer → Bool
+is_of_entering (answer.Entered g spot) = true
+is_of_entering answer.NoPart = true
+is_of_entering (answer.Refused c) = true
+is_of_entering x = false

@@ -45,7 +45,7 @@ TellsOnly some Missing = some answer.NoPart ≡ true
 
 -- each row tells the answers that it says
 abbrev pub RowsTellTheirAnswers : Type 0
-RowsTellTheirAnswers = (disks : DiskWork) (a : Access) (who : ℕ) → TellsOnly (row a).tells ((row a).does disks who)
+RowsTellTheirAnswers = (disks : DiskWork) (a : Access) (who : ℕ) (holder : Option ℕ) → TellsOnly (row a).tells ((row a).does disks who holder)
 
 -- each answer of a way of serving is one that its access can have
 abbrev pub AnswersByRow : {M : Type 0} → ServingOf M → Type 0

@@ -1,18 +1,17 @@
 -- When an access is stopped, and by whom.
 use Rattle.std.specs.Prelude.{◌≡◌, ◌≢◌, ◌↔◌, ◌⊎◌, ◌<◌, ℕ, Bool, true, List, [], ◌∷◌, Option, Some, None, Result, Err}
-use Rattle.b2_base.specs.declared.codes.TheConstants.{A01_TEXT_AREA, X78_NAME_HELD}
+use Rattle.b2_base.specs.declared.codes.TheConstants.{A01_TEXT_AREA, P38_NO_DEFFN, X78_NAME_HELD}
 use Rattle.b2_text.specs.Program.{TextState, size_of, with_line}
 use Rattle.b2_access.specs.declared.objects.Object.TheVariants as object
 use Rattle.b2_access.specs.declared.accesses.Access.{Access}
 use Rattle.b2_access.specs.declared.accesses.Access.TheVariants as access
 use Rattle.b2_access.specs.declared.accesses.Answer.TheVariants as answer
 use Rattle.b2_access.specs.Answering.{is_edited}
-use Rattle.b2_access.specs.AccessRows.{is_held_by_other, reach}
+use Rattle.b2_access.specs.AccessRows.{is_held_by_other, mark_in, reach}
 use Rattle.b2_access.specs.Disks.{DiskWork}
-use Rattle.b2_access.specs.Loans.{holder_of}
 use Rattle.b2_access.specs.Serving.{serves}
 use Rattle.b2_access.specs.Stopping.{first_inside, first_there}
-use Rattle.b2_access.specs.Store.{StoreState, content}
+use Rattle.b2_access.specs.Store.{StoreState, content, holder_of}
 
 -- the terminal that an access names
 abbrev pub terminal_of : Access → Option ℕ
@@ -55,8 +54,14 @@ GivesCodeOf c made None y = ⊥
 GivesCodeOf c made (Some x) None = ⊥
 GivesCodeOf c made (Some x) (Some y) = made x y ≡ Err c
 
+-- a name is held, and the text of who holds it has no DEFFN' of a number
+abbrev pub LacksMark : ℕ → Option ℕ → StoreState → Type 0
+LacksMark mark None s = ⊥
+LacksMark mark (Some g) s = mark_in mark (content s (object.Text g)) ≡ None
+
 -- A code that an access meets where nothing stops it: A01, where it puts a line for which its text has no room, and the one of what it
--- makes of an image, or looks for in it; of a text and an image, or of two images; and X78, where it declares a name that another holds.
+-- makes of an image, or looks for in it; of a text and an image, or of two images; X78, where it declares a name that another holds; and
+-- P38, where it enters a text without the DEFFN' that it asks for.
 abbrev pub MeetsCode : DiskWork → StoreState → ℕ → ℕ → Access → Type 0
 MeetsCode disks s who c (access.PutLine n (Some atoms) homes) = (c ≡ A01_TEXT_AREA) × IsFullFor n atoms (content s (object.Text who))
 MeetsCode disks s who c (access.Scratch addr name) = GivesCode c (disks.scratch name) (content s (object.Platter addr))
@@ -71,6 +76,7 @@ MeetsCode disks s who c (access.SaveProgram addr old name from to) = GivesCodeOf
 MeetsCode disks s who c (access.LoadProgram addr name replace declared homes) = GivesCodeOf c (disks.load_program name replace) (content s (object.Platter addr)) (content s (object.Text who))
 MeetsCode disks s who c (access.MovePlatter from to) = GivesCodeOf c disks.move_platter (content s (object.Platter from)) (content s (object.Platter to))
 MeetsCode disks s who c (access.MoveFile from name to) = GivesCodeOf c (disks.move_file name) (content s (object.Platter from)) (content s (object.Platter to))
+MeetsCode disks s who c (access.Enter name mark) = (c ≡ P38_NO_DEFFN) × LacksMark mark (holder_of s name) s
 MeetsCode disks s who c (access.Declare name old) = (c ≡ X78_NAME_HELD) × (is_held_by_other who (content s (object.Name name)) ≡ true)
 MeetsCode disks s who c a = ⊥
 
@@ -91,9 +97,10 @@ abbrev pub RefusesWithTheCode : Type 0
 RefusesWithTheCode =
     (disks : DiskWork) (who c : ℕ) (a : Access) (s : StoreState) → ((serves disks s who a).answer ≡ answer.Refused c) ↔ (NobodyComesFirst s who a × NobodyInside s who a × MeetsCode disks s who c a)
 
--- an access looks for who holds a name, and nobody does
+-- an access looks for who holds a name, or enters the text of who does, and nobody does
 abbrev pub MeetsNobody : StoreState → Access → Type 0
 MeetsNobody s (access.FindPart name) = holder_of s name ≡ None
+MeetsNobody s (access.Enter name mark) = holder_of s name ≡ None
 MeetsNobody s a = ⊥
 
 -- that nobody is there is answered exactly where nobody comes first, nobody stands inside the text that is edited, and the access meets

@@ -4,7 +4,7 @@ use Rattle.b2_rows.specs.Following.{tree_units}
 use Rattle.b2_rows.specs.Laws.{IsRow}
 use Rattle.b2_rows.specs.Rows.{tree_at}
 use Rattle.b2_text.specs.Program.{Lines}
-use Rattle.b2_vars.specs.Tables.{VarsState}
+use Rattle.b2_vars.specs.Globals.{Globals}
 use Rattle.b2_access.specs.Courses.{Here}
 use Rattle.b2_access.specs.Lending.{SeenLent}
 use Rattle.b2_access.specs.Placed.{Statement, line_named, statement_on}
@@ -20,7 +20,7 @@ abbrev pub here_found : Found → Here
 here_found f = record { place = f.place; units = tree_units f.line.now }
 
 -- what it sees, with some `@` variables
-abbrev pub seen_found : Found → Option VarsState → SeenLent
+abbrev pub seen_found : Found → Globals → SeenLent
 seen_found f globals = record { own = f.own.now; home = f.home.now; globals = globals }
 
 -- its row is read at its bytes

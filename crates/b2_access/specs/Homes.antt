@@ -1,12 +1,14 @@
 -- Which partitions a private state names as homes: that of its place, of the place that is kept, and of the places in its frames.
-use Rattle.std.specs.Prelude.{◌≡◌, ℕ, ◌-◌, ◌/◌, ◌%◌, ◌^◌, ◌==◌, Bool, true, List, [], ◌∷◌, Option, None, Some}
+use Rattle.std.specs.Prelude.{◌≡◌, ℕ, Bool, true, List, [], ◌∷◌, Option, None, Some}
 use Rattle.b2_flow.specs.declared.frame.Frame.{Frame}
 use Rattle.b2_flow.specs.declared.frame.Frame.TheVariants.{For, Call}
 use Rattle.b2_flow.specs.declared.frame.Place.{Place}
+use Rattle.b2_access.specs.AccessRows.{reach}
+use Rattle.b2_access.specs.Borrowers.{is_inside}
 use Rattle.b2_access.specs.Lending.{SeenLent}
 use Rattle.b2_access.specs.declared.accesses.Access.{Access}
-use Rattle.b2_access.specs.declared.accesses.Access.TheVariants as access
 use Rattle.b2_access.specs.declared.accesses.Answer.{Answer}
+use Rattle.b2_access.specs.declared.accesses.Answer.TheVariants as answer
 use Rattle.b2_access.specs.declared.planned.Outcome.{Outcome}
 use Rattle.b2_access.specs.declared.planned.Outcome.TheVariants as outcome
 use Rattle.b2_access.specs.declared.planned.Planned.{Planned}
@@ -44,29 +46,28 @@ abbrev pub OutcomeIn : (ℕ → Bool) → Outcome → Type 0
 OutcomeIn among (outcome.Jump p) = among p.home ≡ true
 OutcomeIn among o = Unit {0}
 
--- the partitions that an access marks as homes, by their bits, and whether one is among them
-abbrev pub homes_of : Access → ℕ
-homes_of (access.PutLine line atoms homes) = homes
-homes_of (access.Erase from to homes) = homes
-homes_of (access.ClearAll name homes) = homes
-homes_of (access.LoadProgram addr name replace declared homes) = homes
-homes_of a = 0
+-- the partitions that an access marks as homes: those whose text it leaves or gives back
+abbrev pub homes_of : Access → List ℕ
+homes_of a = (reach a).borrowers
 
-abbrev pub is_marked : ℕ → ℕ → Bool
-is_marked h homes = (homes / 2 ^ (h - 1)) % 2 == 1
-
--- each home that an access marks is among some partitions
+-- each of them is among some partitions
 abbrev pub HomesIn : (ℕ → Bool) → Access → Type 0
-HomesIn among a = (h : ℕ) → is_marked h (homes_of a) ≡ true → among h ≡ true
+HomesIn among a = (h : ℕ) → is_inside h (homes_of a) ≡ true → among h ≡ true
 
 abbrev pub PlannedIn : (ℕ → Bool) → Planned → Type 0
 PlannedIn among (planned.Done o) = OutcomeIn among o
 PlannedIn among (planned.Ask a) = HomesIn among a
 
--- A way of planning, and one of finishing, name no partition but the own one and those that were named before.
+-- whoever an answer leads to is among them: who holds a name, or the text that is entered by one
+abbrev pub AnswerIn : (ℕ → Bool) → Answer → Type 0
+AnswerIn among (answer.Holder p) = among p ≡ true
+AnswerIn among (answer.Entered g spot) = among g ≡ true
+AnswerIn among a = Unit {0}
+
+-- A way of planning, and one of finishing, name no partition but the own one, those that were named before, and whom the answer leads to.
 abbrev pub PlansWithin : (Private → SeenLent → Planning) → Type 0
 PlansWithin plan = (among : ℕ → Bool) (me : Private) (s : SeenLent) → IsWithin among me → IsWithin among (plan me s).me × PlannedIn among (plan me s).planned
 
 abbrev pub FinishesWithin : (Access → Answer → Private → SeenLent → Finishing) → Type 0
 FinishesWithin finish =
-    (among : ℕ → Bool) (x : Access) (a : Answer) (me : Private) (s : SeenLent) → IsWithin among me → IsWithin among (finish x a me s).me × OutcomeIn among (finish x a me s).outcome
+    (among : ℕ → Bool) (x : Access) (a : Answer) (me : Private) (s : SeenLent) → AnswerIn among a → IsWithin among me → IsWithin among (finish x a me s).me × OutcomeIn among (finish x a me s).outcome

@@ -5,6 +5,7 @@ use Rattle.b2_access.specs.Lending.{SeenLent}
 use Rattle.b2_access.specs.OwnTerminal.{FinishesAtTerminal, PlansAtTerminal}
 use Rattle.b2_access.specs.Pending.{FinishesToShow, PlansToShow}
 use Rattle.b2_access.specs.Planning.{Finishing, Planning}
+use Rattle.b2_access.specs.Reaching.{FinishesReach, PlansReach}
 use Rattle.b2_access.specs.Waiting.{FinishesUnchanged, PlansBeforeChanges}
 use Rattle.b2_access.specs.declared.accesses.Access.{Access}
 use Rattle.b2_access.specs.declared.accesses.Answer.{Answer}
@@ -12,7 +13,7 @@ use Rattle.b2_access.specs.declared.private.Private.{Private}
 
 -- They name no partition but the statement's own and those that were named before; they leave its place, and keep one for
 -- CONTINUE only where it ends the program; they leave its terminal, ask there alone, and make nothing wait to be shown but what is for
--- it; and where it asks or has to wait, nothing has changed.
+-- it; where it asks or has to wait, nothing has changed; and the `@` variables change only where a receiver among them is reached.
 pub record LeaveTheRest (plan : Private → SeenLent → Planning) (finish : Access → Answer → Private → SeenLent → Finishing) : Type 0 where
   pub plans_within : PlansWithin plan
   pub finishes_within : FinishesWithin finish
@@ -26,3 +27,5 @@ pub record LeaveTheRest (plan : Private → SeenLent → Planning) (finish : Acc
   pub finishes_to_show : FinishesToShow finish
   pub plans_before_changes : PlansBeforeChanges plan
   pub finishes_unchanged : FinishesUnchanged finish
+  pub plans_reach : PlansReach plan
+  pub finishes_reach : FinishesReach finish

@@ -3,6 +3,7 @@ pub mod Lending
 pub mod Devices
 pub mod Places
 pub mod Rows
+pub mod Borrowers
 pub mod Store
 pub mod AnswerKinds
 pub mod Reach
@@ -18,6 +19,7 @@ pub mod Serving
 pub mod Answering
 pub mod Views
 pub mod Causes
+pub mod Entering
 pub mod Holding
 pub mod Objects
 pub mod Contents
@@ -30,11 +32,13 @@ pub mod Courses
 pub mod Found
 pub mod Marks
 pub mod Homes
+pub mod Leading
 pub mod Keeping
 pub mod OwnTerminal
 pub mod OwnDevices
 pub mod OpenFiles
 pub mod Waiting
+pub mod Reaching
 pub mod Pending
 pub mod LeftAlone
 pub mod Working

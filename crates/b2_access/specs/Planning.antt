@@ -1,7 +1,6 @@
 -- What a statement plans, and how it finishes: what becomes of the private state and of the `@` variables.
 use Rattle.std.specs.Prelude.{ℕ, Option, Some, None}
-use Rattle.b2_vars.specs.Assigned.{Assigned}
-use Rattle.b2_vars.specs.Tables.{VarsState}
+use Rattle.b2_vars.specs.Globals.{Globals}
 use Rattle.b2_access.specs.Lending.{SeenLent}
 use Rattle.b2_access.specs.declared.accesses.Access.{Access}
 use Rattle.b2_access.specs.declared.planned.Outcome.{Outcome}
@@ -12,12 +11,12 @@ use Rattle.b2_access.specs.declared.private.Private.{Private}
 
 pub record Planning : Type 0 where
   pub me : Private
-  pub globals : Option VarsState
+  pub globals : Globals
   pub planned : Planned
 
 pub record Finishing : Type 0 where
   pub me : Private
-  pub globals : Option VarsState
+  pub globals : Globals
   pub outcome : Outcome
 
 -- a statement that has ended, and the private state after it
@@ -44,7 +43,3 @@ stays me o = record { me = me; outcome = o }
 abbrev pub goes_or : Outcome → Option ℕ → Outcome
 goes_or goes None = goes
 goes_or goes (Some code) = outcome.Failed code
-
--- variables that were changed, and where it goes on or a fault
-abbrev pub with_assigned : Assigned → Outcome → Private → Ended
-with_assigned a goes me = record { me = record me { vars = a.vars }; outcome = goes_or goes a.code }

@@ -1,5 +1,6 @@
 -- What an access reaches, and the objects that these are for a partition that asks.
 use Rattle.std.specs.Prelude.{ℕ, Bool, true, false, List, [], ◌∷◌, ◌++◌, map, Option, Some, None}
+use Rattle.b2_access.specs.Borrowers.{homes_marked}
 use Rattle.b2_access.specs.declared.objects.Object.{Object}
 use Rattle.b2_access.specs.declared.objects.Object.TheVariants as object
 use Rattle.b2_access.specs.declared.reached.Devices.{Devices}
@@ -22,18 +23,19 @@ pub record DeviceReach : Type 0 where
   pub address : List ℕ
   pub part : DevicePart
 
--- A terminal, the own text, the own `@` variables, the borrowers of some texts, devices in the order written, and names. No access
--- reaches borrowers yet: those that it marks are looked at once calls into global texts come.
+-- A terminal, the own text, the own `@` variables, those who stand inside some texts, devices in the order written, a name by which a
+-- text is entered, with the text of who holds it and those who stand inside that, and names.
 pub record Reach : Type 0 where
   pub terminal : Option ℕ
   pub text : TextUse
   pub variables : Bool
   pub borrowers : List ℕ
   pub devices : List DeviceReach
+  pub entered : Option (List ℕ)
   pub names : List (List ℕ)
 
 abbrev pub nothing : Reach
-nothing = record { terminal = None; text = text.Unused; variables = false; borrowers = []; devices = []; names = [] }
+nothing = record { terminal = None; text = text.Unused; variables = false; borrowers = []; devices = []; entered = None; names = [] }
 
 abbrev pub at_terminal : ℕ → Reach
 at_terminal term = record nothing { terminal = Some term }
@@ -45,10 +47,7 @@ disk address = record { address = address; part = WithPlatter }
 abbrev pub at_disk : List ℕ → Reach
 at_disk address = record nothing { devices = disk address ∷ [] }
 
--- a platter and the own text, and two platters
-abbrev pub disk_and_text : List ℕ → TextUse → Reach
-disk_and_text address used = record (at_disk address) { text = used }
-
+-- two platters
 abbrev pub at_disks : List ℕ → List ℕ → Reach
 at_disks from to = record nothing { devices = disk from ∷ disk to ∷ [] }
 
@@ -92,12 +91,33 @@ devices_of (devices.Printer address) = printer address ∷ []
 devices_of (devices.Taken addresses) = map hold_taken addresses.now
 devices_of (devices.Freed addresses) = map hold_freed addresses.now
 
-abbrev pub own_text : Reach
-own_text = record nothing { text = text.Edited }
+-- the own text, which is edited, and those who stand inside the texts that are given back for that
+abbrev pub own_text : ℕ → Reach
+own_text homes = record nothing { text = text.Edited; borrowers = homes_marked homes }
+
+-- those who stand inside the texts that are given back, and inside one that is left
+abbrev pub left_texts : List ℕ → Reach
+left_texts homes = record nothing { borrowers = homes }
+
+-- a name by which a text is entered
+abbrev pub by_name : List ℕ → Reach
+by_name name = record nothing { entered = Some name }
+
+-- a text that is left, where there is one
+abbrev pub if_left : Option ℕ → List ℕ
+if_left None = []
+if_left (Some home) = home ∷ []
 
 -- what is reached beside devices, as a value of the program says it
 abbrev pub reach_of : Reached → Reach
-reach_of r = record nothing { terminal = r.terminal; text = r.text; variables = r.variables; names = if_any r.name ++ if_any r.old_name }
+reach_of r = record nothing {
+  terminal = r.terminal;
+  text = r.text;
+  variables = r.variables;
+  borrowers = if_left r.left ++ homes_marked r.homes;
+  entered = r.entered;
+  names = if_any r.name ++ if_any r.old_name;
+}
 
 -- the objects that are reached: an edit looks at who stands inside the text
 abbrev pub terminal_objects : Option ℕ → List Object
@@ -123,9 +143,24 @@ abbrev pub device_objects : List DeviceReach → List Object
 device_objects [] = []
 device_objects (d ∷ ds) = part_objects d.address d.part ++ device_objects ds
 
-abbrev pub objects_reached : ℕ → Reach → List Object
-objects_reached who r =
-    terminal_objects r.terminal ++ (text_objects who r.text ++ (variable_objects who r.variables ++ (map object.Borrow r.borrowers ++ (device_objects r.devices ++ map object.Name r.names))))
+-- those who stand inside some texts
+abbrev pub borrows : List ℕ → List Object
+borrows homes = map object.Borrow homes
+
+-- a name by which a text is entered, and by who holds it that text and those who stand inside
+abbrev pub entered_text : Option ℕ → List Object
+entered_text None = []
+entered_text (Some g) = object.Text g ∷ object.Borrow g ∷ []
+
+abbrev pub entered_objects : Option (List ℕ) → Option ℕ → List Object
+entered_objects None holder = []
+entered_objects (Some name) holder = object.Name name ∷ entered_text holder
+
+-- all of them, where this partition holds the name by which a text is entered
+abbrev pub objects_reached : ℕ → Option ℕ → Reach → List Object
+objects_reached who holder r =
+    terminal_objects r.terminal
+    ++ (text_objects who r.text ++ (variable_objects who r.variables ++ (borrows r.borrowers ++ (device_objects r.devices ++ (entered_objects r.entered holder ++ map object.Name r.names)))))
 
 -- the objects of what is written, as a value of the program says it
 abbrev pub where_written : Bool → Object → List Object
@@ -148,6 +183,16 @@ is_device_written written.NoDevice = false
 is_device_written devices = true
 
 -- and beside devices
+-- those who stand inside the text that is entered
+abbrev pub borrow_entered : Option ℕ → List Object
+borrow_entered None = []
+borrow_entered (Some g) = object.Borrow g ∷ []
+
+abbrev pub borrow_where : Bool → Option ℕ → List Object
+borrow_where false holder = []
+borrow_where true holder = borrow_entered holder
+
 abbrev pub objects_written : Written → ℕ → List Object
 objects_written w who =
-    terminal_objects w.terminal ++ (where_written w.text (object.Text who) ++ (where_written w.variables (object.Globals who) ++ map object.Name (if_any w.name ++ if_any w.old_name)))
+    terminal_objects w.terminal
+    ++ (where_written w.text (object.Text who) ++ (where_written w.variables (object.Globals who) ++ (borrows (if_left w.left ++ homes_marked w.homes) ++ map object.Name (if_any w.name ++ if_any w.old_name))))

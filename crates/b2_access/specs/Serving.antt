@@ -4,7 +4,7 @@ use Rattle.b2_access.specs.declared.objects.Object.{Object}
 use Rattle.b2_access.specs.declared.accesses.Access.{Access}
 use Rattle.b2_access.specs.declared.accesses.Answer.{Answer}
 use Rattle.b2_access.specs.declared.accesses.Answer.TheVariants as answer
-use Rattle.b2_access.specs.AccessRows.{AccessRow, row}
+use Rattle.b2_access.specs.AccessRows.{AccessRow, holder_entered, row}
 use Rattle.b2_access.specs.AnswerKinds.{stops}
 use Rattle.b2_access.specs.Disks.{DiskWork}
 use Rattle.b2_access.specs.Sharing.{Gives, ServingOf}
@@ -29,7 +29,7 @@ unless_stopped None g s = g
 unless_stopped (Some x) g s = record { after = s; answer = x }
 
 abbrev pub serves_row : AccessRow → DiskWork → StoreState → ℕ → Gives StoreState
-serves_row r disks s who = unless_stopped (stop who r.reach s) (performs (r.does disks who) s) s
+serves_row r disks s who = unless_stopped (stop who r.reach s) (performs (r.does disks who (holder_entered r.reach.entered s)) s) s
 
 -- HOW A PLAIN STORE SERVES, which means itself, where disks do so much
 abbrev pub serves : DiskWork → ServingOf StoreState

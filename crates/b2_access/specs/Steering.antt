@@ -1,7 +1,8 @@
 -- Statements of control. WHAT SUCH A STATEMENT MAY CHANGE of a partition is what any other may, and the frames and the place that is kept:
 -- a record of its own, which is put back in one place. So by its type it leaves the partition itself and its terminal, where it stands,
--- and the devices that it holds; and the files that it has open stay so, or all are closed.
-use Rattle.std.specs.Prelude.{Bool, true, false, List, Option}
+-- and the devices that it holds; and the files that it has open stay so, or all are closed. The name that it has declared is changed here
+-- alone.
+use Rattle.std.specs.Prelude.{ℕ, Bool, true, false, List, Option}
 use Rattle.b2_base.specs.declared.files.Slot.{Slot}
 use Rattle.b2_flow.specs.declared.frame.Frame.{Frame}
 use Rattle.b2_flow.specs.declared.frame.Place.{Place}
@@ -16,9 +17,10 @@ pub record Control : Type 0 where
   pub kept : Option Place
   pub stack : List Frame
   pub closes : Bool
+  pub declared : Option (List ℕ)
 
 abbrev pub control_of : Private → Control
-control_of me = record { work = work_of me; kept = me.kept; stack = me.stack; closes = false }
+control_of me = record { work = work_of me; kept = me.kept; stack = me.stack; closes = false; declared = me.declared }
 
 -- the files that are open then, by whether all were closed
 abbrev pub files_left : Bool → List (Option Slot) → List (Option Slot)
@@ -26,7 +28,7 @@ files_left false slots = slots
 files_left true slots = no_files
 
 abbrev pub put_control : Control → Private → Private
-put_control c me = record (put_all c.work (files_left c.closes me.slots) me.held me) { kept = c.kept; stack = c.stack }
+put_control c me = record (put_all c.work (files_left c.closes me.slots) me.held me) { kept = c.kept; stack = c.stack; declared = c.declared }
 
 -- a statement that has ended, and what it changed
 pub record Steered : Type 0 where

@@ -42,6 +42,10 @@ content s (object.Platter a) = device_row a s.platters
 content s (object.Hog a) = device_row a s.hogs
 content s (object.Name n) = Some (name_row n s.names)
 
+-- who holds a name
+abbrev pub holder_of : StoreState → List ℕ → Option ℕ
+holder_of s n = name_row n s.names
+
 -- an object that is listed has another content; a name is listed always
 abbrev pub put : (o : Object) → ContentOf o → StoreState → StoreState
 put (object.Text p) c s = record s { texts = with_row p s.texts c }

@@ -1,7 +1,7 @@
 -- What an access does once nothing stops it, as a task: it looks at objects one after another, and then tells new contents and an
 -- answer, or it is refused with a code, or it finds that nobody is there whom it looks for. By its type it looks at what is reached alone, and tells new contents of what is written alone.
-use Rattle.std.specs.Prelude.{ℕ, List, [], ◌∷◌, map, Option}
-use Rattle.std.proofs.Common.{inr}
+use Rattle.std.specs.Prelude.{ℕ, List, [], ◌∷◌, ◌++◌, map, Option}
+use Rattle.std.proofs.Common.{inl, inr}
 use Rattle.b2_access.specs.declared.objects.Object.{Object}
 use Rattle.b2_access.specs.declared.accesses.Answer.{Answer}
 use Rattle.b2_access.specs.Store.{ContentOf, IsIn}
@@ -9,6 +9,14 @@ use Rattle.b2_access.specs.Store.{ContentOf, IsIn}
 -- all of some objects are among others
 abbrev pub AreIn : List Object → List Object → Type 0
 AreIn xs os = (o : Object) → IsIn o xs → IsIn o os
+
+pub in_left : (o : Object) (xs ys : List Object) → IsIn o xs → IsIn o (xs ++ ys)
+in_left o [] ys i = absurd i
+in_left o (x ∷ xs) ys i = elim i [ inl e ↦ inl e | inr j ↦ inr (in_left o xs ys j) ]
+
+pub in_right : (o : Object) (xs ys : List Object) → IsIn o ys → IsIn o (xs ++ ys)
+in_right o [] ys i = i
+in_right o (x ∷ xs) ys i = inr (in_right o xs ys i)
 
 -- a new content of an object that is written
 pub record Put (written : List Object) : Type 0 where

@@ -1,5 +1,5 @@
 -- What an access touches and writes, and what it takes.
-use Rattle.std.specs.Prelude.{◌≡◌, ◌≢◌, ◌≤◌, ◌&&◌, nat_le, ℕ, Bool, true, List, [], length, Some, None, if◌then◌else◌}
+use Rattle.std.specs.Prelude.{◌≡◌, ◌≢◌, ◌≤◌, ◌&&◌, nat_le, ℕ, Bool, true, List, [], length, Option, Some, None, if◌then◌else◌}
 use Rattle.std.specs.List.{list_all}
 use Rattle.b2_base.specs.Names.{is_name8}
 use Rattle.b2_dec.specs.declared.values.Value.{Value}
@@ -8,18 +8,25 @@ use Rattle.b2_access.specs.declared.objects.Object.{Object}
 use Rattle.b2_access.specs.declared.accesses.Access.{Access}
 use Rattle.b2_access.specs.declared.accesses.Access.TheVariants as access
 use Rattle.b2_access.specs.declared.accesses.Answer.{Answer}
-use Rattle.b2_access.specs.AccessRows.{reach, row}
+use Rattle.b2_access.specs.declared.accesses.Answer.TheVariants as answer
+use Rattle.b2_access.specs.AccessRows.{holder_at, reach, row}
 use Rattle.b2_access.specs.AnswerKinds.{stops}
 use Rattle.b2_access.specs.Reach.{objects_reached}
 use Rattle.b2_access.specs.Store.{StoreState}
 
--- the objects that an access of a partition touches, whatever its answer is: those that it reaches
+-- The objects that an access of a partition touches, whatever its answer is: those that it reaches. By which text it enters is for who
+-- holds the name to say.
 abbrev pub touched : StoreState → ℕ → Access → List Object
-touched s who a = objects_reached who (reach a)
+touched s who a = objects_reached who (holder_at a s) (reach a)
+
+-- the partition whose text was entered, as the answer says
+abbrev pub entered_in : Answer → Option ℕ
+entered_in (answer.Entered g spot) = Some g
+entered_in x = None
 
 -- those that it writes, by its answer: one that was stopped writes nothing
 abbrev pub written_by : Answer → ℕ → Access → List Object
-written_by x who a = if stops x then [] else (row a).writes who
+written_by x who a = if stops x then [] else (row a).writes who (entered_in x)
 
 -- what a record may have: a number, or at least one byte and at most 124
 abbrev pub is_short : Value → Bool
@@ -45,9 +52,9 @@ IsLegal (access.MovePlatter from to) = from ≢ to
 IsLegal (access.MoveFile from name to) = from ≢ to
 IsLegal a = Unit {0}
 
--- Which accesses may want memory: those that put bytes, a line or a name where there may be no room kept for them, one that lays out bytes, and
--- those that read records or programs or lay them out. A key is taken, lines are taken
--- out, devices are taken and freed, and disks are looked at and changed else without any.
+-- Which accesses may want memory: those that put bytes, a line, a name, or one more who stands inside a text, where there may be no room
+-- kept for them; one that lays out bytes; and those that read records or programs or lay them out. A key is taken, lines are taken out,
+-- names are given up, texts are left and given back, devices are taken and freed, and disks are looked at and changed else without any.
 abbrev pub MayWantMemory : Access → Type 0
 MayWantMemory (access.Show term bytes column) = Unit {0}
 MayWantMemory (access.PrintTo addr bytes column) = Unit {0}
@@ -55,6 +62,7 @@ MayWantMemory (access.ReadLine term) = Unit {0}
 MayWantMemory (access.Insert term bytes) = Unit {0}
 MayWantMemory (access.PutLine line (Some atoms) homes) = Unit {0}
 MayWantMemory (access.Declare name old) = Unit {0}
+MayWantMemory (access.Enter name mark) = Unit {0}
 MayWantMemory (access.ListDisk addr) = Unit {0}
 MayWantMemory (access.DataLoad slot kinds) = Unit {0}
 MayWantMemory (access.Skip slot way) = Unit {0}

@@ -1,14 +1,15 @@
 -- Statements that change no frame and no place that is kept, which are all but those of control. WHAT SUCH A STATEMENT MAY CHANGE of a
 -- partition is a record of its own, which is put back in one place. So by its type it leaves the partition itself and its terminal, where
 -- it stands, its frames and the place that is kept, the files that it has open and the devices that it holds, the platter that it starts
--- with, the lines that it was given, and what was asked of it. One on data files changes which files are open besides as it finishes,
+-- with, the name that it has declared, the lines that it was given, and what was asked of it. One on data files changes which files are open besides as it finishes,
 -- and one that takes or frees devices which of them are held.
 use Rattle.std.specs.Prelude.{◌≡◌, ℕ, Bool, true, List, Option, Some, None}
 use Rattle.b2_base.specs.declared.files.Slot.{Slot}
 use Rattle.b2_dec.specs.declared.number.Mode.{Mode}
 use Rattle.b2_dec.specs.declared.values.Value.{Value}
 use Rattle.b2_text.specs.declared.spots.Spot.{Spot}
-use Rattle.b2_vars.specs.Assigned.{Assigned}
+use Rattle.b2_vars.specs.Assigned.{Changed}
+use Rattle.b2_vars.specs.Globals.{Globals, MayBecome}
 use Rattle.b2_vars.specs.Tables.{VarsState}
 use Rattle.b2_access.specs.AnswerKinds.{delays}
 use Rattle.b2_access.specs.Homes.{FinishesWithin, OutcomeIn, PlaceIn, PlannedIn, PlansWithin}
@@ -18,6 +19,7 @@ use Rattle.b2_access.specs.OwnTerminal.{FinishesAtTerminal, PlannedAt, PlansAtTe
 use Rattle.b2_access.specs.Partition.{terminal_address}
 use Rattle.b2_access.specs.Pending.{FinishesToShow, PendingOutput, PlansToShow}
 use Rattle.b2_access.specs.Planning.{Ended, Finishing, Planning, done, finished, goes_or}
+use Rattle.b2_access.specs.Reaching.{FinishesReach, PlansReach}
 use Rattle.b2_access.specs.Waiting.{FinishesUnchanged, PlansBeforeChanges}
 use Rattle.b2_access.specs.declared.accesses.Access.{Access}
 use Rattle.b2_access.specs.declared.accesses.Answer.{Answer}
@@ -31,6 +33,7 @@ pub record Work : Type 0 where
   pub vars : VarsState
   pub print : List ℕ
   pub disk : Option (List ℕ)
+  pub global : Option (List ℕ)
   pub term_column : ℕ
   pub print_column : ℕ
   pub last : ℕ
@@ -40,13 +43,16 @@ pub record Work : Type 0 where
   pub shows : Option (List ℕ)
   pub literal : Option (List ℕ)
   pub prompted : Bool
+  pub globals : Option Globals
 
+-- nothing is changed; of the `@` variables nothing is told where it leaves them
 abbrev pub work_of : Private → Work
 work_of me = record {
   mode = me.mode;
   vars = me.vars;
   print = me.print;
   disk = me.disk;
+  global = me.global;
   term_column = me.term_column;
   print_column = me.print_column;
   last = me.last;
@@ -56,6 +62,7 @@ work_of me = record {
   shows = None;
   literal = me.literal;
   prompted = me.prompted;
+  globals = None;
 }
 
 -- What it makes wait to be shown is for the terminal; where it makes nothing wait, what waited before still does.
@@ -72,6 +79,7 @@ put_all w slots held me = record me {
   held = held;
   print = w.print;
   disk = w.disk;
+  global = w.global;
   term_column = w.term_column;
   print_column = w.print_column;
   last = w.last;
@@ -87,6 +95,14 @@ put_all w slots held me = record me {
 abbrev pub put_back : Work → Private → Private
 put_back w me = put_all w me.slots me.held me
 
+-- the `@` variables after it
+abbrev pub globals_after : Option Globals → Globals → Globals
+globals_after None before = before
+globals_after (Some after) before = after
+
+abbrev pub lent_after : Work → SeenLent → SeenLent
+lent_after w s = record s { globals = globals_after w.globals s.globals }
+
 -- a statement that has ended, and what it changed
 pub record Worked : Type 0 where
   pub work : Work
@@ -97,8 +113,8 @@ abbrev pub leaves : Private → Outcome → Worked
 leaves me o = record { work = work_of me; outcome = o }
 
 -- variables that were changed, and where it goes on or a fault
-abbrev pub with_variables : Assigned → Outcome → Work → Worked
-with_variables a goes w = record { work = record w { vars = a.vars }; outcome = goes_or goes a.code }
+abbrev pub with_variables : Changed → Outcome → Work → Worked
+with_variables c goes w = record { work = record w { vars = c.own; globals = Some c.globals }; outcome = goes_or goes c.code }
 
 -- what it comes to: it has ended, or nothing changes, and this is planned
 pub data Working : Type 0 where
@@ -118,7 +134,7 @@ abbrev pub ended : Private → Worked → Ended
 ended me w = record { me = put_back w.work me; outcome = w.outcome }
 
 abbrev pub as_planned : Private → SeenLent → Working → Planning
-as_planned me s (Ends w) = done s (ended me w)
+as_planned me s (Ends w) = done (lent_after w.work s) (ended me w)
 as_planned me s (Plans p) = record { me = me; globals = s.globals; planned = p }
 
 -- A STATEMENT ON DATA FILES as it finishes: what it changed, and the files that are open then
@@ -139,7 +155,7 @@ pub record FileWorked : Type 0 where
 abbrev pub leaves_files : Private → Outcome → FileWorked
 leaves_files me o = record { work = file_work_of me; outcome = o }
 
--- ONE THAT TAKES OR FREES DEVICES: what it changed, and the devices that are held then
+-- ONE THAT TAKES OR FREES DEVICES: what it changed, and the devices that are held then; as it finishes it leaves the `@` variables
 pub record HolderWork : Type 0 where
   pub work : Work
   pub held : List (List ℕ)
@@ -159,16 +175,17 @@ abbrev pub plans_by : (Private → SeenLent → Working) → Private → SeenLen
 plans_by way me s = as_planned me s (way me s)
 
 abbrev pub finishes_by : (Access → Answer → Private → SeenLent → Worked) → Access → Answer → Private → SeenLent → Finishing
-finishes_by way x a me s = finished s (ended me (way x a me s))
+finishes_by way x a me s = finished (lent_after (way x a me s).work s) (ended me (way x a me s))
 
 abbrev pub files_finish_by : (Access → Answer → Private → SeenLent → FileWorked) → Access → Answer → Private → SeenLent → Finishing
-files_finish_by way x a me s = finished s (record { me = put_files (way x a me s).work me; outcome = (way x a me s).outcome })
+files_finish_by way x a me s = finished (lent_after (way x a me s).work.work s) (record { me = put_files (way x a me s).work me; outcome = (way x a me s).outcome })
 
 abbrev pub holders_finish_by : (Access → Answer → Private → SeenLent → HolderWorked) → Access → Answer → Private → SeenLent → Finishing
 holders_finish_by way x a me s = finished s (record { me = put_holdings (way x a me s).work me; outcome = (way x a me s).outcome })
 
 -- WHAT THEY STILL HAVE TO SHOW. What is planned leads to the home of the place and marks no other, and asks at the own terminal alone;
--- what finishes leads to that home; and an answer that delays changes nothing.
+-- what finishes leads to that home; an answer that delays changes nothing; and the `@` variables are changed where a receiver among them
+-- was reached, and nowhere else.
 abbrev pub PlansEachWithin : (Private → SeenLent → Working) → Type 0
 PlansEachWithin way = (among : ℕ → Bool) (me : Private) (s : SeenLent) → PlaceIn among me.place → PlannedIn among (planned_of (way me s))
 
@@ -181,25 +198,37 @@ LeadsWithin leads = (among : ℕ → Bool) (x : Access) (a : Answer) (me : Priva
 abbrev pub ChangesNothing : {W : Type 0} → (Private → W) → (Access → Answer → Private → SeenLent → W) → Type 0
 ChangesNothing {W} of_it work = (x : Access) (a : Answer) (me : Private) (s : SeenLent) → delays a ≡ true → work x a me s ≡ of_it me
 
+-- what it tells of the `@` variables, where it tells anything
+abbrev pub told_of_globals : Working → Option Globals
+told_of_globals (Ends w) = w.work.globals
+told_of_globals (Plans p) = None
+
+abbrev pub PlansEachReach : (Private → SeenLent → Working) → Type 0
+PlansEachReach way = (me : Private) (s : SeenLent) → MayBecome s.globals (globals_after (told_of_globals (way me s)) s.globals)
+
+abbrev pub EachReaches : (Access → Answer → Private → SeenLent → Work) → Type 0
+EachReaches work = (x : Access) (a : Answer) (me : Private) (s : SeenLent) → MayBecome s.globals (globals_after (work x a me s).globals s.globals)
+
 -- SO IT HOLDS OF EACH, BY ITS FORM; and what each leaves of the open files and of the devices that are held
 abbrev pub PlansArePutBack : Type 0
 PlansArePutBack =
     (way : Private → SeenLent → Working)
     → PlansInPlace (plans_by way) × PlansKeepNone (plans_by way) × PlansBeforeChanges (plans_by way) × PlansToShow (plans_by way)
     × (PlansEachWithin way → PlansWithin (plans_by way)) × (PlansEachAtTerminal way → PlansAtTerminal (plans_by way))
-    × PlansKeepFiles (plans_by way) × PlansKeepHeld (plans_by way)
+    × PlansKeepFiles (plans_by way) × PlansKeepHeld (plans_by way) × (PlansEachReach way → PlansReach (plans_by way))
 
 -- whichever of the three it is, by what it changes, where it leads, and how it finishes
-abbrev pub IsPutBack : {W : Type 0} → (Private → W) → (Access → Answer → Private → SeenLent → W) → (Access → Answer → Private → SeenLent → Outcome) → (Access → Answer → Private → SeenLent → Finishing) → Type 0
-IsPutBack of_it work leads finish =
+abbrev pub IsPutBack : {W : Type 0} → (Private → W) → (W → Work) → (Access → Answer → Private → SeenLent → W) → (Access → Answer → Private → SeenLent → Outcome) → (Access → Answer → Private → SeenLent → Finishing) → Type 0
+IsPutBack of_it work_in work leads finish =
     FinishesInPlace finish × FinishesKeepNone finish × FinishesAtTerminal finish × FinishesToShow finish
     × (LeadsWithin leads → FinishesWithin finish) × (ChangesNothing of_it work → FinishesUnchanged finish)
+    × (ChangesNothing of_it work → EachReaches (λ x a me s. work_in (work x a me s)) → FinishesReach finish)
 
 abbrev pub FinishesArePutBack : Type 0
 FinishesArePutBack =
     ((way : Access → Answer → Private → SeenLent → Worked)
-    → IsPutBack work_of (λ x a me s. (way x a me s).work) (λ x a me s. (way x a me s).outcome) (finishes_by way) × FinishesKeepFiles (finishes_by way) × FinishesKeepHeld (finishes_by way))
+    → IsPutBack work_of (λ w. w) (λ x a me s. (way x a me s).work) (λ x a me s. (way x a me s).outcome) (finishes_by way) × FinishesKeepFiles (finishes_by way) × FinishesKeepHeld (finishes_by way))
     × ((way : Access → Answer → Private → SeenLent → FileWorked)
-    → IsPutBack file_work_of (λ x a me s. (way x a me s).work) (λ x a me s. (way x a me s).outcome) (files_finish_by way) × FinishesKeepHeld (files_finish_by way))
+    → IsPutBack file_work_of (λ w. w.work) (λ x a me s. (way x a me s).work) (λ x a me s. (way x a me s).outcome) (files_finish_by way) × FinishesKeepHeld (files_finish_by way))
     × ((way : Access → Answer → Private → SeenLent → HolderWorked)
-    → IsPutBack holder_work_of (λ x a me s. (way x a me s).work) (λ x a me s. (way x a me s).outcome) (holders_finish_by way) × FinishesKeepFiles (holders_finish_by way))
+    → IsPutBack holder_work_of (λ w. w.work) (λ x a me s. (way x a me s).work) (λ x a me s. (way x a me s).outcome) (holders_finish_by way) × FinishesKeepFiles (holders_finish_by way))

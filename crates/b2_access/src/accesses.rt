@@ -1,10 +1,12 @@
 // What a step asks of the store, and what is answered.
 ghost use Rattle.std.specs.Prelude.{◌≡◌};
 ghost use Rattle.b2_access.specs.AnswerKinds as kind;
+ghost use Rattle.b2_access.specs.Touching.{entered_in};
 
 use b2_atom::Atoms;
 use b2_base::{Addr, AddrList, By, ByteList, Code, Name8, Part, Slot, Term};
 use b2_dec::{KindList, ValueList};
+use b2_text::Spot;
 
 /// What a step asks of the store, once at most. `homes` marks the partitions whose text the asking one gives back: the bit of
 /// a partition is that of its number less 1.
@@ -58,6 +60,19 @@ pub enum Access {
     /// All lines are taken out of its text, its `@` variables go, and it gives up the name that it holds.
     ClearAll {
         name: Option<Name8>,
+        homes: u16,
+    },
+    /// The asking partition enters the text of the one that holds a name, at the DEFFN' of a number there.
+    Enter {
+        name: Name8,
+        mark: u8,
+    },
+    /// It leaves the text of a partition, which it has entered, once.
+    Leave {
+        home: Part,
+    },
+    /// It gives back texts, each as often as it has entered it.
+    Drop {
         homes: u16,
     },
     /// The asking partition declares a name, and gives up another one that it holds, where one is given.
@@ -180,6 +195,8 @@ pub enum Answer {
     AtEnd,
     /// This partition holds the name.
     Holder(Part),
+    /// The text of this partition is entered, in which the DEFFN' stands at this spot.
+    Entered(Part, Spot),
     /// Another partition is in front of the terminal, or holds the device: nothing was done.
     Wait(Part),
     /// Another partition stands inside the text: nothing was done.
@@ -199,5 +216,15 @@ impl Answer {
             self,
             Answer::Wait(_) | Answer::Locked(_) | Answer::NoPart | Answer::Refused(_)
         )
+    }
+
+    /// The partition whose text was entered, None where none was.
+    pub fn entered_in(&self) -> Option<Part>
+        ensures { result ≡ entered_in self.now }
+    {
+        match self {
+            Answer::Entered(home, _) => Some(*home),
+            _ => None,
+        }
     }
 }

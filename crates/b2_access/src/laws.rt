@@ -4,7 +4,9 @@ ghost use Rattle.b2_access.specs.Partition.{at_start, KeepsNone};
 ghost use Rattle.b2_access.specs.Answering.{AnswersByRow, RowsTellTheirAnswers};
 ghost use Rattle.b2_access.specs.Causes.{WaitsForTheFirst, LocksForTheFirst, MissesNobodyElse, RefusesWithTheCode};
 ghost use Rattle.b2_access.specs.Disks.{DiskWork};
+ghost use Rattle.b2_access.specs.Entering.{AccessesEnterAsSaid};
 ghost use Rattle.b2_access.specs.Holding.{HeldIsOutOfReach, HeldStaysAsItIs, OtherHoldersStay, OtherImagesStay, WhoAsksWaits};
+ghost use Rattle.b2_access.specs.Leading.{AnswersLeadToHolders, AnswersLeadToWhoIsPresent, HoldersStayPresent, NamesLeadToWhoAsks};
 ghost use Rattle.b2_access.specs.Loans.{LoansEndWell};
 ghost use Rattle.b2_access.specs.Serving.{StopsUnchanged, serves, itself};
 ghost use Rattle.b2_access.specs.Sharing.{IsLocal, KeepsListed};
@@ -19,7 +21,8 @@ pub fn law_a_start_keeps_none()
 
 /// A statement that changes no frame and no place that is kept, whatever it plans, leaves the partition in its place and at its
 /// terminal, keeps no place, and has changed nothing where it asks for an access; it names no other partition where it leads to
-/// none. The files that are open stay so, and the devices that are held.
+/// none. The files that are open stay so, and the devices that are held; and the `@` variables, where no receiver among them was
+/// reached.
 pub fn law_plans_are_put_back()
     ensures { PlansArePutBack }
 {}
@@ -62,9 +65,28 @@ pub fn law_a_code_is_met()
     ensures { RefusesWithTheCode }
 {}
 
-/// That nobody is there is answered exactly where an access looks for who holds a name, and nobody does.
+/// That nobody is there is answered exactly where an access looks for who holds a name, or enters the text of who does, and nobody does.
 pub fn law_no_part_is_for_a_name_of_nobody()
     ensures { MissesNobodyElse }
+{}
+
+/// Who stands inside a text, and how often, changes for the partition that asks alone: it is there once more where it has entered, once
+/// less where it has left, and no more where it has given the text back; all else leaves that as it is.
+pub fn law_accesses_enter_as_said()
+    ensures { AccessesEnterAsSaid }
+{}
+
+/// An answer that leads to a partition leads to who holds a name that its access touches; so, where names are held by partitions that
+/// are present, to one that is.
+pub fn law_answers_lead_to_holders()
+    ensures leads { AnswersLeadToHolders }
+    ensures present { AnswersLeadToWhoIsPresent }
+{}
+
+/// A name leads after an access to whom it led before, or to the one that asked; so names are still held by partitions that are present.
+pub fn law_names_lead_to_who_asks()
+    ensures leads { NamesLeadToWhoAsks }
+    ensures present { HoldersStayPresent }
 {}
 
 /// What belongs to a device stays as it is through every access of a partition, while another one holds the device.

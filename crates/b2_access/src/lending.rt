@@ -26,4 +26,6 @@ pub struct Lent<'a> {
     pub globals: &'a mut Vars,
     /// Whether there are such.
     pub found: bool,
+    /// Whether a receiver among them was reached.
+    pub reached: bool,
 }

@@ -16,8 +16,8 @@
 //! access; what a disk does in `Disks`, what stops an access in `Stopping`, and how it is served by these in `Serving`. What a
 //! statement leaves of a partition is in `Homes`, `Keeping` and `OwnTerminal`, for which devices it asks in `OwnDevices`, and
 //! what it may change in `Working` and `Steering`. What holds of serving stands in `laws`: that it is local, when each answer
-//! that stops an access comes (`Causes`), and which answers each can have (`Answering`). It is proved over rows and tasks, not by
-//! accesses.
+//! that stops an access comes (`Causes`), which answers each can have (`Answering`), who stands inside a text after each (`Entering`),
+//! and to whom names and answers lead (`Leading`). It is proved over rows and tasks, not by accesses.
 #![tactic(auto)]
 
 mod accesses;
@@ -26,6 +26,7 @@ mod ending;
 mod going;
 pub mod laws;
 mod lending;
+mod marked_homes;
 mod marks;
 mod objects;
 mod placed;
@@ -42,6 +43,7 @@ pub use devices::{Device, DeviceTable};
 pub use ending::{failing, goes_or};
 pub use going::{failed, named_at, to_found, to_goal, to_line, to_place};
 pub use lending::{At, Lent};
+pub use marked_homes::{all_parts, is_marked};
 pub use marks::typed_by_mark;
 pub use objects::Object;
 pub use placed::{Found, line_named, statement_on, statement_placed};

@@ -4,7 +4,7 @@ ghost use Rattle.b2_access.specs.Partition as spec;
 ghost use Rattle.b2_access.specs.Partition.{at_start, without_frames};
 
 use b2_atom::Atoms;
-use b2_base::{Addr, AddrList, ByteList, NoMemory, Part, Slot, Term};
+use b2_base::{Addr, AddrList, ByteList, Name8, NoMemory, Part, Slot, Term};
 use b2_dec::{Mode, ValueList};
 use b2_flow::{Place, Stack};
 use b2_text::Spot;
@@ -44,6 +44,10 @@ pub struct Private {
     pub disk: Option<Addr>,
     /// The platter that is selected at the start, and after CLEAR.
     pub boot_disk: Option<Addr>,
+    /// The name of the partition that is selected: in its own text `@` variables are those of who holds it. None where none is.
+    pub global: Option<Name8>,
+    /// The name that it has declared.
+    pub declared: Option<Name8>,
     /// The column at its terminal; it stays at 65,535 once it is there.
     pub term_column: u16,
     /// The column at the printer that is selected; it stays at 65,535 once it is there.
@@ -125,6 +129,8 @@ impl Private {
             print: Addr::default(),
             disk,
             boot_disk: disk,
+            global: None,
+            declared: None,
             term_column: 0,
             print_column: 0,
             last: 0,

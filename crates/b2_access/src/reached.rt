@@ -1,12 +1,12 @@
 // What an access reaches, and what it writes of that.
-ghost use Rattle.std.specs.Prelude.{◌≡◌, ◌||◌, is_some, true, false, Some, None};
+ghost use Rattle.std.specs.Prelude.{◌≡◌, ◌||◌, ℕ, Option, is_some, true, false, Some, None};
 ghost use Rattle.b2_access.specs.AccessRows.{names_of, reach as reach_by, row, writes_by};
 ghost use Rattle.b2_access.specs.Reach as reach;
 ghost use Rattle.b2_access.specs.Holding.{changes_device, changes_name, devices_changed};
 ghost use Rattle.b2_access.specs.Reach.{device_objects_written, devices_of, is_device_written, reach_of};
 
 use crate::accesses::Access;
-use b2_base::{Addr, Name8, Term};
+use b2_base::{Addr, Name8, Part, Term};
 
 /// How the text of the partition that asks is reached.
 #[derive(Clone, Copy)]
@@ -28,6 +28,12 @@ pub struct Reached {
     pub text: TextUse,
     /// Whether the `@` variables of the partition that asks.
     pub variables: bool,
+    /// A text that is left: who stands inside.
+    pub left: Option<Part>,
+    /// The texts that are given back, by the bits of their partitions: who stands inside each.
+    pub homes: u16,
+    /// A name by which a text is entered: that of who holds it, with who stands inside.
+    pub entered: Option<Name8>,
     /// A name.
     pub name: Option<Name8>,
     /// A name that is given up.
@@ -36,12 +42,15 @@ pub struct Reached {
 
 /// Nothing.
 fn reaches_nothing() -> Reached
-    ensures { result ≡ record { terminal = None; text = TextUse.Unused; variables = false; name = None; old_name = None } }
+    ensures { result ≡ record { terminal = None; text = TextUse.Unused; variables = false; left = None; homes = 0; entered = None; name = None; old_name = None } }
 {
     Reached {
         terminal: None,
         text: TextUse::Unused,
         variables: false,
+        left: None,
+        homes: 0,
+        entered: None,
         name: None,
         old_name: None,
     }
@@ -57,23 +66,16 @@ fn at_terminal(term: Term) -> Reached
     }
 }
 
-/// The text of the partition that asks.
-fn own_text(text: TextUse) -> Reached
-    ensures { reach_of result ≡ record reach.nothing { text = text } }
+/// The text of the partition that asks, which is edited, with the texts that are given back and a name that is given up for that, where
+/// there is one.
+fn edited_text(homes: u16, old: Option<Name8>) -> Reached
+    ensures { reach_of result ≡ record (reach.own_text homes) { names = reach.if_any old } }
 {
     Reached {
-        text,
-        ..reaches_nothing()
-    }
-}
-
-/// The text of the partition that asks, which is edited, and a name that is given up for that, where there is one.
-fn edited_text(old: Option<Name8>) -> Reached
-    ensures { reach_of result ≡ record reach.own_text { names = reach.if_any old } }
-{
-    Reached {
+        text: TextUse::Edited,
+        homes,
         old_name: old,
-        ..own_text(TextUse::Edited)
+        ..reaches_nothing()
     }
 }
 
@@ -97,13 +99,32 @@ pub fn reached_by(access: &Access) -> Reached
         | Access::ReadLine { term }
         | Access::Insert { term, .. }
         | Access::Key { term } => at_terminal(*term),
-        Access::PutLine { .. } | Access::Erase { .. } => edited_text(None),
-        Access::LoadProgram { declared, .. } => edited_text(*declared),
-        Access::ClearAll { name, .. } => Reached {
+        Access::PutLine { homes, .. } | Access::Erase { homes, .. } => edited_text(*homes, None),
+        Access::LoadProgram {
+            declared,
+            homes,
+            ..
+        } => edited_text(*homes, *declared),
+        Access::ClearAll { name, homes } => Reached {
             variables: true,
-            ..edited_text(*name)
+            ..edited_text(*homes, *name)
         },
-        Access::SaveProgram { .. } => own_text(TextUse::Read),
+        Access::SaveProgram { .. } => Reached {
+            text: TextUse::Read,
+            ..reaches_nothing()
+        },
+        Access::Enter { name, .. } => Reached {
+            entered: Some(*name),
+            ..reaches_nothing()
+        },
+        Access::Leave { home } => Reached {
+            left: Some(*home),
+            ..reaches_nothing()
+        },
+        Access::Drop { homes } => Reached {
+            homes: *homes,
+            ..reaches_nothing()
+        },
         Access::Declare { name, old } => at_names(*name, *old),
         Access::FindPart { name } => at_names(*name, None),
         Access::PrintTo { .. }
@@ -153,6 +174,9 @@ pub fn devices_reached(access: &Access) -> Devices<'_>
         | Access::PutLine { .. }
         | Access::Erase { .. }
         | Access::ClearAll { .. }
+        | Access::Enter { .. }
+        | Access::Leave { .. }
+        | Access::Drop { .. }
         | Access::Declare { .. }
         | Access::FindPart { .. } => Devices::NoDevice,
         Access::PrintTo { addr, .. } => Devices::Printer(*addr),
@@ -185,6 +209,12 @@ pub struct Written {
     pub text: bool,
     /// Whether the `@` variables of the partition that asks.
     pub variables: bool,
+    /// A text that is left: who stands inside.
+    pub left: Option<Part>,
+    /// The texts that are given back, by the bits of their partitions: who stands inside each.
+    pub homes: u16,
+    /// Whether who stands inside the text that is entered.
+    pub enters: bool,
     /// A name.
     pub name: Option<Name8>,
     /// A name that is given up.
@@ -193,12 +223,15 @@ pub struct Written {
 
 /// Nothing is written.
 fn writes_nothing() -> Written
-    ensures { result ≡ record { terminal = None; text = false; variables = false; name = None; old_name = None } }
+    ensures { result ≡ record { terminal = None; text = false; variables = false; left = None; homes = 0; enters = false; name = None; old_name = None } }
 {
     Written {
         terminal: None,
         text: false,
         variables: false,
+        left: None,
+        homes: 0,
+        enters: false,
         name: None,
         old_name: None,
     }
@@ -206,7 +239,7 @@ fn writes_nothing() -> Written
 
 /// A terminal is written.
 fn writes_terminal(term: Term) -> Written
-    ensures { result ≡ record { terminal = Some term; text = false; variables = false; name = None; old_name = None } }
+    ensures { result ≡ record { terminal = Some term; text = false; variables = false; left = None; homes = 0; enters = false; name = None; old_name = None } }
 {
     Written {
         terminal: Some(term),
@@ -214,30 +247,22 @@ fn writes_terminal(term: Term) -> Written
     }
 }
 
-/// The text of the partition that asks is written.
-fn writes_text(variables: bool) -> Written
-    ensures { result ≡ record { terminal = None; text = true; variables = variables; name = None; old_name = None } }
+/// The text of the partition that asks is written, the texts that are given back for that, and a name that is given up, where there is one.
+fn writes_text(variables: bool, homes: u16, old: Option<Name8>) -> Written
+    ensures { result ≡ record { terminal = None; text = true; variables = variables; left = None; homes = homes; enters = false; name = None; old_name = old } }
 {
     Written {
         text: true,
         variables,
+        homes,
+        old_name: old,
         ..writes_nothing()
-    }
-}
-
-/// The text of the partition that asks is written, and a name that is given up for that.
-fn writes_text_and_name(variables: bool, old: Name8) -> Written
-    ensures { result ≡ record { terminal = None; text = true; variables = variables; name = None; old_name = Some old } }
-{
-    Written {
-        old_name: Some(old),
-        ..writes_text(variables)
     }
 }
 
 /// A name is written, and one that is given up where there is one.
 fn writes_names(name: Name8, old: Option<Name8>) -> Written
-    ensures { result ≡ record { terminal = None; text = false; variables = false; name = Some name; old_name = old } }
+    ensures { result ≡ record { terminal = None; text = false; variables = false; left = None; homes = 0; enters = false; name = Some name; old_name = old } }
 {
     Written {
         name: Some(name),
@@ -247,8 +272,9 @@ fn writes_names(name: Name8, old: Option<Name8>) -> Written
 }
 
 /// What an access writes beside devices, where nothing stops it.
+#[tactic(auto, using(crate::proofs::Appended::nothing_after, crate::proofs::Appended::nothing_after_both))]
 pub fn written_by(access: &Access) -> Written
-    ensures written { writes_by result (devices_changed access.now) ≡ (row access.now).writes }
+    ensures written { (who : ℕ) (holder : Option ℕ) → writes_by result (devices_changed access.now) who holder ≡ (row access.now).writes who holder }
     ensures names { (is_some result.name || is_some result.old_name) ≡ changes_name access.now }
 {
     match access {
@@ -256,19 +282,28 @@ pub fn written_by(access: &Access) -> Written
         | Access::ReadLine { term }
         | Access::Insert { term, .. }
         | Access::Key { term } => writes_terminal(*term),
-        Access::PutLine { .. } | Access::Erase { .. } => writes_text(false),
-        Access::LoadProgram { declared, .. } => match declared {
-            None => writes_text(false),
-            Some(old) => writes_text_and_name(false, *old),
+        Access::PutLine { homes, .. } | Access::Erase { homes, .. } => {
+            writes_text(false, *homes, None)
+        }
+        Access::LoadProgram {
+            declared,
+            homes,
+            ..
+        } => writes_text(false, *homes, *declared),
+        Access::ClearAll { name, homes } => writes_text(true, *homes, *name),
+        Access::Enter { .. } => Written {
+            enters: true,
+            ..writes_nothing()
         },
-        Access::ClearAll { name, .. } => match name {
-            None => writes_text(true),
-            Some(old) => writes_text_and_name(true, *old),
+        Access::Leave { home } => Written {
+            left: Some(*home),
+            ..writes_nothing()
         },
-        Access::Declare { name, old } => match old {
-            None => writes_names(*name, None),
-            Some(old) => writes_names(*name, Some(*old)),
+        Access::Drop { homes } => Written {
+            homes: *homes,
+            ..writes_nothing()
         },
+        Access::Declare { name, old } => writes_names(*name, *old),
         Access::FindPart { .. }
         | Access::PrintTo { .. }
         | Access::OpenDevices { .. }
@@ -315,6 +350,9 @@ pub fn devices_written(access: &Access) -> DevicesWritten<'_>
         | Access::PutLine { .. }
         | Access::Erase { .. }
         | Access::ClearAll { .. }
+        | Access::Enter { .. }
+        | Access::Leave { .. }
+        | Access::Drop { .. }
         | Access::Declare { .. }
         | Access::FindPart { .. }
         | Access::Limits { .. }

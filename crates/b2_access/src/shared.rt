@@ -1,12 +1,14 @@
 // The store that all partitions share, of any kind.
 ghost use Rattle.std.specs.Prelude.{◌≡◌, ℕ, Some, IfOk, IfErr, IsSome};
 ghost use Rattle.std.specs.Borrow.{sem};
+ghost use Rattle.b2_vars.specs.Globals.{unreached};
 ghost use Rattle.b2_vars.specs.Tables.{VarsState};
 ghost use Rattle.b2_access.specs.declared.accesses.Access.{Access as AccessSpec};
 ghost use Rattle.b2_access.specs.declared.lending.At.{At as AtSpec};
 ghost use Rattle.b2_access.specs.Answering.{AnswersByRow};
+ghost use Rattle.b2_access.specs.Leading.{AnswersLead, NamesLead};
 ghost use Rattle.b2_access.specs.Lending.{globals_lent};
-ghost use Rattle.b2_access.specs.Loans.{Loan, LendsFrom, LoansGlobals, globals_at, holder_of, left_at};
+ghost use Rattle.b2_access.specs.Loans.{Loan, LendsFrom, LoansGlobals, NotesReached, Noting, globals_at, holder_of, left_at};
 ghost use Rattle.b2_access.specs.Sharing.{ServingOf, IsLocal, KeepsListed};
 ghost use Rattle.b2_access.specs.Store.{StoreState, content};
 ghost use Rattle.b2_access.specs.Touching.{IsLegal};
@@ -37,6 +39,9 @@ pub trait Shared {
     /// What it means after a loan.
     ghost lending: { Loan Meaning };
 
+    /// What it means once it is told after a loan that a receiver among the `@` variables was reached.
+    ghost noting: { Noting Meaning };
+
     /// What it is after a loan.
     ghost after_loan: { ℕ → ℕ → AtSpec → Self → VarsState → Self };
 
@@ -53,7 +58,12 @@ pub trait Shared {
         ensures* writes_back { sem 𝓛 (LendsFrom Self.row (after_loan who home at.now) self.entry result) }
         ensures own { Some result.own.now ≡ content (store (meaning self.old)) (Object.Text who) }
         ensures home { Some result.home.now ≡ content (store (meaning self.old)) (Object.Text home) }
-        ensures globals { globals_lent result ≡ globals_at home at.now (store (meaning self.old)) };
+        ensures globals { globals_lent result ≡ unreached (globals_at home at.now (store (meaning self.old))) };
+
+    /// Notes that a receiver among the `@` variables was reached that a loan to this partition lent. It changes no content.
+    fn note(&mut self, who: Part, home: Part, at: &At)
+        ensures same { holds self.new ≡ holds self.old }
+        ensures noted { meaning self.new ≡ noting who home at.now (meaning self.old) };
 
     /// The partition that holds a name, None where nobody does.
     fn holder(&self, name: Name8) -> Option<Part>
@@ -72,14 +82,23 @@ pub trait Shared {
     /// An access is answered as its row says.
     ghost answers_by_row: { AnswersByRow serving };
 
+    /// An answer leads to nobody but who holds a name that its access touches.
+    ghost answers_lead: { AnswersLead store serving };
+
+    /// After an access a name leads to whom it led before, or to who asked.
+    ghost names_lead: { NamesLead store serving };
+
     /// What is listed stays so.
     ghost keeps_listed: { KeepsListed store serving };
 
     /// What it means after a loan is by its way of lending.
-    ghost loans: { (who home : ℕ) (at : AtSpec) (s : Self) (w : VarsState) → meaning (after_loan who home at s w) ≡ lending who home at (meaning s) (left_at home at (store (meaning s)) w) };
+    ghost loans: { (who home : ℕ) (at : AtSpec) (s : Self) (w : VarsState) → meaning (after_loan who home at s w) ≡ lending who home at (meaning s) (unreached (left_at home at (store (meaning s)) w)) };
 
     /// A loan leaves what it holds on to.
     ghost loan_holds: { (who home : ℕ) (at : AtSpec) (s : Self) (w : VarsState) → holds (after_loan who home at s w) ≡ holds s };
+
+    /// Told that a receiver was reached, it means what it does after a loan that reached one.
+    ghost notes: { NotesReached lending noting };
 
     /// A loan changes the `@` variables that were asked for, and nothing else.
     ghost lends_globals: { LoansGlobals store lending };

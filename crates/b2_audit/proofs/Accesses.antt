@@ -1,19 +1,23 @@
 -- What accesses touch and write is marked, by what they reach; and they write no text but the own.
-use Rattle.std.specs.Prelude.{◌≡◌, ℕ, Bool, true, false, List, [], ◌∷◌, ◌++◌, map, Option, Some, None, refl, if◌then◌else◌}
+use Rattle.std.specs.Prelude.{◌≡◌, ℕ, ◌==◌, Bool, true, false, List, [], ◌∷◌, ◌++◌, map, Option, Some, None, refl, if◌then◌else◌}
+use Rattle.std.specs.Cmp.{unsigned_Decides}
 use Rattle.std.proofs.Common.{sym, subst, inl, inr}
 use Rattle.b2_access.specs.declared.objects.Object.{Object}
 use Rattle.b2_access.specs.declared.objects.Object.TheVariants as object
 use Rattle.b2_access.specs.declared.accesses.Access.{Access}
+use Rattle.b2_access.specs.declared.accesses.Access.TheVariants as access
 use Rattle.b2_access.specs.declared.accesses.Answer.{Answer}
 use Rattle.b2_access.specs.declared.reached.TextUse.{TextUse}
 use Rattle.b2_access.specs.declared.reached.TextUse.TheVariants as text
-use Rattle.b2_access.specs.AccessRows.{reach, row}
+use Rattle.b2_access.specs.AccessRows.{holder_at, reach, row}
 use Rattle.b2_access.specs.AnswerKinds.{stops}
 use Rattle.b2_access.specs.Causes.{terminal_of}
-use Rattle.b2_access.specs.Reach.{DevicePart, DeviceReach, HoldFreed, HoldTaken, WithPlatter, WithPrinter, Reach, device_objects, objects_reached, part_objects, terminal_objects, text_objects, variable_objects}
+use Rattle.b2_access.specs.Borrowers.{is_inside}
+use Rattle.b2_access.specs.Reach.{DevicePart, DeviceReach, HoldFreed, HoldTaken, WithPlatter, WithPrinter, Reach, borrow_entered, borrows, device_objects, entered_objects, objects_reached, part_objects, terminal_objects, text_objects, variable_objects}
 use Rattle.b2_access.specs.Store.{StoreState, IsIn}
-use Rattle.b2_access.specs.Touching.{touched, written_by}
-use Rattle.b2_access.proofs.Told.{no_borrowers, written_is_reached}
+use Rattle.b2_access.specs.Touching.{entered_in, touched, written_by}
+use Rattle.b2_access.proofs.RowLaws.{either_left, either_right}
+use Rattle.b2_access.proofs.Told.{written_is_reached}
 use Rattle.b2_audit.specs.Steps.{IsPartition, IsTerminal, IsMarked, AreMarked, AccessesAreMarked, AccessesWriteOwnTexts}
 use Rattle.b2_audit.proofs.CleanSteps.{in_both}
 
@@ -53,29 +57,38 @@ names_are : (ns : List (List ℕ)) → AreMarked (map object.Name ns)
 names_are [] = nothing
 names_are (n ∷ ns) = add (object.Name n) (map object.Name ns) tt (names_are ns)
 
-reached_are : (who : ℕ) (r : Reach) → IsPartition who → ((t : ℕ) → r.terminal ≡ Some t → IsTerminal t) → AreMarked (map object.Borrow r.borrowers) → AreMarked (objects_reached who r)
-reached_are who r is at lent =
+borrowers_are : (homes : List ℕ) → ((h : ℕ) → is_inside h homes ≡ true → IsPartition h) → AreMarked (borrows homes)
+borrowers_are [] each = nothing
+borrowers_are (h ∷ homes) each =
+    add (object.Borrow h) (borrows homes) (each h (either_left (h == h) (is_inside h homes) ((unsigned_Decides h h).1 refl))) (borrowers_are homes (λ g there. each g (either_right (h == g) (is_inside g homes) there)))
+
+entered_are : (entered : Option (List ℕ)) (holder : Option ℕ) → ((p : ℕ) → holder ≡ Some p → IsPartition p) → AreMarked (entered_objects entered holder)
+entered_are None holder is = nothing
+entered_are (Some name) None is = add (object.Name name) [] tt nothing
+entered_are (Some name) (Some g) is = add (object.Name name) (object.Text g ∷ object.Borrow g ∷ []) tt (add (object.Text g) (object.Borrow g ∷ []) (is g refl) (add (object.Borrow g) [] (is g refl) nothing))
+
+reached_are : (who : ℕ) (holder : Option ℕ) (r : Reach) → IsPartition who → ((t : ℕ) → r.terminal ≡ Some t → IsTerminal t) → ((h : ℕ) → is_inside h r.borrowers ≡ true → IsPartition h) → ((p : ℕ) → holder ≡ Some p → IsPartition p) → AreMarked (objects_reached who holder r)
+reached_are who holder r is at homes held =
     both_are (terminal_objects r.terminal) _ (terminal_is r.terminal at)
     (both_are (text_objects who r.text) _ (text_is who r.text is)
     (both_are (variable_objects who r.variables) _ (variables_are who r.variables is)
-    (both_are (map object.Borrow r.borrowers) _ lent
-    (both_are (device_objects r.devices) _ (devices_are r.devices) (names_are r.names)))))
-
-touched_are : (s : StoreState) (who : ℕ) (a : Access) → IsPartition who → ((t : ℕ) → terminal_of a ≡ Some t → IsTerminal t) → AreMarked (touched s who a)
-touched_are s who a is at = reached_are who (reach a) is at (subst (λ (ps : List ℕ). AreMarked (map object.Borrow ps)) (sym (no_borrowers a)) nothing)
+    (both_are (borrows r.borrowers) _ (borrowers_are r.borrowers homes)
+    (both_are (device_objects r.devices) _ (devices_are r.devices)
+    (both_are (entered_objects r.entered holder) _ (entered_are r.entered holder held) (names_are r.names))))))
 
 -- what an access wrote it writes where nothing stops it
-may_have_written : (x : Answer) (who : ℕ) (a : Access) (o : Object) → IsIn o (written_by x who a) → IsIn o ((row a).writes who)
+may_have_written : (x : Answer) (who : ℕ) (a : Access) (o : Object) → IsIn o (written_by x who a) → IsIn o ((row a).writes who (entered_in x))
 may_have_written x who a o = by (stops x)
   where
-    by : (b : Bool) → IsIn o (if b then [] else (row a).writes who) → IsIn o ((row a).writes who)
+    by : (b : Bool) → IsIn o (if b then [] else (row a).writes who (entered_in x)) → IsIn o ((row a).writes who (entered_in x))
     by true i = absurd i
     by false i = i
 
 pub accesses_are_marked : AccessesAreMarked
-accesses_are_marked s who a is at =
-    let are = touched_are s who a is at in
-    (are, λ x o i. are o (written_is_reached a who o (may_have_written x who a o i)))
+accesses_are_marked s who a is at homes = (
+  λ held. reached_are who (holder_at a s) (reach a) is at homes held,
+  λ x held o i. reached_are who (entered_in x) (reach a) is at homes held o (written_is_reached a who (entered_in x) o (may_have_written x who a o i)),
+)
 
 -- of texts only the own is reached
 no_terminal : (q : ℕ) (term : Option ℕ) → IsIn (object.Text q) (terminal_objects term) → ⊥
@@ -109,8 +122,12 @@ no_name : (q : ℕ) (ns : List (List ℕ)) → IsIn (object.Text q) (map object.
 no_name q [] i = i
 no_name q (n ∷ ns) i = elim i [ inl e ↦ cc | inr j ↦ no_name q ns j ]
 
-reaches_own_text : (who q : ℕ) (r : Reach) → IsIn (object.Text q) (objects_reached who r) → q ≡ who
-reaches_own_text who q r i = elim ((in_both (object.Text q) (terminal_objects r.terminal) _).0 i) [
+not_entered : (q : ℕ) (entered : Option (List ℕ)) (holder : Option ℕ) → entered ≡ None → IsIn (object.Text q) (entered_objects entered holder) → ⊥
+not_entered q None holder none i = i
+not_entered q (Some name) holder none i = cc
+
+reaches_own_text : (who q : ℕ) (holder : Option ℕ) (r : Reach) → r.entered ≡ None → IsIn (object.Text q) (objects_reached who holder r) → q ≡ who
+reaches_own_text who q holder r none i = elim ((in_both (object.Text q) (terminal_objects r.terminal) _).0 i) [
   | inl j ↦ absurd (no_terminal q r.terminal j)
   | inr j ↦ elim ((in_both (object.Text q) (text_objects who r.text) _).0 j) [
     | inl k ↦ own_text who q r.text k
@@ -118,14 +135,26 @@ reaches_own_text who q r i = elim ((in_both (object.Text q) (terminal_objects r.
   ]
 ]
   where
-    beside : IsIn (object.Text q) (variable_objects who r.variables ++ (map object.Borrow r.borrowers ++ (device_objects r.devices ++ map object.Name r.names))) → ⊥
-    beside i = elim ((in_both (object.Text q) (variable_objects who r.variables) _).0 i) [
-      | inl j ↦ no_variables who q r.variables j
-      | inr j ↦ elim ((in_both (object.Text q) (map object.Borrow r.borrowers) _).0 j) [
-        | inl k ↦ no_borrower q r.borrowers k
-        | inr k ↦ elim ((in_both (object.Text q) (device_objects r.devices) _).0 k) [ inl d ↦ no_device q r.devices d | inr n ↦ no_name q r.names n ]
-      ]
+    devices_or_names : IsIn (object.Text q) (device_objects r.devices ++ (entered_objects r.entered holder ++ map object.Name r.names)) → ⊥
+    devices_or_names i = elim ((in_both (object.Text q) (device_objects r.devices) _).0 i) [
+      | inl d ↦ no_device q r.devices d
+      | inr n ↦ elim ((in_both (object.Text q) (entered_objects r.entered holder) _).0 n) [ inl e ↦ not_entered q r.entered holder none e | inr n ↦ no_name q r.names n ]
     ]
 
+    beside : IsIn (object.Text q) (variable_objects who r.variables ++ (borrows r.borrowers ++ (device_objects r.devices ++ (entered_objects r.entered holder ++ map object.Name r.names)))) → ⊥
+    beside i = elim ((in_both (object.Text q) (variable_objects who r.variables) _).0 i) [
+      | inl j ↦ no_variables who q r.variables j
+      | inr j ↦ elim ((in_both (object.Text q) (borrows r.borrowers) _).0 j) [ inl k ↦ no_borrower q r.borrowers k | inr k ↦ devices_or_names k ]
+    ]
+
+-- who enters a text doesn't write it
+entering_writes : (q : ℕ) (holder : Option ℕ) → IsIn (object.Text q) (borrow_entered holder) → ⊥
+entering_writes q None i = i
+entering_writes q (Some g) i = elim i [ inl e ↦ cc | inr none ↦ none ]
+
+writes_own_text : (a : Access) (who q : ℕ) (holder : Option ℕ) → IsIn (object.Text q) ((row a).writes who holder) → q ≡ who
+writes_own_text (access.Enter name mark) who q holder i = absurd (entering_writes q holder i)
+writes_own_text a who q holder i = reaches_own_text who q holder (reach a) refl (written_is_reached a who holder (object.Text q) i)
+
 pub accesses_write_own_texts : AccessesWriteOwnTexts
-accesses_write_own_texts who q a x i = reaches_own_text who q (reach a) (written_is_reached a who (object.Text q) (may_have_written x who a (object.Text q) i))
+accesses_write_own_texts who q a x i = writes_own_text a who q (entered_in x) (may_have_written x who a (object.Text q) i)

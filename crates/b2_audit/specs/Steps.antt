@@ -5,10 +5,12 @@ use Rattle.b2_access.specs.declared.objects.Object.TheVariants as object
 use Rattle.b2_access.specs.declared.accesses.Access.{Access}
 use Rattle.b2_access.specs.declared.accesses.Answer.{Answer}
 use Rattle.b2_access.specs.declared.lending.At.{At}
+use Rattle.b2_access.specs.AccessRows.{holder_at, reach}
+use Rattle.b2_access.specs.Borrowers.{is_inside}
 use Rattle.b2_access.specs.Causes.{terminal_of}
 use Rattle.b2_access.specs.Loans.{lender_at, loan_touched}
 use Rattle.b2_access.specs.Store.{StoreState, IsIn}
-use Rattle.b2_access.specs.Touching.{touched, written_by}
+use Rattle.b2_access.specs.Touching.{entered_in, touched, written_by}
 use Rattle.b2_audit.specs.Marks.{Marks, marked, touch, touch_all, unmarked, is_clean}
 
 -- a step of a partition, with the objects that it touched and those that it wrote
@@ -75,10 +77,12 @@ abbrev pub MarkedInParts : Type 0
 MarkedInParts = (who : ℕ) (first touched later written : List Object) (m : Marks) → IsPartition who → AreMarked later → AreMarked written
     → touch_all who later (marked who touched written (touch_all who first m)) ≡ marked who (first ++ touched ++ later) written m
 
--- what an access touches and writes is marked, at a terminal that may be
+-- What an access touches and writes is marked, at a terminal that may be, where it gives back and leaves texts of partitions, and enters that
+-- of one.
 abbrev pub AccessesAreMarked : Type 0
-AccessesAreMarked = (s : StoreState) (who : ℕ) (a : Access) → IsPartition who → ((t : ℕ) → terminal_of a ≡ Some t → IsTerminal t)
-    → AreMarked (touched s who a) × ((x : Answer) → AreMarked (written_by x who a))
+AccessesAreMarked = (s : StoreState) (who : ℕ) (a : Access) → IsPartition who → ((t : ℕ) → terminal_of a ≡ Some t → IsTerminal t) → ((h : ℕ) → is_inside h (reach a).borrowers ≡ true → IsPartition h)
+    → (((p : ℕ) → holder_at a s ≡ Some p → IsPartition p) → AreMarked (touched s who a))
+    × ((x : Answer) → ((p : ℕ) → entered_in x ≡ Some p → IsPartition p) → AreMarked (written_by x who a))
 
 -- What a loan touches is marked, where the home is a partition, and whoever holds the name by which `@` variables are asked for.
 abbrev pub LoansAreMarked : Type 0

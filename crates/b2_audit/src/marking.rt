@@ -1,38 +1,79 @@
 // The marks of loans, and of accesses: by what they reach, and by what they write of that.
 ghost use Rattle.std.specs.Prelude.{◌≡◌, ◌++◌, ◌||◌, map, is_some, true, OnOk, IfErr};
-ghost use Rattle.b2_access.specs.AccessRows.{reach, row};
+ghost use Rattle.b2_access.specs.AccessRows.{holder_entered, reach, row};
+ghost use Rattle.b2_access.specs.Borrowers.{homes_marked};
 ghost use Rattle.b2_access.specs.Holding.{devices_changed};
-ghost use Rattle.b2_access.specs.Loans.{loan_touched};
-ghost use Rattle.b2_access.specs.Reach.{DevicePart, device_objects, if_any, objects_held, part_objects, terminal_objects, text_objects, variable_objects, where_written};
-ghost use Rattle.b2_access.specs.Store.{StoreState};
+ghost use Rattle.b2_access.specs.Loans.{globals_objects, lender_at, loan_touched, name_objects};
+ghost use Rattle.b2_access.specs.Reach.{DevicePart, borrow_where, borrows, device_objects, entered_objects, if_any, if_left, objects_held, part_objects, terminal_objects, text_objects, variable_objects, where_written};
 ghost use Rattle.b2_access.specs.Touching.{touched, written_by as objects_by_answer};
 ghost use Rattle.b2_audit.specs.Marks.{object_index, touch_all, write_all};
-ghost use Rattle.b2_audit.specs.Watching.{GrowsMarks};
+ghost use Rattle.b2_audit.specs.Watching.{GrowsMarks, lent_objects};
 
 use crate::seen::Seen;
 use b2_access::{
-    Access, Answer, At, Devices, DevicesWritten, Object, Shared, TextUse, devices_reached,
-    devices_written, reached_by, written_by,
+    Access, Answer, At, Devices, DevicesWritten, Object, Shared, TextUse, all_parts,
+    devices_reached, devices_written, is_marked, reached_by, written_by,
 };
 use b2_base::{Addr, Name8, NoMemory, Part, Term};
 
+/// Whose `@` variables a store lends, None where nobody's.
+fn lender<S: Shared>(store: &S, home: Part, at: &At) -> Option<Part>
+    ensures { result ≡ lender_at home at.now (S.store (S.meaning store.now)) }
+{
+    match at {
+        At::None => None,
+        At::Home => Some(home),
+        At::Named(name) => store.holder(*name),
+    }
+}
+
+/// Marks that a name is touched by which `@` variables are asked for, where they are by one.
+fn touch_asked(seen: &mut Seen, who: Part, at: &At)
+    ensures { seen.new ≡ touch_all who (name_objects at.now) seen.old }
+{
+    if let At::Named(name) = at {
+        seen.touch(who, Object::Name(*name));
+    }
+}
+
+/// Marks that the `@` variables of a partition are touched, where there is one.
+fn touch_lent(seen: &mut Seen, who: Part, lender: Option<Part>)
+    ensures { seen.new ≡ touch_all who (globals_objects lender) seen.old }
+{
+    if let Some(p) = lender {
+        seen.touch(who, Object::Globals(p));
+    }
+}
+
 /// Marks what a loan of a store touches: the own text, that of the home, the `@` variables that are asked for, and the name by which they
 /// are, whoever holds it.
+#[tactic(auto, using(crate::proofs::InParts::lent_in_parts))]
 pub(crate) fn mark_lent<S: Shared>(seen: &mut Seen, store: &S, who: Part, home: Part, at: &At)
     ensures { seen.new ≡ touch_all who (loan_touched who home at.now (S.store (S.meaning store.now))) seen.old }
 {
     seen.touch(who, Object::Text(who));
     seen.touch(who, Object::Text(home));
-    match at {
-        At::None => {}
-        At::Home => seen.touch(who, Object::Globals(home)),
-        At::Named(name) => {
-            seen.touch(who, Object::Name(*name));
-            if let Some(p) = store.holder(*name) {
-                seen.touch(who, Object::Globals(p));
-            }
+    touch_asked(seen, who, at);
+    touch_lent(seen, who, lender(store, home, at));
+}
+
+/// Marks that the `@` variables of a partition are written, where there is one. It takes no memory.
+fn write_lent(seen: &mut Seen, who: Part, lender: Option<Part>)
+    ensures { seen.new ≡ write_all who (globals_objects lender) seen.old }
+{
+    if let Some(p) = lender {
+        match seen.write(who, Object::Globals(p)) {
+            Ok(()) => {}
+            Err(NoMemory) => unreachable!(),
         }
     }
+}
+
+/// Marks that the `@` variables that a store lends are written.
+pub(crate) fn mark_reached<S: Shared>(seen: &mut Seen, store: &S, who: Part, home: Part, at: &At)
+    ensures { seen.new ≡ write_all who (lent_objects home at.now (S.store (S.meaning store.now))) seen.old }
+{
+    write_lent(seen, who, lender(store, home, at));
 }
 
 /// Marks that a terminal is touched, where one is reached.
@@ -123,16 +164,54 @@ fn touch_names(seen: &mut Seen, who: Part, name: Option<Name8>, other: Option<Na
     }
 }
 
-/// Marks what an access touches, whatever it will be answered: all that it reaches.
+/// Marks that it is touched who stands inside the texts that a mask marks.
+fn touch_homes(seen: &mut Seen, who: Part, homes: u16)
+    ensures { seen.new ≡ touch_all who (borrows (homes_marked homes)) seen.old }
+{
+    for home in &all_parts() {
+        if is_marked(homes, *home) {
+            seen.touch(who, Object::Borrow(*home));
+        }
+    }
+}
+
+/// Marks that it is touched who stands inside a text that is left, where one is, and inside those that are given back.
+#[tactic(auto, using(crate::proofs::InParts::borrows_in_parts))]
+fn touch_borrowers(seen: &mut Seen, who: Part, left: Option<Part>, homes: u16)
+    ensures { seen.new ≡ touch_all who (borrows (if_left left ++ homes_marked homes)) seen.old }
+{
+    if let Some(home) = left {
+        seen.touch(who, Object::Borrow(home));
+    }
+    touch_homes(seen, who, homes);
+}
+
+/// Marks that a name by which a text is entered is touched, where one is, with the text of who holds it and who stands inside that.
+fn touch_entered<S: Shared>(seen: &mut Seen, store: &S, who: Part, entered: Option<Name8>)
+    ensures { seen.new ≡ touch_all who (entered_objects entered (holder_entered entered (S.store (S.meaning store.now)))) seen.old }
+{
+    let Some(name) = entered else {
+        return;
+    };
+    seen.touch(who, Object::Name(name));
+    if let Some(holder) = store.holder(name) {
+        seen.touch(who, Object::Text(holder));
+        seen.touch(who, Object::Borrow(holder));
+    }
+}
+
+/// Marks what an access of a store touches, whatever it will be answered: all that it reaches.
 #[tactic(auto, using(crate::proofs::InParts::touched_in_parts))]
-pub(crate) fn mark_touched(seen: &mut Seen, who: Part, access: &Access)
-    ensures { (s : StoreState) → seen.new ≡ touch_all who (touched s who access.now) seen.old }
+pub(crate) fn mark_touched<S: Shared>(seen: &mut Seen, store: &S, who: Part, access: &Access)
+    ensures { seen.new ≡ touch_all who (touched (S.store (S.meaning store.now)) who access.now) seen.old }
 {
     let reached = reached_by(access);
     touch_terminal(seen, who, reached.terminal);
     touch_text(seen, who, reached.text);
     touch_variables(seen, who, reached.variables);
+    touch_borrowers(seen, who, reached.left, reached.homes);
     touch_devices(seen, who, access);
+    touch_entered(seen, store, who, reached.entered);
     touch_names(seen, who, reached.name, reached.old_name);
 }
 
@@ -156,6 +235,50 @@ fn write_where(seen: &mut Seen, who: Part, object: Object, written: bool) -> Res
         seen.write(who, object)
     } else {
         Ok(())
+    }
+}
+
+/// Marks that it is written who stands inside the texts that a mask marks.
+fn write_homes(seen: &mut Seen, who: Part, homes: u16) -> Result<(), NoMemory>
+    ensures written { OnOk result (seen.new ≡ write_all who (borrows (homes_marked homes)) seen.old) }
+    ensures memory { IfErr result (λ _. ⊥) }
+{
+    for home in &all_parts() {
+        write_where(seen, who, Object::Borrow(*home), is_marked(homes, *home))?;
+    }
+    Ok(())
+}
+
+/// Marks that it is written who stands inside a text that is left, where one is, and inside those that are given back.
+#[tactic(auto, using(crate::proofs::InParts::borrows_in_parts_written))]
+fn write_borrowers(
+    seen: &mut Seen,
+    who: Part,
+    left: Option<Part>,
+    homes: u16,
+) -> Result<(), NoMemory>
+    ensures written { OnOk result (seen.new ≡ write_all who (borrows (if_left left ++ homes_marked homes)) seen.old) }
+    ensures memory { IfErr result (λ _. ⊥) }
+{
+    if let Some(home) = left {
+        seen.write(who, Object::Borrow(home))?;
+    }
+    write_homes(seen, who, homes)
+}
+
+/// Marks that it is written who stands inside the text that was entered, where one was.
+fn write_entered(
+    seen: &mut Seen,
+    who: Part,
+    enters: bool,
+    home: Option<Part>,
+) -> Result<(), NoMemory>
+    ensures written { OnOk result (seen.new ≡ write_all who (borrow_where enters home) seen.old) }
+    ensures memory { IfErr result (λ _. ⊥) }
+{
+    match home {
+        Some(home) => write_where(seen, who, Object::Borrow(home), enters),
+        None => Ok(()),
     }
 }
 
@@ -201,21 +324,28 @@ fn write_devices(seen: &mut Seen, who: Part, access: &Access) -> Result<(), NoMe
     }
 }
 
-/// Marks what an access writes where nothing stops it. Memory fails only where it may write a device.
+/// Marks what an access writes where nothing stops it. Memory fails only where it may write a device or a name.
 #[tactic(auto, using(crate::proofs::InParts::written_in_parts))]
-fn mark_each_written(seen: &mut Seen, who: Part, access: &Access) -> Result<(), NoMemory>
-    ensures written { OnOk result (seen.new ≡ write_all who ((row access.now).writes who) seen.old) }
+fn mark_each_written(
+    seen: &mut Seen,
+    who: Part,
+    access: &Access,
+    entered: Option<Part>,
+) -> Result<(), NoMemory>
+    ensures written { OnOk result (seen.new ≡ write_all who ((row access.now).writes who entered) seen.old) }
     ensures memory { IfErr result (λ _. GrowsMarks access.now) }
 {
     let written = written_by(access);
     write_terminal(seen, who, written.terminal)?;
     write_where(seen, who, Object::Text(who), written.text)?;
     write_where(seen, who, Object::Globals(who), written.variables)?;
+    write_borrowers(seen, who, written.left, written.homes)?;
     write_names(seen, who, written.name, written.old_name)?;
+    write_entered(seen, who, written.enters, entered)?;
     write_devices(seen, who, access)
 }
 
-/// Marks what an access wrote, by its answer. Memory fails only where it may write a device.
+/// Marks what an access wrote, by its answer. Memory fails only where it may write a device or a name.
 pub(crate) fn mark_written(
     seen: &mut Seen,
     who: Part,
@@ -228,5 +358,5 @@ pub(crate) fn mark_written(
     if answer.stops() {
         return Ok(());
     }
-    mark_each_written(seen, who, access)
+    mark_each_written(seen, who, access, answer.entered_in())
 }

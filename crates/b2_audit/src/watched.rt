@@ -1,7 +1,7 @@
 // A store that is watched.
 ghost use Rattle.std.specs.Prelude.{◌≡◌};
 
-use crate::marking::{mark_lent, mark_touched, mark_written};
+use crate::marking::{mark_lent, mark_reached, mark_touched, mark_written};
 use crate::seen::Seen;
 use b2_access::{Access, Answer, At, Lent, Shared};
 use b2_base::{Name8, NoMemory, Part};
@@ -31,7 +31,7 @@ impl<S: Shared> Shared for Watched<'_, S> {
     ghost use Rattle.b2_audit.specs.Marks.{Marks, touch_all};
     ghost use Rattle.b2_access.specs.Loans.{loan_touched};
     ghost use Rattle.std.specs.Prelude.{◌⊎◌};
-    ghost use Rattle.b2_audit.specs.Watching.{GrowsMarks, watching, watched_loan, watching_is_local, watching_keeps_listed, watched_loan_globals};
+    ghost use Rattle.b2_audit.specs.Watching.{GrowsMarks, watching, watched_loan, watched_noting, watched_notes, watching_is_local, watching_keeps_listed, watched_loan_globals};
 
     ghost Meaning = { S.Meaning × Marks };
 
@@ -45,6 +45,8 @@ impl<S: Shared> Shared for Watched<'_, S> {
 
     ghost lending = { watched_loan S.store S.lending };
 
+    ghost noting = { watched_noting S.store S.noting };
+
     ghost after_loan = { λ who home at s w. record s { inner = record s.inner { now = S.after_loan who home at s.inner.now w }; seen = record s.seen { now = touch_all who (loan_touched who home at (S.store (S.meaning s.inner.now))) s.seen.now } } };
 
     ghost Holds = { GName × GName × S.Holds };
@@ -56,12 +58,17 @@ impl<S: Shared> Shared for Watched<'_, S> {
         self.inner.lend(who, home, at)
     }
 
+    fn note(&mut self, who: Part, home: Part, at: &At) {
+        mark_reached(self.seen, self.inner, who, home, at);
+        self.inner.note(who, home, at);
+    }
+
     fn holder(&self, name: Name8) -> Option<Part> {
         self.inner.holder(name)
     }
 
     fn serve(&mut self, who: Part, access: &Access) -> Result<Answer, NoMemory> {
-        mark_touched(self.seen, who, access);
+        mark_touched(self.seen, self.inner, who, access);
         let answer = self.inner.serve(who, access)?;
         mark_written(self.seen, who, access, &answer)?;
         Ok(answer)
@@ -71,11 +78,17 @@ impl<S: Shared> Shared for Watched<'_, S> {
 
     ghost answers_by_row = { λ m who x. S.answers_by_row m.0 who x };
 
+    ghost answers_lead = { λ among who x m names. S.answers_lead among who x m.0 names };
+
+    ghost names_lead = { λ who x m n p leads. S.names_lead who x m.0 n p leads };
+
     ghost keeps_listed = { watching_keeps_listed S.store S.serving S.keeps_listed };
 
     ghost loans = { λ who home at s w. ap (λ m. (m, touch_all who (loan_touched who home at (S.store (S.meaning s.inner.now))) s.seen.now)) (S.loans who home at s.inner.now w) };
 
     ghost loan_holds = { λ who home at s w. ap (λ h. (s.inner.ghost_name, s.seen.ghost_name, h)) (S.loan_holds who home at s.inner.now w) };
+
+    ghost notes = { watched_notes S.store S.lending S.noting S.lends_globals S.notes };
 
     ghost lends_globals = { watched_loan_globals S.store S.lending S.lends_globals };
 }

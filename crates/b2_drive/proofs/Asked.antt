@@ -1,5 +1,5 @@
 -- What statements on disks ask for: accesses that name no terminal and mark no home, at platters that the partition may use.
-use Rattle.std.proofs.Common.{◌≡◌, ℕ, Bool, true, false, if◌then◌else◌, List, Option, Some, None, Result, Ok, Err, refl}
+use Rattle.std.proofs.Common.{◌≡◌, ℕ, Bool, true, false, if◌then◌else◌, List, [], Option, Some, None, Result, Ok, Err, refl}
 use Rattle.b2_base.specs.Names.{is_name8, padded8}
 use Rattle.b2_base.specs.declared.codes.TheConstants.{D87_FILE_NAME, P48_DEVICE}
 use Rattle.b2_alpha.specs.Values.{value_of}
@@ -29,7 +29,7 @@ use Rattle.b2_drive.specs.FileNames.{file_name, name_given}
 pub record Fits (devices : List Device) (who : ℕ) (a : Access) : Type 0 where
   pub listed : ReachesListed devices who a
   pub terminal : terminal_of a ≡ None
-  pub homes : homes_of a ≡ 0
+  pub homes : homes_of a ≡ []
   pub legal : IsLegal a
 
 pub names_no_terminal : (devices : List Device) (who t : ℕ) (a : Access) → Fits devices who a → NamesAlone t a

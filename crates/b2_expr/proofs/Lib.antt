@@ -12,3 +12,4 @@ pub mod Texts
 pub mod Defined
 pub mod Comparisons
 pub mod Passed
+pub mod Reached

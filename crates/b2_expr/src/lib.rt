@@ -35,4 +35,4 @@ pub use operators::Level;
 pub use passing::{past_alpha, past_name, past_part, past_sum};
 pub use scope::{Env, Scope};
 pub use value::{alpha, condition, in_statement, number};
-pub use workspace::{Workspace, surroundings_of};
+pub use workspace::{Workspace, reached_after, surroundings_of};

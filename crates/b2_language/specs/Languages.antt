@@ -18,12 +18,21 @@ pub record Ways : Type 0 where
   pub plan : ℕ → Private → SeenLent → Planning
   pub finish : ℕ → Access → Answer → Private → SeenLent → Finishing
 
--- WHAT A LANGUAGE OWES ITS MACHINE. LIST is the machine's own. What a statement asks for may be asked for; and of its partition,
--- and of all others, it leaves alone what no statement changes.
+-- a statement leaves which partition it is
+abbrev pub PlansKeepPart : (Private → SeenLent → Planning) → Type 0
+PlansKeepPart plan = (me : Private) (s : SeenLent) → (plan me s).me.part ≡ me.part
+
+abbrev pub FinishesKeepPart : (Access → Answer → Private → SeenLent → Finishing) → Type 0
+FinishesKeepPart finish = (x : Access) (a : Answer) (me : Private) (s : SeenLent) → (finish x a me s).me.part ≡ me.part
+
+-- WHAT A LANGUAGE OWES ITS MACHINE. LIST is the machine's own. What a statement asks for may be asked for; of its partition,
+-- and of all others, it leaves alone what no statement changes, and which one it is.
 pub record AreLawful (ways : Ways) : Type 0 where
   pub no_list : ways.built row.LIST ≡ false
   pub plans_legally : (r : ℕ) → PlansLegally (ways.plan r)
   pub leave_the_rest : (r : ℕ) → LeaveTheRest (ways.plan r) (ways.finish r)
+  pub plans_keep_part : (r : ℕ) → PlansKeepPart (ways.plan r)
+  pub finishes_keep_part : (r : ℕ) → FinishesKeepPart (ways.finish r)
 
 -- And over the devices that there are: a statement of any row plans by the table, which lists what it asks for.
 abbrev pub AskForListed : (List Device → Ways) → Type 0

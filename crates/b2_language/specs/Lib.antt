@@ -1,3 +1,4 @@
+pub mod Wanted
 pub mod Languages
 pub mod Following
 pub mod Running

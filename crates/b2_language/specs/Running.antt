@@ -1,9 +1,8 @@
 -- A run of units: statements of the program that are planned at once, one after another, as a fold of what the language plans.
 use Rattle.std.specs.Prelude.{◌≡◌, ℕ, suc, zero, ◌+◌, ◌&&◌, not, Bool, true, false, Option, Some, None, if◌then◌else◌}
-use Rattle.b2_atom.specs.Tree.{names_global}
 use Rattle.b2_flow.specs.declared.frame.Place.{Place}
 use Rattle.b2_text.specs.Program.{Lines, line_at}
-use Rattle.b2_vars.specs.Tables.{VarsState}
+use Rattle.b2_vars.specs.Globals.{Globals}
 use Rattle.b2_access.specs.Found.{IsFound, statement_found}
 use Rattle.b2_access.specs.Lending.{SeenLent}
 use Rattle.b2_access.specs.Placed.{Statement, statement_on}
@@ -16,27 +15,28 @@ use Rattle.b2_access.specs.declared.planned.Planned.TheVariants as planned
 use Rattle.b2_access.specs.declared.private.Private.{Private}
 use Rattle.b2_language.specs.Following.{following_place, moves_to}
 use Rattle.b2_language.specs.Languages.{Ways}
+use Rattle.b2_language.specs.Wanted.{names_globals}
 use Rattle.b2_language.specs.declared.running.Passed.{Passed}
 use Rattle.b2_language.specs.declared.running.Passed.TheVariants as passed
 use Rattle.b2_language.specs.declared.running.Run.{Run}
 
 -- a statement that was found at the place of a partition, in a line of the program at home, is planned at once: by its row, and
--- no `@` name stands in it
+-- it names no `@` variables
 pub record IsFoundAtOnce (at_once : ℕ → Bool) (f : Found) (me : Private) : Type 0 where
   pub found : IsFound f f.home.now.lines me
-  pub local : names_global (statement_found f).tree ≡ false
+  pub local : names_globals (statement_found f).tree ≡ false
   pub row : at_once f.unit.now.row ≡ true
 
 -- what became of the unit at the place of a partition
 pub record Passing : Type 0 where
   pub me : Private
-  pub globals : Option VarsState
+  pub globals : Globals
   pub passed : Passed
 
 -- a run, and what it leaves
 pub record Ran : Type 0 where
   pub me : Private
-  pub globals : Option VarsState
+  pub globals : Globals
   pub run : Run
 
 -- where a statement at a place leads by itself
@@ -61,7 +61,7 @@ abbrev pub passes_nothing : Private → SeenLent → Passing
 passes_nothing me s = record { me = me; globals = s.globals; passed = passed.Stops }
 
 -- a run ends after some statements that led on
-abbrev pub ends_run : ℕ → Option Planned → Private → Option VarsState → Ran
+abbrev pub ends_run : ℕ → Option Planned → Private → Globals → Ran
 ends_run steps last me globals = record { me = me; globals = globals; run = record { steps = steps; last = last } }
 
 -- it goes on, or ends with what the last statement planned, if one was
@@ -71,10 +71,10 @@ goes_or_ends passed.Stops goes ends = ends None
 goes_or_ends (passed.Ends p) goes ends = ends (Some p)
 
 module _ (ways : Ways) (at_once : ℕ → Bool) where
-  -- a statement is executed where it is planned at once: by its row, and no `@` name stands in it
+  -- a statement is executed where it is planned at once: by its row, and it names no `@` variables
   abbrev pub passes_by : Option Statement → Place → Private → SeenLent → Passing
   passes_by None p me s = passes_nothing me s
-  passes_by (Some u) p me s = if not (names_global u.tree) && at_once u.row then leads (ways.plan u.row me s) p s.home.lines else passes_nothing me s
+  passes_by (Some u) p me s = if not (names_globals u.tree) && at_once u.row then leads (ways.plan u.row me s) p s.home.lines else passes_nothing me s
 
   -- in a line of the program
   abbrev pub passes_in : Option ℕ → Place → Private → SeenLent → Passing

@@ -1,11 +1,9 @@
 // What the statements of a language do.
-ghost use Rattle.std.specs.Prelude.{◌≡◌, ℕ, Bool, true, List, Option, IfOk};
-ghost use Rattle.b2_vars.specs.Tables.{VarsState};
+ghost use Rattle.std.specs.Prelude.{◌≡◌, ℕ, Bool, true, List, IfOk};
 ghost use Rattle.b2_access.specs.declared.devices.Device.{Device};
 ghost use Rattle.b2_access.specs.Answering.{can_answer};
 ghost use Rattle.b2_access.specs.Found.{IsFound, seen_found};
 ghost use Rattle.b2_access.specs.Lending.{globals_lent, seen_lent};
-ghost use Rattle.b2_access.specs.Planning.{done};
 ghost use Rattle.b2_language.specs.Languages.{AreLawful, AskForListed, KeepOpenFiles, Ways};
 
 use b2_access::{Access, Answer, DeviceTable, Found, Lent, Outcome, Planned, Private};
@@ -57,10 +55,17 @@ pub trait Language {
         ensures at_once { result ≡ at_once row };
 
     /// What `plan` says of such a statement, at its place in a line of the program.
-    fn plan_at_once(alloc: Global, me: &mut Private, found: &Found<'_>) -> Result<Outcome, NoMemory>
+    fn plan_at_once(
+        alloc: Global,
+        me: &mut Private,
+        lent: &mut Lent<'_>,
+        found: &Found<'_>,
+    ) -> Result<Outcome, NoMemory>
         requires at_once { at_once found.now.unit.now.row ≡ true }
         requires found { IsFound found.now found.now.home.now.lines me.old }
-        ensures planned { (devices : List Device) (globals : Option VarsState) → IfOk result (λ o. done (seen_found found.now globals) (record { me = me.new; outcome = o }) ≡ (ways devices).plan found.now.unit.now.row me.old (seen_found found.now globals)) }
+        ensures planned { (devices : List Device) → IfOk result (λ o. record { me = me.new; globals = globals_lent lent.new; planned = Planned.Done o } ≡ (ways devices).plan found.now.unit.now.row me.old (seen_found found.now (globals_lent lent.old))) }
+        ensures same_texts { (lent.new.own ≡ lent.old.own) × (lent.new.home ≡ lent.old.home) }
+        ensures same_reference { lent.new.globals.ghost_name ≡ lent.old.globals.ghost_name }
         ensures part { me.new.part ≡ me.old.part };
 
     /// What `plan` says of any statement that was found so; where the language has no shorter way it is looked up again.

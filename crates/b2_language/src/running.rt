@@ -1,15 +1,17 @@
 // A run of units: statements of the program that are planned at once, one after another.
-ghost use Rattle.std.specs.Prelude.{◌≡◌, ◌≤◌, List, Option, Some, IfOk};
-ghost use Rattle.b2_vars.specs.Tables.{VarsState};
+ghost use Rattle.std.specs.Prelude.{◌≡◌, ◌≤◌, List, Some, IfOk};
+ghost use Rattle.b2_vars.specs.Globals.{Globals};
 ghost use Rattle.b2_access.specs.declared.devices.Device.{Device};
 ghost use Rattle.b2_access.specs.Found.{seen_found};
+ghost use Rattle.b2_access.specs.Lending.{globals_lent, seen_lent};
 ghost use Rattle.b2_access.specs.Placed.{line_named};
 ghost use Rattle.b2_language.specs.Running as spec;
 ghost use Rattle.b2_language.specs.Running.{IsFoundAtOnce};
 
 use crate::following::{move_to, place_on};
 use crate::language::Language;
-use b2_access::{Found, Outcome, Planned, Private, statement_on};
+use crate::wanted::names_globals;
+use b2_access::{Found, Lent, Outcome, Planned, Private, statement_on};
 use b2_atom::Atoms;
 use b2_base::NoMemory;
 use b2_flow::Place;
@@ -51,7 +53,7 @@ fn led_to(me: &Private, home: &Text, line: &Atoms, place: Place, outcome: &Outco
 /// A statement at a place in a line of the program leads on by itself, or ends the run.
 fn lead(me: &mut Private, home: &Text, line: &Atoms, place: Place, outcome: Outcome) -> Passed
     requires line { line_named me.old.immediate home.now.lines place.line ≡ Some line.now }
-    ensures led { (globals : Option VarsState) → record { me = me.new; globals = globals; passed = result } ≡ spec.leads (record { me = me.old; globals = globals; planned = Planned.Done outcome }) place home.now.lines }
+    ensures led { (globals : Globals) → record { me = me.new; globals = globals; passed = result } ≡ spec.leads (record { me = me.old; globals = globals; planned = Planned.Done outcome }) place home.now.lines }
     ensures part { me.new.part ≡ me.old.part }
 {
     match led_to(me, home, line, place, &outcome) {
@@ -67,13 +69,16 @@ fn lead(me: &mut Private, home: &Text, line: &Atoms, place: Place, outcome: Outc
 fn pass_at_once<L: Language>(
     alloc: Global,
     me: &mut Private,
+    lent: &mut Lent<'_>,
     found: &Found<'_>,
 ) -> Result<Passed, NoMemory>
     requires found { IsFoundAtOnce L.at_once found.now me.old }
-    ensures passed { (devices : List Device) (globals : Option VarsState) → IfOk result (λ p. record { me = me.new; globals = globals; passed = p } ≡ spec.passes (L.ways devices) L.at_once me.old (seen_found found.now globals)) }
+    ensures passed { (devices : List Device) → IfOk result (λ p. record { me = me.new; globals = globals_lent lent.new; passed = p } ≡ spec.passes (L.ways devices) L.at_once me.old (seen_found found.now (globals_lent lent.old))) }
+    ensures same_texts { (lent.new.own ≡ lent.old.own) × (lent.new.home ≡ lent.old.home) }
+    ensures same_reference { lent.new.globals.ghost_name ≡ lent.old.globals.ghost_name }
     ensures part { me.new.part ≡ me.old.part }
 {
-    let outcome = L::plan_at_once(alloc, me, found)?;
+    let outcome = L::plan_at_once(alloc, me, lent, found)?;
     Ok(lead(me, found.home, found.line, found.place, outcome))
 }
 
@@ -81,10 +86,11 @@ fn pass_at_once<L: Language>(
 fn pass<L: Language>(
     alloc: Global,
     me: &mut Private,
-    own: &Text,
-    home: &Text,
+    lent: &mut Lent<'_>,
 ) -> Result<Passed, NoMemory>
-    ensures passed { (devices : List Device) (globals : Option VarsState) → IfOk result (λ p. record { me = me.new; globals = globals; passed = p } ≡ spec.passes (L.ways devices) L.at_once me.old (record { own = own.now; home = home.now; globals = globals })) }
+    ensures passed { (devices : List Device) → IfOk result (λ p. record { me = me.new; globals = globals_lent lent.new; passed = p } ≡ spec.passes (L.ways devices) L.at_once me.old (seen_lent lent.old)) }
+    ensures same_texts { (lent.new.own ≡ lent.old.own) × (lent.new.home ≡ lent.old.home) }
+    ensures same_reference { lent.new.globals.ghost_name ≡ lent.old.globals.ghost_name }
     ensures part { me.new.part ≡ me.old.part }
 {
     let Some(place) = me.place else {
@@ -93,41 +99,43 @@ fn pass<L: Language>(
     let Some(n) = place.line else {
         return Ok(Passed::Stops);
     };
+    let home = lent.home;
     let Some(line) = home.line(n) else {
         return Ok(Passed::Stops);
     };
     let Some(unit) = statement_on(line.atoms, usize::from(place.unit)) else {
         return Ok(Passed::Stops);
     };
-    if !unit.uses.globals && L::is_at_once(unit.row) {
+    if !names_globals(&unit) && L::is_at_once(unit.row) {
         let found = Found {
-            own,
+            own: lent.own,
             home,
             line: line.atoms,
             unit: &unit,
             place,
         };
-        return pass_at_once::<L>(alloc, me, &found);
+        return pass_at_once::<L>(alloc, me, lent, &found);
     }
     Ok(Passed::Stops)
 }
 
 /// Statements of the program that are planned at once, one after another: up to the first that doesn't lead on by itself or isn't
-/// planned at once, or as many as a quota. The `@` variables stay. After want of memory nothing is said of the partition.
+/// planned at once, or as many as a quota. After want of memory nothing is said of the partition.
 pub fn run_units<L: Language>(
     alloc: Global,
     me: &mut Private,
-    own: &Text,
-    home: &Text,
+    lent: &mut Lent<'_>,
     quota: u16,
 ) -> Result<Run, NoMemory>
-    ensures ran { (devices : List Device) (globals : Option VarsState) → IfOk result (λ r. record { me = me.new; globals = globals; run = r } ≡ spec.runs (L.ways devices) L.at_once quota me.old (record { own = own.now; home = home.now; globals = globals })) }
+    ensures ran { (devices : List Device) → IfOk result (λ r. record { me = me.new; globals = globals_lent lent.new; run = r } ≡ spec.runs (L.ways devices) L.at_once quota me.old (seen_lent lent.old)) }
     ensures few { IfOk result (λ r. r.steps ≤ quota) }
+    ensures same_texts { (lent.new.own ≡ lent.old.own) × (lent.new.home ≡ lent.old.home) }
+    ensures same_reference { lent.new.globals.ghost_name ≡ lent.old.globals.ghost_name }
     ensures part { me.new.part ≡ me.old.part }
 {
     let mut steps = 0;
     for _ in 0..quota {
-        let passed = pass::<L>(alloc, me, own, home)?;
+        let passed = pass::<L>(alloc, me, lent)?;
         match passed {
             Passed::LeadsOn => steps += 1,
             Passed::Stops => return Ok(Run { steps, last: None }),

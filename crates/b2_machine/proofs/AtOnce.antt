@@ -1,7 +1,6 @@
 -- A statement that was found in a line of the program: what its step begins with is what is planned there.
 use Rattle.std.proofs.Common.{◌≡◌, ℕ, ◌==◌, Bool, true, false, true≢false, if◌then◌else◌, List, refl, sym, ap, ◌∙◌, arith, Option, Some}
 use Rattle.std.proofs.lemmas.Bool.Decides.{nat_tests}
-use Rattle.b2_atom.specs.Tree.{names_global}
 use Rattle.b2_atom.specs.declared.rows.TheConstants as row
 use Rattle.b2_flow.specs.declared.frame.Place.{Place}
 use Rattle.b2_access.specs.Lending.{SeenLent}
@@ -28,8 +27,8 @@ module _ (ways : Ways) (lawful : AreLawful ways) where
       by true e = let same : r ≡ row.LIST = grind (arith, nat_tests) in absurd (true≢false (sym is ∙ ap ways.built same ∙ lawful.no_list))
       by false e = refl
 
-  built : (u : Statement) → names_global u.tree ≡ false → ways.built u.row ≡ true → builder_of ways u ≡ builder.Language u.row
-  built u local is = otherwise (names_global u.tree) _ _ local ∙ otherwise (u.row == row.LIST) _ _ (no_list u.row is) ∙ chosen (ways.built u.row) _ _ is
+  built : (u : Statement) → ways.built u.row ≡ true → builder_of ways u ≡ builder.Language u.row
+  built u is = otherwise (u.row == row.LIST) _ _ (no_list u.row is) ∙ chosen (ways.built u.row) _ _ is
 
   pub begun_where_found : (p : Place) (me : Private) (s : SeenLent) (u : Statement) (o : Builder) (x : Planning) (b : Begun)
       → Some u ≡ statement_placed p me.immediate s.home.lines → o ≡ builder_of ways u → x ≡ plan_by ways o p me s → b ≡ begun x o p s.home.lines → b ≡ begins ways p me s
@@ -40,7 +39,7 @@ module _ (ways : Ways) (lawful : AreLawful ways) where
       ∙ ap (λ (o : Option Statement). begins_where ways o p me s) is_unit
 
   pub begun_at_once : (p : Place) (me : Private) (s : SeenLent) (line : List ℕ) (u : Statement) (x : Planning) (b : Begun)
-      → line_named me.immediate s.home.lines p.line ≡ Some line → Some u ≡ statement_on (Some line) p.unit → names_global u.tree ≡ false → ways.built u.row ≡ true
+      → line_named me.immediate s.home.lines p.line ≡ Some line → Some u ≡ statement_on (Some line) p.unit → ways.built u.row ≡ true
       → x ≡ ways.plan u.row me s → b ≡ begun x (builder.Language u.row) p s.home.lines → b ≡ begins ways p me s
-  begun_at_once p me s line u x b is_line is_unit local is is_x is_b =
-      begun_where_found p me s u (builder.Language u.row) x b (is_unit ∙ sym (ap (λ (l : Option (List ℕ)). statement_on l p.unit) is_line)) (sym (built u local is)) is_x is_b
+  begun_at_once p me s line u x b is_line is_unit is is_x is_b =
+      begun_where_found p me s u (builder.Language u.row) x b (is_unit ∙ sym (ap (λ (l : Option (List ℕ)). statement_on l p.unit) is_line)) (sym (built u is)) is_x is_b

@@ -12,7 +12,7 @@ use Rattle.b2_access.specs.declared.accesses.Access.{Access}
 use Rattle.b2_access.specs.declared.accesses.Access.TheVariants as access
 use Rattle.b2_access.specs.declared.accesses.Answer.{Answer}
 use Rattle.b2_access.specs.declared.accesses.Answer.TheVariants as answer
-use Rattle.b2_access.specs.declared.lending.At.TheVariants as at
+use Rattle.b2_access.specs.declared.lending.At.{At}
 use Rattle.b2_access.specs.declared.planned.Outcome.{Outcome}
 use Rattle.b2_access.specs.declared.planned.Outcome.TheVariants as outcome
 use Rattle.b2_access.specs.declared.planned.Planned.{Planned}
@@ -24,8 +24,8 @@ use Rattle.b2_machine.specs.Counting.{CountsOrEnds, StepsCountOrEnd}
 use Rattle.b2_machine.specs.Endings.{counts, ends_turn, repeats}
 use Rattle.b2_machine.specs.Moving.{ends_by, ends_onward, error_place, faults, goes_to, onward_from, place_onward}
 use Rattle.b2_machine.specs.Readiness.{halted, resets}
-use Rattle.b2_machine.specs.Statements.{begins_where, begun_by, builder_of, finish_by, finishes, plan_by}
-use Rattle.b2_machine.specs.Step.{acts, by_itself, enters_or_goes_on, executes, goes_through, halts_or_acts, line_read, runs_or_reads, seen_by, shows_or_goes_on, text_in, types_or_goes_on}
+use Rattle.b2_machine.specs.Statements.{begins_where, begun_by, builder_of, finish_by, finishes, leaves, plan_by}
+use Rattle.b2_machine.specs.Step.{acts, by_itself, enters_or_goes_on, executes, goes_through, halts_or_acts, lent_to_begin, line_read, runs_or_reads, seen_by, shows_or_goes_on, types_or_goes_on, whose_by}
 use Rattle.b2_machine.specs.Typing.{put_by, shown_by, shows_pending, typed_by_key}
 use Rattle.b2_machine.specs.declared.ends.Stepped.{Stepped}
 use Rattle.b2_machine.specs.declared.ends.Why.{Why}
@@ -86,16 +86,19 @@ finishing : (ways : Ways) (b : Builder) (x : Access) (a : Answer) (w : Onward) (
 finishing ways b x a w p me s = let f = finish_by ways b x a me s in ended_onward (repeats a) f.outcome w p f.me s.home.lines (repeating a)
 
 module _ (ways : Ways) {M : Type 0} (store : M → StoreState) (serving : ServingOf M) (lending : Loan M) where
-  begun : (x : Planned) (b : Builder) (p : Place) (me : Private) (home : Lines) (m : M) → CountsOrEnds (goes_through ways store serving lending (begun_by x b p me home) p m).end
-  begun (planned.Done o) b p me home m = ended counts o p me home counting
-  begun (planned.Ask a) b p me home m = let g = serving m me.part a in finishing ways b a g.answer (onward_from p me home) p me (seen_by me (store g.after))
+  begun : (who : ℕ) (x : Planned) (b : Builder) (p : Place) (whose : At) (me : Private) (home : Lines) (m : M) → CountsOrEnds (goes_through ways store serving lending who (begun_by x b p me home) p whose m).end
+  begun who (planned.Done o) b p whose me home m = ended counts o p me home counting
+  begun who (planned.Ask a) b p whose me home m = let g = serving m who a in finishing ways b a g.answer (onward_from p me home) p me (seen_by who p.home whose (store g.after))
 
-  unit : (o : Option Statement) (p : Place) (me : Private) (s : SeenLent) (m : M) → CountsOrEnds (goes_through ways store serving lending (begins_where ways o p me s) p m).end
-  unit None p me s m = ending reason.Ready
-  unit (Some u) p me s m = let x = plan_by ways (builder_of ways u) p me s in begun x.planned (builder_of ways u) p x.me s.home.lines m
+  unit : (who : ℕ) (o : Option Statement) (p : Place) (whose : At) (me : Private) (s : SeenLent) (m : M) → CountsOrEnds (goes_through ways store serving lending who (begins_where ways o p me s) p whose m).end
+  unit who None p whose me s m = ending reason.Ready
+  unit who (Some u) p whose me s m = let x = plan_by ways (builder_of ways u) p me s in begun who x.planned (builder_of ways u) p whose x.me s.home.lines m
 
   executed : (p : Place) (me : Private) (m : M) → CountsOrEnds (executes ways store serving lending p me m).end
-  executed p me m = unit (statement_placed p me.immediate (text_in (store m) me.part).lines) p me (seen_by me (store m)) (lending me.part me.part at.None m None)
+  executed p me m =
+      let whose = whose_by p me (store m) in
+      let s = seen_by me.part p.home whose (store m) in
+      unit me.part (statement_placed p me.immediate s.home.lines) p whose me s (lent_to_begin store serving lending me.part p.home whose m (leaves ways p me s))
 
   read : (a : Answer) (me : Private) (m : M) → CountsOrEnds (line_read store serving lending a me m).end
   read (answer.Line bytes) me m = counting

@@ -27,6 +27,7 @@ use Rattle.b2_access.specs.declared.accesses.Access.{Access}
 use Rattle.b2_access.specs.declared.accesses.Access.TheVariants as access
 use Rattle.b2_access.specs.declared.accesses.Answer.{Answer}
 use Rattle.b2_access.specs.declared.accesses.Answer.TheVariants as answer
+use Rattle.b2_access.specs.declared.lending.At.{At}
 use Rattle.b2_access.specs.declared.planned.Outcome.{Outcome}
 use Rattle.b2_access.specs.declared.planned.Outcome.TheVariants as outcome
 use Rattle.b2_access.specs.declared.planned.Planned.{Planned}
@@ -38,11 +39,10 @@ use Rattle.b2_machine.specs.Keys.{calls, calls_where, pressed_by}
 use Rattle.b2_machine.specs.Listed.{lists}
 use Rattle.b2_machine.specs.Moving.{ends_by, ends_onward, enters_program, error_place, faults, goes_to, is_continue, is_taken, onward_from, place_onward}
 use Rattle.b2_machine.specs.Readiness.{halted, resets}
-use Rattle.b2_machine.specs.Statements.{begins_where, begun_by, builder_of, finish_by, finishes, plan_by}
+use Rattle.b2_machine.specs.Statements.{begins_where, begun_by, builder_of, finish_by, finishes, leaves, plan_by}
 use Rattle.b2_access.specs.Marks.{typed_by_mark}
-use Rattle.b2_access.specs.declared.lending.At.TheVariants as at
 use Rattle.b2_access.proofs.Choice.{either}
-use Rattle.b2_machine.specs.Step.{acts, by_itself, halts_or_acts, enters_or_goes_on, executes, goes_through, line_read, runs_or_reads, seen_by, shows_or_goes_on, step, text_in, types_or_goes_on}
+use Rattle.b2_machine.specs.Step.{acts, by_itself, enters_or_goes_on, executes, goes_through, halts_or_acts, lent_to_begin, line_read, runs_or_reads, seen_by, shows_or_goes_on, step, text_in, types_or_goes_on, whose_by}
 use Rattle.b2_machine.specs.Typing.{put_by, shown_by, shows_pending, takes, takes_or_refuses, typed_by_key}
 use Rattle.b2_machine.specs.Turn.{TurnEnd, counted_on, ended_turn as turn_ended, turn, turn_from, unless_ended}
 use Rattle.b2_machine.specs.declared.ends.Stepped.{Stepped}
@@ -178,20 +178,23 @@ module _ (ways : Ways) (lawful : AreLawful ways) (p : Place) where
   asked_kept a kept (inr h) = cc
 
   module _ {M : Type 0} (store : M → StoreState) (serving : ServingOf M) (lending : Loan M) where
-    begun_keeps : (x : Planned) (b : Builder) (me : Private) (home : Lines) (m : M) → PlannedHere me x → KeepsNone (goes_through ways store serving lending (begun_by x b p me home) p m).me
-    begun_keeps (planned.Done o) b me home m h = ended _ o me home h.0 (λ r. done_kept o me.kept (h.1 r))
-    begun_keeps (planned.Ask a) b me home m h =
-        let g = serving m me.part a in
-        finish_keeps b a g.answer (onward_from p me home) me (seen_by me (store g.after)) (h.0, λ r. asked_kept a me.kept (h.1 r))
+    begun_keeps : (who : ℕ) (x : Planned) (b : Builder) (whose : At) (me : Private) (home : Lines) (m : M) → PlannedHere me x → KeepsNone (goes_through ways store serving lending who (begun_by x b p me home) p whose m).me
+    begun_keeps who (planned.Done o) b whose me home m h = ended _ o me home h.0 (λ r. done_kept o me.kept (h.1 r))
+    begun_keeps who (planned.Ask a) b whose me home m h =
+        let g = serving m who a in
+        finish_keeps b a g.answer (onward_from p me home) me (seen_by who p.home whose (store g.after)) (h.0, λ r. asked_kept a me.kept (h.1 r))
 
-    unit_keeps : (o : Option Statement) (me : Private) (s : SeenLent) (m : M) → Here me → KeepsNone (goes_through ways store serving lending (begins_where ways o p me s) p m).me
-    unit_keeps None me s m h = λ r. absurd (false_is_true r)
-    unit_keeps (Some u) me s m h =
+    unit_keeps : (who : ℕ) (o : Option Statement) (whose : At) (me : Private) (s : SeenLent) (m : M) → Here me → KeepsNone (goes_through ways store serving lending who (begins_where ways o p me s) p whose m).me
+    unit_keeps who None whose me s m h = λ r. absurd (false_is_true r)
+    unit_keeps who (Some u) whose me s m h =
         let x = plan_by ways (builder_of ways u) p me s in
-        begun_keeps x.planned (builder_of ways u) x.me s.home.lines m (plans (builder_of ways u) me s h)
+        begun_keeps who x.planned (builder_of ways u) whose x.me s.home.lines m (plans (builder_of ways u) me s h)
 
     pub executed : (me : Private) (m : M) → Here me → KeepsNone (executes ways store serving lending p me m).me
-    executed me m h = unit_keeps (statement_placed p me.immediate (text_in (store m) me.part).lines) me (seen_by me (store m)) (lending me.part me.part at.None m None) h
+    executed me m h =
+        let whose = whose_by p me (store m) in
+        let s = seen_by me.part p.home whose (store m) in
+        unit_keeps me.part (statement_placed p me.immediate s.home.lines) whose me s (lent_to_begin store serving lending me.part p.home whose m (leaves ways p me s)) h
 
 -- output and literals, as they wait
 module _ where

@@ -5,11 +5,16 @@ pub mod Kept
 pub mod LegalPlans
 pub mod ListRows
 pub mod Listings
+pub mod Lent
+pub mod Reached
 pub mod LocalSteps
 pub mod StepHomes
+pub mod NamesKept
+pub mod Presence
 pub mod KeptPlace
 pub mod OwnRules
 pub mod StepTerminal
+pub mod StepPart
 pub mod StepDevices
 pub mod StepOutput
 pub mod AtOnce

@@ -9,6 +9,7 @@ use Rattle.b2_access.specs.Partition.{is_ready, terminal_address}
 use Rattle.b2_access.specs.Pending.{IsForListed}
 use Rattle.b2_access.specs.Placed.{Statement, statement_placed}
 use Rattle.b2_access.specs.Store.{StoreState}
+use Rattle.b2_access.specs.declared.accesses.Access.{Access}
 use Rattle.b2_access.specs.declared.devices.Device.{Device}
 use Rattle.b2_access.specs.declared.planned.Planned.{Planned}
 use Rattle.b2_access.specs.declared.planned.Planned.TheVariants as planned
@@ -18,8 +19,8 @@ use Rattle.b2_language.specs.Languages.{AskForListed, Ways}
 use Rattle.b2_machine.specs.Listed.{lists}
 use Rattle.b2_machine.specs.Messages.{prints_text, shows_text}
 use Rattle.b2_machine.specs.Statements.{begins_where, begun_by, builder_of, plan_by}
-use Rattle.b2_machine.specs.Step.{seen_by}
-use Rattle.b2_machine.specs.Touched.{AskedListed, Asking, StepsAskForListed, access_asked, asking, asks_at, asks_to_enter, asks_to_show, asks_to_type, asks_unless_halted}
+use Rattle.b2_machine.specs.Step.{seen_at}
+use Rattle.b2_machine.specs.Touched.{AskedListed, StepsAskForListed, access_asked, asking, asks_at, asks_to_enter, asks_to_show, asks_to_type, asks_unless_halted}
 use Rattle.b2_machine.specs.Typing.{on_own_line, shows_pending}
 use Rattle.b2_machine.specs.declared.statements.Builder.{Builder}
 use Rattle.b2_machine.specs.declared.statements.Builder.TheVariants as builder
@@ -48,12 +49,12 @@ module _ (ways : List Device → Ways) (listed : AskForListed ways) (devices : L
       begun_listed devices me.part x.planned b p x.me s.home.lines (planned_listed b p me s)
 
   -- the rules of a step: all but a statement and what waits to be shown ask at the terminal, or for an edit of the own text
-  abbrev Listed : ℕ → Asking → Type 0
-  Listed who x = AskedListed devices who x.access
+  abbrev Listed : ℕ → Option Access → Type 0
+  Listed who x = AskedListed devices who x
 
   at_place : (x : Option Place) (me : Private) (s : StoreState) → Listed me.part (asks_at (ways devices) x me s)
   at_place None me s = tt
-  at_place (Some p) me s = begins_listed (statement_placed p me.immediate (seen_by me s).home.lines) p me (seen_by me s)
+  at_place (Some p) me s = let seen = seen_at p me s in begins_listed (statement_placed p me.immediate seen.home.lines) p me seen
 
   at_number : (x : Option (ℕ × Option (List ℕ))) (me : Private) (s : StoreState) → Listed me.part (asks_to_enter (ways devices) x me s)
   at_number (Some line) me s = tt

@@ -1,7 +1,6 @@
--- A step names no partition as a home but its own and those that were named before.
-use Rattle.std.proofs.Common.{◌≡◌, ℕ, ◌==◌, ◌∙◌, sym, ap, nat_lt, Bool, true, false, not, if◌then◌else◌, List, [], ◌∷◌, length, Option, Some, None, is_some, Result, Ok, Err}
-use Rattle.std.specs.Prelude.{◌&&◌, ◌+◌, ◌-◌, ◌%◌, ◌^◌}
-use Rattle.std.proofs.Math.Nat.{zero-div}
+-- A step names no partition as a home but its own, those that were named before, and those to whom a name leads that it touches.
+use Rattle.std.proofs.Common.{◌≡◌, ℕ, ◌==◌, ◌∙◌, sym, ap, nat_lt, Bool, true, false, not, if◌then◌else◌, List, [], ◌∷◌, length, Option, Some, None, is_some, Result, Ok, Err, refl}
+use Rattle.std.specs.Prelude.{◌&&◌, ◌++◌, ◌+◌, ◌-◌, ◌%◌, ◌^◌}
 use Rattle.std.specs.Option.{option_map, option_and_then}
 use Rattle.b2_flow.specs.Frames.{is_immediate_loop}
 use Rattle.b2_flow.specs.Stacks.{most_frames}
@@ -11,6 +10,7 @@ use Rattle.b2_rows.specs.Following.{taken_fault, unit_or_next}
 use Rattle.b2_rows.specs.declared.following.Goal.{Goal}
 use Rattle.b2_rows.specs.declared.following.Goal.TheVariants as goal
 use Rattle.b2_text.specs.Program.{Lines, number_after}
+use Rattle.b2_vars.specs.Globals.{Globals}
 use Rattle.b2_text.specs.Spots.{first_opening, is_mark}
 use Rattle.b2_text.specs.declared.spots.Spot.{Spot}
 use Rattle.b2_syntax.specs.Reading.{reads}
@@ -18,27 +18,34 @@ use Rattle.b2_syntax.specs.declared.Entered.{Entered}
 use Rattle.b2_syntax.specs.declared.Entered.TheVariants as entered
 use Rattle.b2_syntax.specs.declared.LineErr.{LineErr}
 use Rattle.b2_syntax.specs.declared.LineErr.TheVariants as refusal
-use Rattle.b2_access.specs.Homes.{FramesIn, HomesIn, IsWithin, OutcomeIn, PlaceIn, PlannedIn}
+use Rattle.b2_access.specs.Homes.{AnswerIn, FramesIn, HomesIn, IsWithin, OutcomeIn, PlaceIn, PlannedIn}
 use Rattle.b2_access.specs.Lending.{SeenLent}
-use Rattle.b2_access.specs.Loans.{Loan}
+use Rattle.b2_access.specs.Leading.{AnswersLead, TouchedNamesIn}
+use Rattle.b2_access.specs.Loans.{Loan, LoansGlobals, loan_touched}
 use Rattle.b2_access.specs.Partition.{is_ready, runs_program}
 use Rattle.b2_access.specs.Placed.{Statement, statement_placed}
 use Rattle.b2_access.specs.Places.{goal_place, line_after, line_start}
 use Rattle.b2_access.specs.Planning.{Finishing, Planning}
 use Rattle.b2_access.specs.Sharing.{ServingOf}
-use Rattle.b2_access.specs.Store.{StoreState}
+use Rattle.b2_access.specs.Store.{StoreState, content}
+use Rattle.b2_access.specs.Touching.{touched}
 use Rattle.b2_access.specs.declared.accesses.Access.{Access}
 use Rattle.b2_access.specs.declared.accesses.Access.TheVariants as access
 use Rattle.b2_access.specs.declared.accesses.Answer.{Answer}
 use Rattle.b2_access.specs.declared.accesses.Answer.TheVariants as answer
+use Rattle.b2_access.specs.declared.lending.At.{At}
+use Rattle.b2_access.specs.declared.objects.Object.{Object}
+use Rattle.b2_access.specs.declared.objects.Object.TheVariants as object
 use Rattle.b2_access.specs.declared.planned.Outcome.{Outcome}
 use Rattle.b2_access.specs.declared.planned.Outcome.TheVariants as outcome
 use Rattle.b2_access.specs.declared.planned.Planned.{Planned}
 use Rattle.b2_access.specs.declared.planned.Planned.TheVariants as planned
 use Rattle.b2_access.specs.declared.private.Private.{Private}
 use Rattle.b2_access.proofs.Choice.{either}
+use Rattle.b2_access.specs.Task.{in_left, in_right}
 use Rattle.b2_access.proofs.Shown.{shown_leads}
 use Rattle.b2_access.proofs.Working.{within}
+use Rattle.b2_access.proofs.Homes.{marks_none}
 use Rattle.b2_language.specs.Languages.{AreLawful, Ways}
 use Rattle.b2_access.specs.Marks.{typed_by_mark}
 use Rattle.b2_language.specs.Following.{following_place, moves_to, units_at}
@@ -48,9 +55,9 @@ use Rattle.b2_machine.specs.Listed.{range_listed, lists}
 use Rattle.b2_machine.specs.Messages.{shows_text}
 use Rattle.b2_machine.specs.Moving.{ends_by, ends_onward, enters_program, error_place, faults, goes_to, is_continue, is_taken, jumps, place_onward}
 use Rattle.b2_machine.specs.Readiness.{halted, readies, resets, without_immediate_loops}
-use Rattle.b2_machine.specs.Statements.{begins, begins_where, begun_by, builder_of, finish_by, finishes, plan_by}
-use Rattle.b2_machine.specs.Step.{StepEnd, carries_out, enters_or_goes_on, halts_or_acts, lent, line_read, runs_or_reads, seen_by, shows_or_goes_on, step, text_in, types_or_goes_on}
-use Rattle.b2_machine.specs.Touched.{Asking, StepsStayWithin, asking, asks_at, asks_to_enter, asks_to_show, asks_to_type, asks_unless_halted}
+use Rattle.b2_machine.specs.Statements.{begins, begins_where, begun_by, builder_of, finish_by, finishes, leaves, plan_by}
+use Rattle.b2_machine.specs.Step.{StepEnd, carries_out, enters_or_goes_on, halts_or_acts, lent_to_begin, line_read, runs_or_reads, seen_by, shows_or_goes_on, step, text_in, types_or_goes_on, whose_by}
+use Rattle.b2_machine.specs.Touched.{StepsStayWithin, Told, begin_touched, tells_carrying, told, told_at, told_entering, told_showing, told_typing, told_unless_halted}
 use Rattle.b2_machine.specs.Typing.{line_taken, put_by, shown_by, shows_pending, takes, takes_or_refuses, typed_by_key}
 use Rattle.b2_machine.specs.declared.ends.Stepped.{Stepped}
 use Rattle.b2_machine.specs.declared.moving.Onward.{Onward}
@@ -59,11 +66,9 @@ use Rattle.b2_machine.specs.declared.moving.Onward.TheVariants as onward
 use Rattle.b2_machine.specs.declared.statements.Builder.TheVariants as builder
 use Rattle.b2_machine.specs.declared.statements.Progress.{Progress}
 use Rattle.b2_machine.specs.declared.statements.Progress.TheVariants as progress
+use Rattle.b2_machine.proofs.Lent.{begun_store, names_left}
 use Rattle.b2_access.specs.Showing.{shown}
 use Rattle.b2_access.specs.Views.{column_shown}
-
-true_is_false : true ≡ false → ⊥
-true_is_false h = cc
 
 module _ (ways : Ways) (lawful : AreLawful ways) (among : ℕ → Bool) where
   abbrev Within : Private → Type 0
@@ -191,7 +196,7 @@ module _ (ways : Ways) (lawful : AreLawful ways) (among : ℕ → Bool) where
   PlanningIn x = IsWithin among x.me × PlannedIn among x.planned
 
   show_marks_none : (text : List ℕ) (me : Private) → HomesIn among (shows_text text me)
-  show_marks_none text me h is = absurd (true_is_false (sym is ∙ ap (λ (n : ℕ). n % 2 == 1) (zero-div (2 ^ (h - 1)))))
+  show_marks_none text me = marks_none among (shows_text text me) refl
 
   listed_in : (b : Bool) (range : ℕ × ℕ) (me : Private) (s : SeenLent) → Within me → PlanningIn (lists b range me s)
   listed_in true range me s w = (w, tt)
@@ -215,63 +220,82 @@ module _ (ways : Ways) (lawful : AreLawful ways) (among : ℕ → Bool) where
   abbrev FinishingIn : Finishing → Type 0
   FinishingIn x = IsWithin among x.me × OutcomeIn among x.outcome
 
-  finish_in : (b : Builder) (x : Access) (a : Answer) (me : Private) (s : SeenLent) → Within me → FinishingIn (finish_by ways b x a me s)
-  finish_in (builder.Listing from to) x a me s w = (within among me (shown x a me).work me.slots me.held w, shown_leads among (column_shown x a) me)
-  finish_in (builder.Language r) x a me s w = (lawful.leave_the_rest r).finishes_within among x a me s w
-  finish_in builder.Nobody x a me s w = (w, tt)
+  finish_in : (b : Builder) (x : Access) (a : Answer) (me : Private) (s : SeenLent) → AnswerIn among a → Within me → FinishingIn (finish_by ways b x a me s)
+  finish_in (builder.Listing from to) x a me s leads w = (within among me (shown x a me).work me.slots me.held w, shown_leads among (column_shown x a) me)
+  finish_in (builder.Language r) x a me s leads w = (lawful.leave_the_rest r).finishes_within among x a me s leads w
+  finish_in builder.Nobody x a me s leads w = (w, tt)
 
-  finished_in : (b : Builder) (x : Access) (a : Answer) (way : Onward) (p : Place) (me : Private) (s : SeenLent) → among p.home ≡ true → Within me → EndIn (finishes ways b x a way p me s)
-  finished_in b x a way p me s h w =
-      let y = finish_in b x a me s w in
+  finished_in : (b : Builder) (x : Access) (a : Answer) (way : Onward) (p : Place) (me : Private) (s : SeenLent) → among p.home ≡ true → AnswerIn among a → Within me → EndIn (finishes ways b x a way p me s)
+  finished_in b x a way p me s h leads w =
+      let y = finish_in b x a me s leads w in
       ends_onward_in (repeats a) (finish_by ways b x a me s).outcome way p (finish_by ways b x a me s).me s.home.lines h y.1 y.0
 
-  module _ {M : Type 0} (store : M → StoreState) (serving : ServingOf M) (lending : Loan M) where
-    -- after a step, and whoever asked
-    abbrev StepIn : StepEnd M → Asking → Type 0
-    StepIn e asks = IsWithin among e.me × (among asks.who ≡ true)
+  module _ {M : Type 0} (store : M → StoreState) (serving : ServingOf M) (lending : Loan M) (loans : LoansGlobals store lending) (answers : AnswersLead store serving) where
+    -- after a step, where each name that it touches leads to one among them
+    abbrev StepIn : StepEnd M → Type 0
+    StepIn e = IsWithin among e.me
 
-    by_test : (b : Bool) (e f : StepEnd M) (x y : Asking) → StepIn e x → StepIn f y → StepIn (if b then e else f) (if b then x else y)
-    by_test true e f x y h k = h
-    by_test false e f x y h k = k
+    abbrev Led : Told → M → Type 0
+    Led t m = TouchedNamesIn among t.touched (store m)
+
+    by_test : (b : Bool) (e f : StepEnd M) (t u : Told) (m : M) → (Led t m → StepIn e) → (Led u m → StepIn f) → Led (if b then t else u) m → StepIn (if b then e else f)
+    by_test true e f t u m h k = h
+    by_test false e f t u m h k = k
 
     read_in : (x : Answer) (me : Private) (m : M) → Within me → Within (line_read store serving lending x me m).me
     read_in (answer.Line bytes) me m w = line_in bytes me w
     read_in (answer.Special n) me m w = pressed_in (typed_by_mark n (text_in (store m) me.part).lines) (first_opening (is_mark n) (text_in (store m) me.part).lines) me w
     read_in x me m w = w
 
-    carried_in : (c : Progress) (p : Place) (me : Private) (m : M) → among p.home ≡ true → Within me → Within (carries_out ways store serving lending c p me m).me
-    carried_in (progress.Ended e) p me m h w = w
-    carried_in (progress.Asks a b way) p me m h w = finished_in b a (serving m me.part a).answer way p me (seen_by me (store (serving m me.part a).after)) h w
+    carried_in : (who : ℕ) (c : Progress) (p : Place) (whose : At) (me : Private) (m : M) → Led (tells_carrying ways store serving lending who c p whose me m) m → among p.home ≡ true → Within me → Within (carries_out ways store serving lending who c p whose me m).me
+    carried_in who (progress.Ended e) p whose me m led h w = w
+    carried_in who (progress.Asks a b way) p whose me m led h w =
+        let g = serving m who a in
+        let leads = answers among who a m (λ n q i is. led n q (in_left (object.Name n) (touched (store m) who a) (loan_touched who p.home whose (store g.after)) i) is) in
+        finished_in b a g.answer way p me (seen_by who p.home whose (store g.after)) h leads w
 
-    at_place : (x : Option Place) (me : Private) (m : M) → PlaceIn among x → Within me → StepIn (runs_or_reads ways store serving lending x me m) (asks_at ways x me (store m))
-    at_place None me m h w = (read_in (serving m me.part (access.ReadLine me.term)).answer me (serving m me.part (access.ReadLine me.term)).after w, w.part)
-    at_place (Some p) me m h w =
-        let b = begins ways p me (seen_by me (store m)) in
-        let x = begins_in (statement_placed p me.immediate (seen_by me (store m)).home.lines) p me (seen_by me (store m)) h w in
-        (carried_in b.progress p b.me (lent store serving lending me m) h x, x.part)
+    -- over what is lent to a statement each name leads where it led
+    led_on : (who home : ℕ) (whose : At) (left : Globals) (m : M) (front back : List Object) → TouchedNamesIn among (front ++ back) (store m)
+        → TouchedNamesIn among back (store (lent_to_begin store serving lending who home whose m left))
+    led_on who home whose left m front back led n q i is =
+        led n q (in_right (object.Name n) front back i)
+        (sym (ap (λ (s : StoreState). content s (object.Name n)) (begun_store store serving lending loans who home whose m left) ∙ names_left home whose left.vars (store m) n) ∙ is)
 
-    at_number : (x : Option (ℕ × Option (List ℕ))) (me : Private) (m : M) → Within me → StepIn (enters_or_goes_on ways store serving lending x me m) (asks_to_enter ways x me (store m))
-    at_number (Some line) me m w = (put_in _ me w, w.part)
-    at_number None me m w = at_place me.place me m w.place w
+    at_place : (x : Option Place) (me : Private) (m : M) → Led (told_at ways store serving lending x me m) m → PlaceIn among x → Within me → StepIn (runs_or_reads ways store serving lending x me m)
+    at_place None me m led h w = read_in (serving m me.part (access.ReadLine me.term)).answer me (serving m me.part (access.ReadLine me.term)).after w
+    at_place (Some p) me m led h w =
+        let whose = whose_by p me (store m) in
+        let s = seen_by me.part p.home whose (store m) in
+        let left = leaves ways p me s in
+        let b = begins ways p me s in
+        let x = begins_in (statement_placed p me.immediate s.home.lines) p me s h w in
+        let u = lent_to_begin store serving lending me.part p.home whose m left in
+        let led_then = led_on me.part p.home whose left m (begin_touched me.part p.home whose (store m)) (tells_carrying ways store serving lending me.part b.progress p whose b.me u).touched led in
+        carried_in me.part b.progress p whose b.me u led_then h x
 
-    at_literal : (x : Option (List ℕ)) (me : Private) (m : M) → Within me → StepIn (types_or_goes_on ways store serving lending x me m) (asks_to_type ways x me (store m))
-    at_literal (Some text) me m w = (typed_in _ me w, w.part)
-    at_literal None me m w = at_number me.numbered me m w
+    at_number : (x : Option (ℕ × Option (List ℕ))) (me : Private) (m : M) → Led (told_entering ways store serving lending x me m) m → Within me → StepIn (enters_or_goes_on ways store serving lending x me m)
+    at_number (Some line) me m led w = put_in _ me w
+    at_number None me m led w = at_place me.place me m led w.place w
 
-    at_output : (x : Option (List ℕ × List ℕ)) (me : Private) (m : M) → Within me → StepIn (shows_or_goes_on ways store serving lending x me m) (asks_to_show ways x me (store m))
-    at_output (Some text) me m w = (shown_in (shows_pending text.0 text.1 me) _ me w, w.part)
-    at_output None me m w = at_literal me.literal me m w
+    at_literal : (x : Option (List ℕ)) (me : Private) (m : M) → Led (told_typing ways store serving lending x me m) m → Within me → StepIn (types_or_goes_on ways store serving lending x me m)
+    at_literal (Some text) me m led w = typed_in _ me w
+    at_literal None me m led w = at_number me.numbered me m led w
 
-    at_halt : (me : Private) (m : M) → Within me → StepIn (halts_or_acts ways store serving lending me m) (asks_unless_halted ways me (store m))
+    at_output : (x : Option (List ℕ × List ℕ)) (me : Private) (m : M) → Led (told_showing ways store serving lending x me m) m → Within me → StepIn (shows_or_goes_on ways store serving lending x me m)
+    at_output (Some text) me m led w = shown_in (shows_pending text.0 text.1 me) _ me w
+    at_output None me m led w = at_literal me.literal me m led w
+
+    at_halt : (me : Private) (m : M) → Within me → Led (told_unless_halted ways store serving lending me m) m → StepIn (halts_or_acts ways store serving lending me m)
     at_halt me m w =
-        by_test (is_ready me) _ _ _ _
-        (at_output me.pending (record me { halt = false }) m (record { part = w.part; place = w.place; kept = w.kept; frames = w.frames }))
-        (halted_in me w, w.part)
+        by_test (is_ready me) _ _ _ _ m
+        (λ led. at_output me.pending (record me { halt = false }) m led (record { part = w.part; place = w.place; kept = w.kept; frames = w.frames }))
+        (λ led. halted_in me w)
 
-    step_in : (me : Private) (m : M) → Within me → StepIn (step ways store serving lending me m) (asking ways me (store m))
+    step_in : (me : Private) (m : M) → Within me → Led (told ways store serving lending me m) m → StepIn (step ways store serving lending me m)
     step_in me m w =
-        by_test me.reset _ _ _ _ (reset_in me w, w.part)
-        (by_test me.halt _ _ _ _ (at_halt me m w) (at_output me.pending me m w))
+        by_test me.reset _ _ _ _ m (λ led. reset_in me w)
+        (by_test me.halt _ _ _ _ m (at_halt me m w) (λ led. at_output me.pending me m led w))
 
-pub steps_stay_within : (ways : Ways) (lawful : AreLawful ways) {M : Type 0} (store : M → StoreState) (serving : ServingOf M) (lending : Loan M) → StepsStayWithin ways store serving lending
-steps_stay_within ways lawful store serving lending among me m w = step_in ways lawful among store serving lending me m w
+pub steps_stay_within : (ways : Ways) (lawful : AreLawful ways) {M : Type 0} (store : M → StoreState) (serving : ServingOf M) (lending : Loan M) → LoansGlobals store lending → AnswersLead store serving
+    → StepsStayWithin ways store serving lending
+steps_stay_within ways lawful store serving lending loans answers among me m led w = step_in ways lawful among store serving lending loans answers me m w led

@@ -22,6 +22,7 @@ use Rattle.b2_access.specs.declared.accesses.Access.TheVariants as access
 use Rattle.b2_access.specs.declared.accesses.Answer.{Answer}
 use Rattle.b2_access.specs.declared.accesses.Answer.TheVariants as answer
 use Rattle.b2_access.specs.declared.devices.Device.{Device}
+use Rattle.b2_access.specs.declared.lending.At.{At}
 use Rattle.b2_access.specs.declared.planned.Planned.{Planned}
 use Rattle.b2_access.specs.declared.planned.Planned.TheVariants as planned
 use Rattle.b2_access.specs.declared.private.Private.{Private}
@@ -30,8 +31,8 @@ use Rattle.b2_access.proofs.OpenFiles.{same_files}
 use Rattle.b2_language.specs.Languages.{AreLawful, AskForListed, KeepOpenFiles, Ways}
 use Rattle.b2_machine.specs.Endings.{counts, repeats}
 use Rattle.b2_machine.specs.OpenFiles.{FitsFrom, StepsKeepOpenFiles}
-use Rattle.b2_machine.specs.Statements.{Begun, begins, begins_where, begun_by, builder_of, finish_by, finishes, plan_by}
-use Rattle.b2_machine.specs.Step.{StepEnd, carries_out, enters_or_goes_on, halts_or_acts, lent, line_read, runs_or_reads, seen_by, shows_or_goes_on, step, text_in, types_or_goes_on}
+use Rattle.b2_machine.specs.Statements.{Begun, begins, begins_where, begun_by, builder_of, finish_by, finishes, leaves, plan_by}
+use Rattle.b2_machine.specs.Step.{StepEnd, carries_out, enters_or_goes_on, halts_or_acts, lent_to_begin, line_read, runs_or_reads, seen_by, shows_or_goes_on, step, text_in, types_or_goes_on, whose_by}
 use Rattle.b2_machine.specs.Typing.{puts_numbered, shows_pending}
 use Rattle.b2_machine.specs.declared.moving.Onward.{Onward}
 use Rattle.b2_machine.specs.declared.statements.Builder.{Builder}
@@ -42,6 +43,7 @@ use Rattle.b2_machine.proofs.LegalPlans.{planned_by}
 use Rattle.b2_machine.proofs.OwnRules.{Own, StaysOwn, ended_stays, line_stays, listed_stays, onward_stays, pressed_stays, put_stays, shown_stays, typed_stays}
 use Rattle.b2_machine.proofs.StepDevices.{planned_listed}
 use Rattle.b2_machine.proofs.Unchanged.{plans}
+use Rattle.b2_vars.specs.Globals.{Globals}
 
 module _ (ways : List Device → Ways) (lawful : (devices : List Device) → AreLawful (ways devices)) (listed : AskForListed ways) (keeps : KeepOpenFiles ways) (devices : List Device) where
   abbrev Open : Private → Type 0
@@ -99,23 +101,26 @@ module _ (ways : List Device → Ways) (lawful : (devices : List Device) → Are
         still me (line_read store serving lending (answer.Special n) me m).me (pressed_stays (typed_by_mark n own) (first_opening (is_mark n) own) me) h
     read_open x me m h = h
 
-    carried_open : (c : Progress) (p : Place) (me : Private) (m : M) → FitsFrom serving m → AsksFine me c → Open me → StepOpen (carries_out (ways devices) store serving lending c p me m)
-    carried_open (progress.Ended e) p me m fits fine h = h
-    carried_open (progress.Asks a b w) p me m fits fine h =
-        let g = serving m me.part a in
-        finished_open b a g.answer w p me (seen_by me (store g.after)) fine.0 (fits me.part a fine.1) h
+    carried_open : (who : ℕ) (c : Progress) (p : Place) (whose : At) (me : Private) (m : M) → FitsFrom serving m → AsksFine me c → Open me → StepOpen (carries_out (ways devices) store serving lending who c p whose me m)
+    carried_open who (progress.Ended e) p whose me m fits fine h = h
+    carried_open who (progress.Asks a b w) p whose me m fits fine h =
+        let g = serving m who a in
+        finished_open b a g.answer w p me (seen_by who p.home whose (store g.after)) fine.0 (fits who a fine.1) h
 
     abbrev Fits : Private → M → Type 0
-    Fits me m = FitsFrom serving (lent store serving lending me m)
+    Fits me m = (home : ℕ) (whose : At) (left : Globals) → FitsFrom serving (lent_to_begin store serving lending me.part home whose m left)
 
     at_place : (x : Option Place) (me : Private) (m : M) → Fits me m → Open me → StepOpen (runs_or_reads (ways devices) store serving lending x me m)
     at_place None me m fits h =
         let g = serving m me.part (access.ReadLine me.term) in
         read_open g.answer me g.after h
     at_place (Some p) me m fits h =
-        let b = begins (ways devices) p me (seen_by me (store m)) in
-        let k = begins_open (statement_placed p me.immediate (seen_by me (store m)).home.lines) p me (seen_by me (store m)) h in
-        carried_open b.progress p b.me (lent store serving lending me m) fits k.1 k.0
+        let whose = whose_by p me (store m) in
+        let s = seen_by me.part p.home whose (store m) in
+        let left = leaves (ways devices) p me s in
+        let b = begins (ways devices) p me s in
+        let k = begins_open (statement_placed p me.immediate s.home.lines) p me s h in
+        carried_open me.part b.progress p whose b.me (lent_to_begin store serving lending me.part p.home whose m left) (fits p.home whose left) k.1 k.0
 
     at_number : (x : Option (ℕ × Option (List ℕ))) (me : Private) (m : M) → Fits me m → Open me → StepOpen (enters_or_goes_on (ways devices) store serving lending x me m)
     at_number (Some line) me m fits h = still me (enters_or_goes_on (ways devices) store serving lending (Some line) me m).me (put_stays (serving m me.part (puts_numbered line)).answer me) h

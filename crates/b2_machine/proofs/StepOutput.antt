@@ -23,6 +23,7 @@ use Rattle.b2_access.specs.declared.accesses.Access.{Access}
 use Rattle.b2_access.specs.declared.accesses.Access.TheVariants as access
 use Rattle.b2_access.specs.declared.accesses.Answer.{Answer}
 use Rattle.b2_access.specs.declared.accesses.Answer.TheVariants as answer
+use Rattle.b2_access.specs.declared.lending.At.{At}
 use Rattle.b2_access.specs.declared.planned.Outcome.{Outcome}
 use Rattle.b2_access.specs.declared.planned.Outcome.TheVariants as outcome
 use Rattle.b2_access.specs.declared.planned.Planned.{Planned}
@@ -36,8 +37,8 @@ use Rattle.b2_machine.specs.Endings.{counts, repeats}
 use Rattle.b2_machine.specs.Keys.{calls_where, pressed_by}
 use Rattle.b2_machine.specs.Listed.{lists}
 use Rattle.b2_machine.specs.Moving.{ends_by, ends_onward, error_place, faults, goes_to, jumps, place_onward}
-use Rattle.b2_machine.specs.Statements.{Begun, begins, begins_where, begun_by, builder_of, finish_by, finishes, plan_by}
-use Rattle.b2_machine.specs.Step.{StepEnd, carries_out, enters_or_goes_on, halts_or_acts, lent, line_read, runs_or_reads, seen_by, shows_or_goes_on, step, text_in, types_or_goes_on}
+use Rattle.b2_machine.specs.Statements.{begins, begins_where, begun_by, builder_of, finish_by, finishes, leaves, plan_by}
+use Rattle.b2_machine.specs.Step.{StepEnd, carries_out, enters_or_goes_on, halts_or_acts, lent_to_begin, line_read, runs_or_reads, seen_by, shows_or_goes_on, step, text_in, types_or_goes_on, whose_by}
 use Rattle.b2_machine.specs.Touched.{StepsShowAtTerminal}
 use Rattle.b2_machine.specs.Turn.{TurnEnd, counted_on, ended_turn as turn_ended, turn, turn_from, unless_ended}
 use Rattle.b2_machine.specs.Typing.{put_by, puts_numbered, shown_by, shows_pending, takes, takes_or_refuses, typed_by_key}
@@ -159,21 +160,23 @@ module _ (ways : Ways) (lawful : AreLawful ways) {M : Type 0} (store : M → Sto
   read_shows (answer.Special n) me m = pressed_shows (typed_by_mark n (text_in (store m) me.part).lines) (first_opening (is_mark n) (text_in (store m) me.part).lines) me
   read_shows x me m = inl refl
 
-  carried_shows : (c : Progress) (p : Place) (me : Private) (m : M) → StepShows me (carries_out ways store serving lending c p me m)
-  carried_shows (progress.Ended e) p me m = inl refl
-  carried_shows (progress.Asks a b w) p me m =
-      let g = serving m me.part a in
-      finished_shows ways lawful b a g.answer w p me (seen_by me (store g.after))
+  carried_shows : (who : ℕ) (c : Progress) (p : Place) (whose : At) (me : Private) (m : M) → StepShows me (carries_out ways store serving lending who c p whose me m)
+  carried_shows who (progress.Ended e) p whose me m = inl refl
+  carried_shows who (progress.Asks a b w) p whose me m =
+      let g = serving m who a in
+      finished_shows ways lawful b a g.answer w p me (seen_by who p.home whose (store g.after))
 
   at_place : (x : Option Place) (me : Private) (m : M) → StepShows me (runs_or_reads ways store serving lending x me m)
   at_place None me m =
       let g = serving m me.part (access.ReadLine me.term) in
       read_shows g.answer me g.after
   at_place (Some p) me m =
-      let b = begins ways p me (seen_by me (store m)) in
+      let whose = whose_by p me (store m) in
+      let s = seen_by me.part p.home whose (store m) in
+      let b = begins ways p me s in
       then_shows me.pending b.me.pending (runs_or_reads ways store serving lending (Some p) me m).me.pending
-      (begins_shows ways lawful (statement_placed p me.immediate (seen_by me (store m)).home.lines) p me (seen_by me (store m)))
-      (carried_shows b.progress p b.me (lent store serving lending me m))
+      (begins_shows ways lawful (statement_placed p me.immediate s.home.lines) p me s)
+      (carried_shows me.part b.progress p whose b.me (lent_to_begin store serving lending me.part p.home whose m (leaves ways p me s)))
 
   at_number : (x : Option (ℕ × Option (List ℕ))) (me : Private) (m : M) → StepShows me (enters_or_goes_on ways store serving lending x me m)
   at_number (Some line) me m = put_shows (serving m me.part (puts_numbered line)).answer me

@@ -18,6 +18,7 @@ use Rattle.b2_access.specs.declared.accesses.Access.TheVariants as access
 use Rattle.b2_access.specs.declared.accesses.Answer.{Answer}
 use Rattle.b2_access.specs.declared.accesses.Answer.TheVariants as answer
 use Rattle.b2_access.specs.declared.planned.Outcome.TheVariants as outcome
+use Rattle.b2_access.specs.declared.lending.At.{At}
 use Rattle.b2_access.specs.declared.planned.Planned.{Planned}
 use Rattle.b2_access.specs.declared.planned.Planned.TheVariants as planned
 use Rattle.b2_access.specs.declared.private.Private.{Private}
@@ -30,9 +31,9 @@ use Rattle.b2_machine.specs.Keys.{pressed}
 use Rattle.b2_machine.specs.Listed.{range_listed, lists}
 use Rattle.b2_machine.specs.Messages.{prints_text, shows_text}
 use Rattle.b2_machine.specs.Moving.{ends_by, ends_onward}
-use Rattle.b2_machine.specs.Statements.{Begun, begins, begins_where, begun_by, builder_of, finish_by, finishes, plan_by}
-use Rattle.b2_machine.specs.Step.{StepEnd, carries_out, enters_or_goes_on, halts_or_acts, lent, line_read, runs_or_reads, seen_by, shows_or_goes_on, step, text_in, types_or_goes_on}
-use Rattle.b2_machine.specs.Touched.{Asking, StepsAskAtTerminal, access_asked, asking, asks_at, asks_to_enter, asks_to_show, asks_to_type, asks_unless_halted}
+use Rattle.b2_machine.specs.Statements.{Begun, begins, begins_where, begun_by, builder_of, finish_by, finishes, leaves, plan_by}
+use Rattle.b2_machine.specs.Step.{StepEnd, carries_out, enters_or_goes_on, halts_or_acts, lent_to_begin, line_read, runs_or_reads, seen_by, shows_or_goes_on, step, text_in, types_or_goes_on, whose_by}
+use Rattle.b2_machine.specs.Touched.{StepsAskAtTerminal, access_asked, asking, asks_at, asks_to_enter, asks_to_show, asks_to_type, asks_unless_halted}
 use Rattle.b2_machine.specs.Typing.{on_own_line, put_by, puts_numbered, shown_by, shows_pending, takes_or_refuses, typed_by_key}
 use Rattle.b2_machine.proofs.OwnRules.{Own, StaysOwn, ended_stays, line_stays, onward_stays, pressed_stays, put_stays, shown_stays, typed_stays}
 use Rattle.b2_machine.specs.declared.moving.Onward.{Onward}
@@ -94,10 +95,10 @@ finished_stays ways lawful b x a w p me s =
 
 module _ (ways : Ways) (lawful : AreLawful ways) {M : Type 0} (store : M → StoreState) (serving : ServingOf M) (lending : Loan M) where
   -- after a step, and what it asked for
-  abbrev StepAt : ℕ → StepEnd M → Asking → Type 0
-  StepAt t e asks = (e.me.term ≡ t) × AskedAt t asks.access
+  abbrev StepAt : ℕ → StepEnd M → Option Access → Type 0
+  StepAt t e asks = (e.me.term ≡ t) × AskedAt t asks
 
-  by_test : (t : ℕ) (b : Bool) (e f : StepEnd M) (x y : Asking) → StepAt t e x → StepAt t f y → StepAt t (if b then e else f) (if b then x else y)
+  by_test : (t : ℕ) (b : Bool) (e f : StepEnd M) (x y : Option Access) → StepAt t e x → StepAt t f y → StepAt t (if b then e else f) (if b then x else y)
   by_test t true e f x y h k = h
   by_test t false e f x y h k = k
 
@@ -108,20 +109,22 @@ module _ (ways : Ways) (lawful : AreLawful ways) {M : Type 0} (store : M → Sto
       same_terminal me (pressed n own me) (pressed_stays (typed_by_mark n own) (first_opening (is_mark n) own) me)
   read_stays x me m = refl
 
-  carried_stays : (c : Progress) (p : Place) (me : Private) (m : M) → SameTerminal me (carries_out ways store serving lending c p me m).me
-  carried_stays (progress.Ended e) p me m = refl
-  carried_stays (progress.Asks a b w) p me m =
-      let g = serving m me.part a in
-      finished_stays ways lawful b a g.answer w p me (seen_by me (store g.after))
+  carried_stays : (who : ℕ) (c : Progress) (p : Place) (whose : At) (me : Private) (m : M) → SameTerminal me (carries_out ways store serving lending who c p whose me m).me
+  carried_stays who (progress.Ended e) p whose me m = refl
+  carried_stays who (progress.Asks a b w) p whose me m =
+      let g = serving m who a in
+      finished_stays ways lawful b a g.answer w p me (seen_by who p.home whose (store g.after))
 
   at_place : (x : Option Place) (me : Private) (m : M) → StepAt me.term (runs_or_reads ways store serving lending x me m) (asks_at ways x me (store m))
   at_place None me m =
       let g = serving m me.part (access.ReadLine me.term) in
       (read_stays g.answer me g.after, names_own me.term (access.ReadLine me.term) refl)
   at_place (Some p) me m =
-      let b = begins ways p me (seen_by me (store m)) in
-      let h = begins_at ways lawful (statement_placed p me.immediate (seen_by me (store m)).home.lines) p me (seen_by me (store m)) in
-      (carried_stays b.progress p b.me (lent store serving lending me m) ∙ h.0, h.1)
+      let whose = whose_by p me (store m) in
+      let s = seen_by me.part p.home whose (store m) in
+      let b = begins ways p me s in
+      let h = begins_at ways lawful (statement_placed p me.immediate s.home.lines) p me s in
+      (carried_stays me.part b.progress p whose b.me (lent_to_begin store serving lending me.part p.home whose m (leaves ways p me s)) ∙ h.0, h.1)
 
   at_number : (x : Option (ℕ × Option (List ℕ))) (me : Private) (m : M) → StepAt me.term (enters_or_goes_on ways store serving lending x me m) (asks_to_enter ways x me (store m))
   at_number (Some line) me m =

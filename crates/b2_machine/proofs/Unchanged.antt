@@ -14,7 +14,7 @@ use Rattle.b2_access.specs.declared.accesses.Access.{Access}
 use Rattle.b2_access.specs.declared.accesses.Access.TheVariants as access
 use Rattle.b2_access.specs.declared.accesses.Answer.{Answer}
 use Rattle.b2_access.specs.declared.accesses.Answer.TheVariants as answer
-use Rattle.b2_access.specs.declared.lending.At.TheVariants as at
+use Rattle.b2_access.specs.declared.lending.At.{At}
 use Rattle.b2_access.specs.declared.planned.Outcome.{Outcome}
 use Rattle.b2_access.specs.declared.planned.Outcome.TheVariants as outcome
 use Rattle.b2_access.specs.declared.planned.Planned.{Planned}
@@ -29,8 +29,8 @@ use Rattle.b2_machine.specs.Endings.{counts, ends_turn, repeats}
 use Rattle.b2_machine.specs.Listed.{lists}
 use Rattle.b2_machine.specs.Moving.{ends_by, ends_onward, error_place, faults, goes_to, onward_from, place_onward}
 use Rattle.b2_machine.specs.Readiness.{halted, resets}
-use Rattle.b2_machine.specs.Statements.{begins_where, begun_by, builder_of, finish_by, finishes, plan_by}
-use Rattle.b2_machine.specs.Step.{acts, by_itself, enters_or_goes_on, executes, goes_through, halts_or_acts, line_read, runs_or_reads, seen_by, shows_or_goes_on, text_in, types_or_goes_on}
+use Rattle.b2_machine.specs.Statements.{begins_where, begun_by, builder_of, finish_by, finishes, leaves, plan_by}
+use Rattle.b2_machine.specs.Step.{acts, by_itself, enters_or_goes_on, executes, goes_through, halts_or_acts, lent_to_begin, line_read, runs_or_reads, seen_by, shows_or_goes_on, types_or_goes_on, whose_by}
 use Rattle.b2_machine.specs.Typing.{put_by, shown_by, shows_pending, typed_by_key}
 use Rattle.b2_machine.specs.declared.ends.Stepped.{Stepped}
 use Rattle.b2_machine.specs.declared.ends.Why.TheVariants as reason
@@ -106,18 +106,21 @@ module _ (ways : Ways) (lawful : AreLawful ways) (before : Private) where
       ended_onward (repeats a) f.outcome w p f.me s.home.lines (λ h. finished b x a me s (delayed a h) ∙ same)
 
   module _ {M : Type 0} (store : M → StoreState) (serving : ServingOf M) (lending : Loan M) where
-    begun : (x : Planned) (b : Builder) (p : Place) (me : Private) (home : Lines) (m : M) → UnchangedIfAsks before me x
-        → Unless (goes_through ways store serving lending (begun_by x b p me home) p m).end (goes_through ways store serving lending (begun_by x b p me home) p m).me
-    begun (planned.Done o) b p me home m same = ended counts o p me home (λ h. cc)
-    begun (planned.Ask a) b p me home m same = let g = serving m me.part a in finishing b a g.answer (onward_from p me home) p me (seen_by me (store g.after)) same
+    begun : (who : ℕ) (x : Planned) (b : Builder) (p : Place) (whose : At) (me : Private) (home : Lines) (m : M) → UnchangedIfAsks before me x
+        → Unless (goes_through ways store serving lending who (begun_by x b p me home) p whose m).end (goes_through ways store serving lending who (begun_by x b p me home) p whose m).me
+    begun who (planned.Done o) b p whose me home m same = ended counts o p me home (λ h. cc)
+    begun who (planned.Ask a) b p whose me home m same = let g = serving m who a in finishing b a g.answer (onward_from p me home) p me (seen_by who p.home whose (store g.after)) same
 
-    unit : (o : Option Statement) (p : Place) (s : SeenLent) (m : M)
-        → Unless (goes_through ways store serving lending (begins_where ways o p before s) p m).end (goes_through ways store serving lending (begins_where ways o p before s) p m).me
-    unit None p s m h = cc
-    unit (Some u) p s m h = let x = plan_by ways (builder_of ways u) p before s in begun x.planned (builder_of ways u) p x.me s.home.lines m (plans (builder_of ways u) p s) h
+    unit : (who : ℕ) (o : Option Statement) (p : Place) (whose : At) (s : SeenLent) (m : M)
+        → Unless (goes_through ways store serving lending who (begins_where ways o p before s) p whose m).end (goes_through ways store serving lending who (begins_where ways o p before s) p whose m).me
+    unit who None p whose s m h = cc
+    unit who (Some u) p whose s m h = let x = plan_by ways (builder_of ways u) p before s in begun who x.planned (builder_of ways u) p whose x.me s.home.lines m (plans (builder_of ways u) p s) h
 
     executed : (p : Place) (m : M) → Unless (executes ways store serving lending p before m).end (executes ways store serving lending p before m).me
-    executed p m = unit (statement_placed p before.immediate (text_in (store m) before.part).lines) p (seen_by before (store m)) (lending before.part before.part at.None m None)
+    executed p m =
+        let whose = whose_by p before (store m) in
+        let s = seen_by before.part p.home whose (store m) in
+        unit before.part (statement_placed p before.immediate s.home.lines) p whose s (lent_to_begin store serving lending before.part p.home whose m (leaves ways p before s))
 
     read : (a : Answer) (m : M) → Unless (line_read store serving lending a before m).end (line_read store serving lending a before m).me
     read (answer.Line bytes) m h = cc

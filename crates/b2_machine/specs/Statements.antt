@@ -1,20 +1,24 @@
 -- What a statement plans and how it finishes, by who executes it.
-use Rattle.std.specs.Prelude.{◌==◌, Option, Some, None, is_some, if◌then◌else◌}
+use Rattle.std.specs.Prelude.{◌≡◌, ◌==◌, Bool, true, false, Option, Some, None, is_some, if◌then◌else◌}
 use Rattle.b2_base.specs.declared.codes.TheConstants.{S27_LEFT_OUT}
-use Rattle.b2_atom.specs.Tree.{names_global}
 use Rattle.b2_atom.specs.declared.rows.TheConstants as row
 use Rattle.b2_flow.specs.declared.frame.Place.{Place}
-use Rattle.b2_text.specs.Program.{Lines}
+use Rattle.b2_text.specs.Program.{Lines, TextState}
+use Rattle.b2_vars.specs.Globals.{Globals, unreached}
+use Rattle.b2_vars.specs.Tables.{VarsState}
 use Rattle.b2_access.specs.Lending.{SeenLent}
 use Rattle.b2_access.specs.Placed.{Statement, statement_placed}
 use Rattle.b2_access.specs.Planning.{Finishing, Planning, done, finished, stays}
 use Rattle.b2_access.specs.declared.accesses.Access.{Access}
 use Rattle.b2_access.specs.declared.accesses.Answer.{Answer}
+use Rattle.b2_access.specs.declared.lending.At.{At}
+use Rattle.b2_access.specs.declared.lending.At.TheVariants as at
 use Rattle.b2_access.specs.declared.planned.Outcome.TheVariants as outcome
 use Rattle.b2_access.specs.declared.planned.Planned.{Planned}
 use Rattle.b2_access.specs.declared.planned.Planned.TheVariants as planned
 use Rattle.b2_access.specs.declared.private.Private.{Private}
 use Rattle.b2_language.specs.Languages.{Ways}
+use Rattle.b2_language.specs.Wanted.{wanted_at}
 use Rattle.b2_access.specs.Showing.{shown}
 use Rattle.b2_access.specs.Working.{ended}
 use Rattle.b2_machine.specs.Endings.{Ending, counts, repeats}
@@ -24,16 +28,21 @@ use Rattle.b2_machine.specs.Readiness.{rests}
 use Rattle.b2_machine.specs.declared.moving.Onward.{Onward}
 use Rattle.b2_machine.specs.declared.statements.Builder.{Builder}
 use Rattle.b2_machine.specs.declared.statements.Builder.TheVariants as builder
+use Rattle.b2_machine.specs.declared.statements.Opening.{Opening}
+use Rattle.b2_machine.specs.declared.statements.Opening.TheVariants as opening
 use Rattle.b2_machine.specs.declared.statements.Progress.{Progress}
 use Rattle.b2_machine.specs.declared.statements.Progress.TheVariants as progress
 
--- who executes a statement; nobody does yet where its row isn't built or an `@` name stands in it
+-- what is seen of texts and of the `@` variables that were lent, where there are such, of which none was reached yet
+abbrev pub seen_there : TextState → TextState → Bool → VarsState → SeenLent
+seen_there own home found globals = record { own = own; home = home; globals = unreached (if found then Some globals else None) }
+
+-- who executes a statement; nobody does yet where its row isn't built
 abbrev pub builder_of : Ways → Statement → Builder
 builder_of ways u =
-    if names_global u.tree then builder.Nobody
-    else (if u.row == row.LIST then builder.Listing (named_range u.tree).0 (named_range u.tree).1
+    if u.row == row.LIST then builder.Listing (named_range u.tree).0 (named_range u.tree).1
     else (if ways.built u.row then builder.Language u.row
-    else builder.Nobody))
+    else builder.Nobody)
 
 -- what the statement at a place plans
 abbrev pub plan_by : Ways → Builder → Place → Private → SeenLent → Planning
@@ -67,9 +76,27 @@ abbrev pub begins_where : Ways → Option Statement → Place → Private → Se
 begins_where ways None p me s = has_ended (rests me)
 begins_where ways (Some u) p me s = begun (plan_by ways (builder_of ways u) p me s) (builder_of ways u) p s.home.lines
 
+-- what the statement at a place leaves of the `@` variables as it plans
+abbrev pub left_where : Ways → Option Statement → Place → Private → SeenLent → Globals
+left_where ways None p me s = s.globals
+left_where ways (Some u) p me s = (plan_by ways (builder_of ways u) p me s).globals
+
+abbrev pub leaves : Ways → Place → Private → SeenLent → Globals
+leaves ways p me s = left_where ways (statement_placed p me.immediate s.home.lines) p me s
+
+-- whether some `@` variables are wanted
+abbrev pub wants : At → Bool
+wants at.None = false
+wants whose = true
+
 -- the statement at a place begins
 abbrev pub begins : Ways → Place → Private → SeenLent → Begun
 begins ways p me s = begins_where ways (statement_placed p me.immediate s.home.lines) p me s
+
+-- Where texts alone are lent, it begins if it wants no `@` variables. If it wants some, nothing has changed.
+abbrev pub Opens : Ways → Place → Private → Private → SeenLent → Opening → Type 0
+Opens ways p me after s (opening.Began c) = (wanted_at p me s.home.lines ≡ at.None) × (record { me = after; progress = c } ≡ begins ways p me s)
+Opens ways p me after s (opening.Wants whose) = (wanted_at p me s.home.lines ≡ whose) × (wants whose ≡ true) × (after ≡ me)
 
 -- and ends by the answer to its access
 abbrev pub ends_with : Finishing → Answer → Onward → Place → Lines → Ending

@@ -3,6 +3,8 @@ use Rattle.std.specs.Prelude.{◌≡◌, ℕ, IsSome, OnOk, Result}
 use Rattle.b2_access.specs.Store.{StoreState, content}
 use Rattle.b2_access.specs.Touching.{IsLegal}
 use Rattle.b2_access.specs.declared.objects.Object.{Object}
+use Rattle.b2_machine.specs.declared.statements.Opening.{Opening}
+use Rattle.b2_machine.specs.declared.statements.Opening.TheVariants as opening
 use Rattle.b2_machine.specs.declared.statements.Progress.{Progress}
 use Rattle.b2_machine.specs.declared.statements.Progress.TheVariants as progress
 
@@ -17,7 +19,11 @@ pub record Keeps {A E H : Type 0} (result : Result A E) (held holds : H) (p q : 
   pub part : q ≡ p
   pub listed : OnOk result (KeepsAll s t)
 
--- a statement asks for no line above 9999
+-- a statement asks for what may be asked for
 abbrev pub IsLegalProgress : Progress → Type 0
 IsLegalProgress (progress.Ended e) = Unit {0}
 IsLegalProgress (progress.Asks a b w) = IsLegal a
+
+abbrev pub IsLegalOpening : Opening → Type 0
+IsLegalOpening (opening.Began c) = IsLegalProgress c
+IsLegalOpening (opening.Wants whose) = Unit {0}

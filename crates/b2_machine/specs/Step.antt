@@ -2,8 +2,9 @@
 use Rattle.std.specs.Prelude.{false, ℕ, List, [], Option, Some, None, unwrap_or, if◌then◌else◌}
 use Rattle.b2_flow.specs.declared.frame.Place.{Place}
 use Rattle.b2_text.specs.Program.{TextState}
+use Rattle.b2_vars.specs.Globals.{unreached}
 use Rattle.b2_access.specs.Lending.{SeenLent}
-use Rattle.b2_access.specs.Loans.{Loan}
+use Rattle.b2_access.specs.Loans.{Loan, globals_at}
 use Rattle.b2_access.specs.Partition.{is_ready}
 use Rattle.b2_access.specs.Sharing.{Gives, ServingOf}
 use Rattle.b2_access.specs.Store.{StoreState, content}
@@ -11,14 +12,16 @@ use Rattle.b2_access.specs.declared.accesses.Access.{Access}
 use Rattle.b2_access.specs.declared.accesses.Access.TheVariants as access
 use Rattle.b2_access.specs.declared.accesses.Answer.{Answer}
 use Rattle.b2_access.specs.declared.accesses.Answer.TheVariants as answer
+use Rattle.b2_access.specs.declared.lending.At.{At}
 use Rattle.b2_access.specs.declared.lending.At.TheVariants as at
 use Rattle.b2_access.specs.declared.objects.Object.TheVariants as object
 use Rattle.b2_access.specs.declared.private.Private.{Private}
 use Rattle.b2_language.specs.Languages.{Ways}
+use Rattle.b2_language.specs.Wanted.{wanted_at}
 use Rattle.b2_machine.specs.Endings.{Ending, again, carries_on}
 use Rattle.b2_machine.specs.Keys.{pressed}
 use Rattle.b2_machine.specs.Readiness.{halted, resets}
-use Rattle.b2_machine.specs.Statements.{Begun, begins, finishes}
+use Rattle.b2_machine.specs.Statements.{Begun, begins, finish_by, finishes, leaves}
 use Rattle.b2_machine.specs.declared.moving.Onward.{Onward}
 use Rattle.b2_machine.specs.declared.statements.Builder.{Builder}
 use Rattle.b2_machine.specs.declared.statements.Progress.{Progress}
@@ -39,14 +42,26 @@ no_text = record { area = 0; lines = [] }
 abbrev pub text_in : StoreState → ℕ → TextState
 text_in s p = unwrap_or (content s (object.Text p)) no_text
 
--- what its statements see: until names of global texts come the home is the partition itself, and there are no `@` variables
-abbrev pub seen_by : Private → StoreState → SeenLent
-seen_by me s = record { own = text_in s me.part; home = text_in s me.part; globals = None }
+-- what its statements see: the own text, that of the home, and the `@` variables that are lent, of which none was reached yet
+abbrev pub seen_by : ℕ → ℕ → At → StoreState → SeenLent
+seen_by who home whose s = record { own = text_in s who; home = text_in s home; globals = unreached (globals_at home whose s) }
+
+-- whose `@` variables are lent to the statement at a place
+abbrev pub whose_by : Place → Private → StoreState → At
+whose_by p me s = wanted_at p me (text_in s p.home).lines
+
+abbrev pub seen_at : Place → Private → StoreState → SeenLent
+seen_at p me s = seen_by me.part p.home (whose_by p me s) s
 
 module _ {M : Type 0} (store : M → StoreState) (serving : ServingOf M) (lending : Loan M) where
-  -- the own text is lent, and no `@` variables
-  abbrev pub lent : Private → M → M
-  lent me m = lending me.part me.part at.None m None
+  -- texts are lent, and no `@` variables
+  abbrev pub texts_lent : ℕ → ℕ → M → M
+  texts_lent who home m = lending who home at.None m (unreached None)
+
+  -- To a statement texts are lent first, by which its unit is found. Where that wants `@` variables, these are lent then.
+  abbrev pub lent_to_begin : Loan M
+  lent_to_begin who home at.None m left = texts_lent who home m
+  lent_to_begin who home whose m left = lending who home whose (texts_lent who home m) left
 
   -- nothing is asked of the store
   abbrev pub by_itself : Ending → M → StepEnd M
@@ -70,7 +85,7 @@ module _ {M : Type 0} (store : M → StoreState) (serving : ServingOf M) (lendin
   -- or a line is read, and where it is a special function key that ends the reading, the own text says what that does
   abbrev pub line_read : Answer → Private → M → StepEnd M
   line_read (answer.Line bytes) me m = by_itself (carries_on (line_taken bytes me)) m
-  line_read (answer.Special n) me m = by_itself (carries_on (pressed n (text_in (store m) me.part).lines me)) (lent me m)
+  line_read (answer.Special n) me m = by_itself (carries_on (pressed n (text_in (store m) me.part).lines me)) (texts_lent me.part me.part m)
   line_read a me m = by_itself (again a me) m
 
   abbrev pub read_by : Gives M → Private → StepEnd M
@@ -85,19 +100,32 @@ module _ {M : Type 0} (store : M → StoreState) (serving : ServingOf M) (lendin
 
 module _ (ways : Ways) {M : Type 0} (store : M → StoreState) (serving : ServingOf M) (lending : Loan M) where
   -- the sixth: the statement at its place is executed. It ends at once over what is lent, or over what is lent again after
-  -- the access that it planned.
-  abbrev pub finishes_by : Builder → Access → Onward → Place → Private → Gives M → StepEnd M
-  finishes_by b a w p me g = by_itself store serving lending (finishes ways b a g.answer w p me (seen_by me (store g.after))) (lent store serving lending me g.after)
+  -- the access that it planned, for the same home and by the same name; what it leaves of the `@` variables is put back.
+  abbrev pub finishes_by : ℕ → Builder → Access → Onward → Place → At → Private → Gives M → StepEnd M
+  finishes_by who b a w p whose me g =
+      let s = seen_by who p.home whose (store g.after) in
+      by_itself store serving lending (finishes ways b a g.answer w p me s) (lending who p.home whose g.after (finish_by ways b a g.answer me s).globals)
 
-  abbrev pub carries_out : Progress → Place → Private → M → StepEnd M
-  carries_out (progress.Ended e) p me m = record { me = me; after = m; end = e }
-  carries_out (progress.Asks a b w) p me m = finishes_by b a w p me (serving m me.part a)
+  abbrev pub carries_out : ℕ → Progress → Place → At → Private → M → StepEnd M
+  carries_out who (progress.Ended e) p whose me m = record { me = me; after = m; end = e }
+  carries_out who (progress.Asks a b w) p whose me m = finishes_by who b a w p whose me (serving m who a)
 
-  abbrev pub goes_through : Begun → Place → M → StepEnd M
-  goes_through b p m = carries_out b.progress p b.me m
+  abbrev pub goes_through : ℕ → Begun → Place → At → M → StepEnd M
+  goes_through who b p whose m = carries_out who b.progress p whose b.me m
+
+  abbrev pub executes_by : At → Place → Private → M → StepEnd M
+  executes_by whose p me m =
+      let s = seen_by me.part p.home whose (store m) in
+      goes_through me.part (begins ways p me s) p whose (lent_to_begin store serving lending me.part p.home whose m (leaves ways p me s))
+
+  -- over the `@` variables that are wanted
+  abbrev pub executes_over : At → Place → Private → M → StepEnd M
+  executes_over whose p me m =
+      let s = seen_by me.part p.home whose (store m) in
+      goes_through me.part (begins ways p me s) p whose (lending me.part p.home whose m (leaves ways p me s))
 
   abbrev pub executes : Place → Private → M → StepEnd M
-  executes p me m = goes_through (begins ways p me (seen_by me (store m))) p (lent store serving lending me m)
+  executes p me m = executes_by (whose_by p me (store m)) p me m
 
   -- the rules from the third on
   abbrev pub runs_or_reads : Option Place → Private → M → StepEnd M

@@ -1,78 +1,70 @@
--- What a step touches and writes: the own text, and what its access touches and writes.
-use Rattle.std.specs.Prelude.{◌≡◌, ℕ, Bool, true, false, List, [], ◌∷◌, Option, Some, None, if◌then◌else◌}
+-- What a step asks for, and what it touches and writes: the own text, and what its access touches and writes; and where a statement is
+-- executed, the text of its home, and the name and the `@` variables that are lent to it.
+use Rattle.std.specs.Prelude.{◌≡◌, ◌⊎◌, ℕ, Bool, true, false, List, [], ◌∷◌, ◌++◌, Option, Some, None, if◌then◌else◌}
 use Rattle.b2_flow.specs.declared.frame.Place.{Place}
 use Rattle.b2_access.specs.Homes.{IsWithin}
-use Rattle.b2_access.specs.Loans.{Loan}
+use Rattle.b2_access.specs.Leading.{LeadsTo, TouchedNamesIn}
+pub use Rattle.b2_access.specs.Loans.{reached_objects}
+use Rattle.b2_access.specs.Loans.{Loan, loan_touched}
 use Rattle.b2_access.specs.OwnDevices.{ReachesListed}
 use Rattle.b2_access.specs.OwnTerminal.{AskedAt}
 use Rattle.b2_access.specs.Partition.{is_ready}
 use Rattle.b2_access.specs.Pending.{IsForListed, KeepsOrShows}
-use Rattle.b2_access.specs.Sharing.{ServingOf, writes}
+use Rattle.b2_access.specs.Sharing.{Gives, ServingOf, writes}
 use Rattle.b2_access.specs.Store.{StoreState, AgreeOn, IsIn, content}
 use Rattle.b2_access.specs.Touching.{touched}
 use Rattle.b2_access.specs.declared.accesses.Access.{Access}
 use Rattle.b2_access.specs.declared.accesses.Access.TheVariants as access
 use Rattle.b2_access.specs.declared.devices.Device.{Device}
+use Rattle.b2_access.specs.declared.lending.At.{At}
+use Rattle.b2_access.specs.declared.lending.At.TheVariants as at
 use Rattle.b2_access.specs.declared.objects.Object.{Object}
 use Rattle.b2_access.specs.declared.objects.Object.TheVariants as object
 use Rattle.b2_access.specs.declared.private.Private.{Private}
 use Rattle.b2_language.specs.Languages.{Ways}
-use Rattle.b2_machine.specs.Statements.{Begun, begins}
-use Rattle.b2_machine.specs.Step.{StepEnd, seen_by, step}
+use Rattle.b2_machine.specs.Statements.{begins, finish_by, leaves}
+use Rattle.b2_machine.specs.Step.{StepEnd, lent_to_begin, seen_at, seen_by, step, whose_by}
 use Rattle.b2_machine.specs.Typing.{puts_numbered, shows_pending}
+use Rattle.b2_machine.specs.declared.statements.Builder.{Builder}
 use Rattle.b2_machine.specs.declared.statements.Progress.{Progress}
 use Rattle.b2_machine.specs.declared.statements.Progress.TheVariants as progress
 
--- who asks, and the access that is asked for: None where a step asks for none
-pub record Asking : Type 0 where
-  pub who : ℕ
-  pub access : Option Access
-
-abbrev pub asks_nothing : Private → Asking
-asks_nothing me = record { who = me.part; access = None }
-
-abbrev pub asks_one : Access → Private → Asking
-asks_one a me = record { who = me.part; access = Some a }
-
--- a statement has ended, or it asks
+-- the access that a statement asks for: none where it has ended
 abbrev pub access_asked : Progress → Option Access
 access_asked (progress.Ended e) = None
 access_asked (progress.Asks a b w) = Some a
 
-abbrev pub begun_asks : Begun → Asking
-begun_asks b = record { who = b.me.part; access = access_asked b.progress }
-
 -- the sixth rule and the fourth: the statement at the place asks, or a line is read
-abbrev pub asks_at : Ways → Option Place → Private → StoreState → Asking
-asks_at ways None me s = asks_one (access.ReadLine me.term) me
-asks_at ways (Some p) me s = begun_asks (begins ways p me (seen_by me s))
+abbrev pub asks_at : Ways → Option Place → Private → StoreState → Option Access
+asks_at ways None me s = Some (access.ReadLine me.term)
+asks_at ways (Some p) me s = access_asked (begins ways p me (seen_at p me s)).progress
 
 -- the fifth: a numbered line is put
-abbrev pub asks_to_enter : Ways → Option (ℕ × Option (List ℕ)) → Private → StoreState → Asking
-asks_to_enter ways (Some line) me s = asks_one (puts_numbered line) me
+abbrev pub asks_to_enter : Ways → Option (ℕ × Option (List ℕ)) → Private → StoreState → Option Access
+asks_to_enter ways (Some line) me s = Some (puts_numbered line)
 asks_to_enter ways None me s = asks_at ways me.place me s
 
 -- the fourth: a literal is typed
-abbrev pub asks_to_type : Ways → Option (List ℕ) → Private → StoreState → Asking
-asks_to_type ways (Some text) me s = asks_one (access.Insert me.term text) me
+abbrev pub asks_to_type : Ways → Option (List ℕ) → Private → StoreState → Option Access
+asks_to_type ways (Some text) me s = Some (access.Insert me.term text)
 asks_to_type ways None me s = asks_to_enter ways me.numbered me s
 
 -- the third: pending output is shown
-abbrev pub asks_to_show : Ways → Option (List ℕ × List ℕ) → Private → StoreState → Asking
-asks_to_show ways (Some shown) me s = asks_one (shows_pending shown.0 shown.1 me) me
+abbrev pub asks_to_show : Ways → Option (List ℕ × List ℕ) → Private → StoreState → Option Access
+asks_to_show ways (Some shown) me s = Some (shows_pending shown.0 shown.1 me)
 asks_to_show ways None me s = asks_to_type ways me.literal me s
 
-abbrev pub asks_as_it_acts : Ways → Private → StoreState → Asking
+abbrev pub asks_as_it_acts : Ways → Private → StoreState → Option Access
 asks_as_it_acts ways me s = asks_to_show ways me.pending me s
 
 -- the second and the first: a halt and a reset ask for nothing
-abbrev pub asks_unless_halted : Ways → Private → StoreState → Asking
-asks_unless_halted ways me s = if is_ready me then asks_as_it_acts ways (record me { halt = false }) s else asks_nothing me
+abbrev pub asks_unless_halted : Ways → Private → StoreState → Option Access
+asks_unless_halted ways me s = if is_ready me then asks_as_it_acts ways (record me { halt = false }) s else None
 
--- WHAT A STEP ASKS FOR
-abbrev pub asking : Ways → Private → StoreState → Asking
+-- WHAT A STEP ASKS FOR, for its partition: None where it asks for nothing
+abbrev pub asking : Ways → Private → StoreState → Option Access
 asking ways me s =
-    if me.reset then asks_nothing me
+    if me.reset then None
     else (if me.halt then asks_unless_halted ways me s
     else asks_as_it_acts ways me s)
 
@@ -83,62 +75,129 @@ AskedListed devices who (Some a) = ReachesListed devices who a
 
 -- A step asks for devices that the table lists for its partition, and for no others, where what waits to be shown is for one of these.
 abbrev pub StepsAskForListed : (List Device → Ways) → Type 0
-StepsAskForListed ways = (devices : List Device) (me : Private) (s : StoreState) → IsForListed devices me.part me.pending → AskedListed devices me.part (asking (ways devices) me s).access
+StepsAskForListed ways = (devices : List Device) (me : Private) (s : StoreState) → IsForListed devices me.part me.pending → AskedListed devices me.part (asking (ways devices) me s)
 
 abbrev pub touched_where : Option Access → ℕ → StoreState → List Object
 touched_where None who s = []
 touched_where (Some a) who s = touched s who a
 
--- Each step touches the own text, which is lent to statements; so long as no names of global texts come, it is that of the home.
--- It is lent again to whoever asked.
-abbrev pub touched_by : ℕ → Asking → StoreState → List Object
-touched_by part x s = object.Text part ∷ object.Text x.who ∷ touched_where x.access x.who s
+-- Where a statement begins, what its loans touch: that of the texts, and that of `@` variables, where its unit wants some.
+abbrev pub begin_touched : ℕ → ℕ → At → StoreState → List Object
+begin_touched who home at.None s = loan_touched who home at.None s
+begin_touched who home whose s = loan_touched who home at.None s ++ loan_touched who home whose s
 
--- THE OBJECTS THAT A STEP TOUCHES
-abbrev pub step_touched : Ways → Private → StoreState → List Object
-step_touched ways me s = touched_by me.part (asking ways me s) s
+-- what a step touches, and what it writes
+pub record Told : Type 0 where
+  pub touched : List Object
+  pub written : List Object
 
-module _ {M : Type 0} (store : M → StoreState) (serving : ServingOf M) where
+abbrev pub tells_both : List Object → List Object → Told → Told
+tells_both touched written rest = record { touched = touched ++ rest.touched; written = written ++ rest.written }
+
+module _ {M : Type 0} (store : M → StoreState) (serving : ServingOf M) (lending : Loan M) where
   abbrev pub written_where : Option Access → ℕ → M → List Object
   written_where None who m = []
   written_where (Some a) who m = writes store serving m who a
 
-  abbrev pub written_for : Asking → M → List Object
-  written_for x m = written_where x.access x.who m
+  -- a step by one of the first five rules
+  abbrev pub tells : ℕ → Option Access → M → Told
+  tells part a m = record { touched = object.Text part ∷ touched_where a part (store m); written = written_where a part m }
 
-  -- A step of a partition by what it asks for, from two meanings: the lists, the private state, the end, and the contents of what
-  -- it writes are the same.
-  pub record GoesAlike (part : ℕ) (asks : StoreState → Asking) (goes : M → StepEnd M) (m n : M) : Type 0 where
-    pub touches : touched_by part (asks (store m)) (store m) ≡ touched_by part (asks (store n)) (store n)
-    pub wrote : written_for (asks (store m)) m ≡ written_for (asks (store n)) n
+module _ (ways : Ways) {M : Type 0} (store : M → StoreState) (serving : ServingOf M) (lending : Loan M) where
+  -- by the sixth: what a statement asks for, and what is lent to it again
+  abbrev pub tells_finishing : ℕ → Builder → Access → Place → At → Private → Gives M → Told
+  tells_finishing who b a p whose me g = record {
+    touched = loan_touched who p.home whose (store g.after);
+    written = reached_objects (finish_by ways b a g.answer me (seen_by who p.home whose (store g.after))).globals.reached p.home whose (store g.after);
+  }
+
+  abbrev pub tells_carrying : ℕ → Progress → Place → At → Private → M → Told
+  tells_carrying who (progress.Ended e) p whose me m = record { touched = []; written = [] }
+  tells_carrying who (progress.Asks a b w) p whose me m = tells_both (touched (store m) who a) (writes store serving m who a) (tells_finishing who b a p whose me (serving m who a))
+
+  -- and where it begins
+  abbrev pub tells_executing : At → Place → Private → M → Told
+  tells_executing whose p me m =
+      let s = seen_by me.part p.home whose (store m) in
+      let b = begins ways p me s in
+      let left = leaves ways p me s in
+      tells_both (begin_touched me.part p.home whose (store m)) (reached_objects left.reached p.home whose (store m))
+      (tells_carrying me.part b.progress p whose b.me (lent_to_begin store serving lending me.part p.home whose m left))
+
+  abbrev pub told_at : Option Place → Private → M → Told
+  told_at None me m = tells store serving lending me.part (Some (access.ReadLine me.term)) m
+  told_at (Some p) me m = tells_executing (whose_by p me (store m)) p me m
+
+  abbrev pub told_entering : Option (ℕ × Option (List ℕ)) → Private → M → Told
+  told_entering (Some line) me m = tells store serving lending me.part (Some (puts_numbered line)) m
+  told_entering None me m = told_at me.place me m
+
+  abbrev pub told_typing : Option (List ℕ) → Private → M → Told
+  told_typing (Some text) me m = tells store serving lending me.part (Some (access.Insert me.term text)) m
+  told_typing None me m = told_entering me.numbered me m
+
+  abbrev pub told_showing : Option (List ℕ × List ℕ) → Private → M → Told
+  told_showing (Some shown) me m = tells store serving lending me.part (Some (shows_pending shown.0 shown.1 me)) m
+  told_showing None me m = told_typing me.literal me m
+
+  abbrev pub told_acting : Private → M → Told
+  told_acting me m = told_showing me.pending me m
+
+  abbrev pub told_unless_halted : Private → M → Told
+  told_unless_halted me m = if is_ready me then told_acting (record me { halt = false }) m else tells store serving lending me.part None m
+
+  -- WHAT A STEP TOUCHES AND WRITES
+  abbrev pub told : Private → M → Told
+  told me m =
+      if me.reset then tells store serving lending me.part None m
+      else (if me.halt then told_unless_halted me m
+      else told_acting me m)
+
+  abbrev pub step_touched : Private → M → List Object
+  step_touched me m = (told me m).touched
+
+  abbrev pub step_written : Private → M → List Object
+  step_written me m = (told me m).written
+
+module _ {M : Type 0} (store : M → StoreState) where
+  -- A step of a partition by what it tells, from two meanings: the lists, the private state, the end, and the contents of what it writes
+  -- are the same.
+  pub record GoesAlike (tells : M → Told) (goes : M → StepEnd M) (m n : M) : Type 0 where
+    pub touches : (tells m).touched ≡ (tells n).touched
+    pub wrote : (tells m).written ≡ (tells n).written
     pub own : (goes m).me ≡ (goes n).me
     pub end : (goes m).end ≡ (goes n).end
-    pub contents : AgreeOn (written_for (asks (store m)) m) (store (goes m).after) (store (goes n).after)
+    pub contents : AgreeOn (tells m).written (store (goes m).after) (store (goes n).after)
 
   -- From two meanings that agree on what it touches a step goes alike; all that it doesn't write stays; and what it writes it
   -- touches.
-  pub record GoesLocally (part : ℕ) (asks : StoreState → Asking) (goes : M → StepEnd M) : Type 0 where
-    pub alike : (m n : M) → AgreeOn (touched_by part (asks (store m)) (store m)) (store m) (store n) → GoesAlike part asks goes m n
-    pub others : (m : M) (o : Object) → (IsIn o (written_for (asks (store m)) m) → ⊥) → content (store (goes m).after) o ≡ content (store m) o
-    pub within : (m : M) (o : Object) → IsIn o (written_for (asks (store m)) m) → IsIn o (touched_by part (asks (store m)) (store m))
+  pub record GoesLocally (tells : M → Told) (goes : M → StepEnd M) : Type 0 where
+    pub alike : (m n : M) → AgreeOn (tells m).touched (store m) (store n) → GoesAlike tells goes m n
+    pub others : (m : M) (o : Object) → (IsIn o (tells m).written → ⊥) → content (store (goes m).after) o ≡ content (store m) o
+    pub within : (m : M) (o : Object) → IsIn o (tells m).written → IsIn o (tells m).touched
 
-module _ (ways : Ways) {M : Type 0} (store : M → StoreState) (serving : ServingOf M) where
-  -- THOSE THAT IT WRITES, by the answer to its access
-  abbrev pub step_written : Private → M → List Object
-  step_written me m = written_for store serving (asking ways me (store m)) m
-
+module _ (ways : Ways) {M : Type 0} (store : M → StoreState) (serving : ServingOf M) (lending : Loan M) where
   -- A STEP IS LOCAL
-  abbrev pub StepsAreLocal : Loan M → Type 0
-  StepsAreLocal lending = (me : Private) → GoesLocally store serving me.part (asking ways me) (step ways store serving lending me)
+  abbrev pub StepsAreLocal : Type 0
+  StepsAreLocal = (me : Private) → GoesLocally store (told ways store serving lending me) (step ways store serving lending me)
 
-  -- A step names no partition as a home, and asks as none, but its own and those that were named before.
-  abbrev pub StepsStayWithin : Loan M → Type 0
-  StepsStayWithin lending = (among : ℕ → Bool) (me : Private) (m : M) → IsWithin among me → IsWithin among (step ways store serving lending me m).me × (among (asking ways me (store m)).who ≡ true)
+  -- A step names no partition as a home but its own, those that were named before, and those to whom a name leads that it touches.
+  abbrev pub StepsStayWithin : Type 0
+  StepsStayWithin =
+      (among : ℕ → Bool) (me : Private) (m : M) → TouchedNamesIn among (step_touched ways store serving lending me m) (store m) → IsWithin among me → IsWithin among (step ways store serving lending me m).me
+
+  -- After a step a name leads to whom it led before, or to the partition of the step.
+  abbrev pub StepsLeadNames : Type 0
+  StepsLeadNames = (me : Private) (m : M) (n : List ℕ) (p : ℕ) → LeadsTo (store (step ways store serving lending me m).after) n p → LeadsTo (store m) n p ⊎ (p ≡ me.part)
+
+  -- A step leaves which partition it is.
+  abbrev pub StepsKeepPart : Type 0
+  StepsKeepPart = (me : Private) (m : M) → (step ways store serving lending me m).me.part ≡ me.part
 
   -- A step asks at the terminal of its partition alone, and leaves which one that is.
-  abbrev pub StepsAskAtTerminal : Loan M → Type 0
-  StepsAskAtTerminal lending = (me : Private) (m : M) → ((step ways store serving lending me m).me.term ≡ me.term) × AskedAt me.term (asking ways me (store m)).access
+  abbrev pub StepsAskAtTerminal : Type 0
+  StepsAskAtTerminal = (me : Private) (m : M) → ((step ways store serving lending me m).me.term ≡ me.term) × AskedAt me.term (asking ways me (store m))
 
   -- What waits to be shown after a step waited before, or is for the terminal.
-  abbrev pub StepsShowAtTerminal : Loan M → Type 0
-  StepsShowAtTerminal lending = (me : Private) (m : M) → KeepsOrShows me.pending (step ways store serving lending me m).me.pending
+  abbrev pub StepsShowAtTerminal : Type 0
+  StepsShowAtTerminal = (me : Private) (m : M) → KeepsOrShows me.pending (step ways store serving lending me m).me.pending

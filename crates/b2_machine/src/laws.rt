@@ -6,7 +6,7 @@ ghost use Rattle.b2_access.specs.declared.private.Private.{Private};
 ghost use Rattle.b2_machine.specs.Counting.{StepsCountOrEnd, UncountedStepsChangeNothing};
 ghost use Rattle.b2_machine.specs.OpenFiles.{StepsKeepOpenFiles};
 ghost use Rattle.b2_machine.specs.Step.{step};
-ghost use Rattle.b2_machine.specs.Touched.{StepsAreLocal, StepsAskAtTerminal, StepsAskForListed, StepsShowAtTerminal, StepsStayWithin};
+ghost use Rattle.b2_machine.specs.Touched.{StepsAreLocal, StepsAskAtTerminal, StepsAskForListed, StepsKeepPart, StepsLeadNames, StepsShowAtTerminal, StepsStayWithin};
 
 use b2_access::Shared;
 use b2_language::Language;
@@ -17,15 +17,25 @@ pub fn law_a_step_is_local<L: Language, S: Shared>()
     ensures { (devices : List Device) → StepsAreLocal (L.ways devices) S.store S.serving S.lending }
 {}
 
-/// A step names no partition as a home, in a place or in a frame, and asks as none, but its own and those that were named
-/// before.
+/// A step names no partition as a home, in a place or in a frame, but its own, those that were named before, and those to whom a
+/// name leads that it touches.
 pub fn law_a_step_stays_within<L: Language, S: Shared>()
     ensures { (devices : List Device) → StepsStayWithin (L.ways devices) S.store S.serving S.lending }
+{}
+
+/// After a step a name leads to whom it led before, or to the partition of the step.
+pub fn law_a_step_leads_names<L: Language, S: Shared>()
+    ensures { (devices : List Device) → StepsLeadNames (L.ways devices) S.store S.serving S.lending }
 {}
 
 /// Where no place is kept for CONTINUE while program text runs, a step leaves it so.
 pub fn law_a_step_keeps_no_place<L: Language, S: Shared>()
     ensures { (devices : List Device) (me : Private) (m : S.Meaning) → KeepsNone me → KeepsNone (step (L.ways devices) S.store S.serving S.lending me m).me }
+{}
+
+/// A step leaves which partition it is.
+pub fn law_a_step_keeps_its_part<L: Language, S: Shared>()
+    ensures { (devices : List Device) → StepsKeepPart (L.ways devices) S.store S.serving S.lending }
 {}
 
 /// A step asks at the terminal of its partition alone, and leaves which one that is.

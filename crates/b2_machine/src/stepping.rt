@@ -1,22 +1,26 @@
 // A step: the first of six rules that applies.
-ghost use Rattle.std.specs.Prelude.{◌≡◌, true, List, Some, IfOk, IsSome};
+ghost use Rattle.std.specs.Prelude.{◌≡◌, true, List, Option, Some, IfOk, IsSome, OnOk};
+ghost use Rattle.b2_vars.specs.Globals.{unreached};
+ghost use Rattle.b2_vars.specs.Tables.{VarsState};
 ghost use Rattle.b2_access.specs.declared.devices.Device.{Device};
 ghost use Rattle.b2_access.specs.Answering.{can_answer};
+ghost use Rattle.b2_access.specs.Homes.{PlaceIn};
+ghost use Rattle.b2_access.specs.Leading.{is_present};
 ghost use Rattle.b2_access.specs.Store.{content};
 ghost use Rattle.b2_access.specs.Touching.{IsLegal};
-ghost use Rattle.b2_machine.specs.Statements.{begins, finishes};
-ghost use Rattle.b2_machine.specs.Stays.{Keeps, IsLegalProgress};
+ghost use Rattle.b2_machine.specs.Statements.{Opens, begins, finish_by, finishes, leaves};
+ghost use Rattle.b2_machine.specs.Stays.{Keeps, IsLegalOpening, IsLegalProgress};
 ghost use Rattle.b2_machine.specs.Step as spec;
 
 use crate::ends::{Stepped, counts, repeats};
 use crate::keys::press_over;
 use crate::moving::Onward;
 use crate::readiness::{halt, reset};
-use crate::statements::{Builder, Progress, begin_over, finish_over};
+use crate::statements::{Builder, Opening, Progress, begin_with, finish_with, open_over};
 use crate::typing::{
     after_literal, after_pending, after_put, ask_to_show, atoms_put, put_numbered, take_line,
 };
-use b2_access::{Access, Answer, At, DeviceTable, Object, Private, Shared};
+use b2_access::{Access, Answer, At, DeviceTable, Lent, Object, Private, Shared};
 use b2_base::{ByteList, NoMemory, Part};
 use b2_flow::Place;
 use b2_language::Language;
@@ -109,23 +113,63 @@ fn enter_line<L: Language, S: Shared>(
     after_put(alloc, me, &answer)
 }
 
-/// The statement at a place begins.
+/// The statement at a place begins over texts alone, where it wants no `@` variables.
+fn open<L: Language, S: Shared>(
+    alloc: Global,
+    me: &mut Private,
+    s: &mut S,
+    d: &DeviceTable,
+    place: &Place,
+) -> Result<Opening, NoMemory>
+    requires stands { me.old.place ≡ Some place.now }
+    requires own { IsSome (content (S.store (S.meaning s.old)) (Object.Text me.old.part)) }
+    requires home { IsSome (content (S.store (S.meaning s.old)) (Object.Text place.now.home)) }
+    ensures legal { IfOk result IsLegalOpening }
+    ensures opened { IfOk result (Opens (L.ways d.now) place.now me.old me.new (spec.seen_by me.old.part place.now.home At.None (S.store (S.meaning s.old)))) }
+    ensures lent { S.meaning s.new ≡ spec.texts_lent S.store S.serving S.lending me.old.part place.now.home (S.meaning s.old) }
+    ensures kept { Keeps result (S.holds s.old) (S.holds s.new) me.old.part me.new.part (S.store (S.meaning s.old)) (S.store (S.meaning s.new)) }
+{
+    let part = me.part;
+    open_over::<L>(alloc, me, s.lend(part, place.home, &At::None), d, place)
+}
+
+/// After a loan to a partition the store is told where a receiver among the `@` variables was reached.
+fn note_where_reached<S: Shared>(s: &mut S, who: Part, home: Part, whose: &At, reached: bool)
+    ensures noted { (m : S.Meaning) (left : Option VarsState) → S.meaning s.old ≡ S.lending who home whose.now m (unreached left) → S.meaning s.new ≡ S.lending who home whose.now m (record { vars = left; reached = reached }) }
+    ensures same { S.holds s.new ≡ S.holds s.old }
+{
+    if reached {
+        s.note(who, home, whose);
+    }
+}
+
+/// The statement at a place begins, over texts and the `@` variables that it wants.
 fn begin<L: Language, S: Shared>(
     alloc: Global,
     me: &mut Private,
     s: &mut S,
     d: &DeviceTable,
     place: &Place,
+    whose: &At,
 ) -> Result<Progress, NoMemory>
-    requires stands { me.old.place ≡ Some place.now }
     requires own { IsSome (content (S.store (S.meaning s.old)) (Object.Text me.old.part)) }
+    requires home { IsSome (content (S.store (S.meaning s.old)) (Object.Text place.now.home)) }
     ensures legal { IfOk result IsLegalProgress }
-    ensures begun { IfOk result (λ c. record { me = me.new; progress = c } ≡ begins (L.ways d.now) place.now me.old (spec.seen_by me.old (S.store (S.meaning s.old)))) }
-    ensures lent { S.meaning s.new ≡ spec.lent S.store S.serving S.lending me.old (S.meaning s.old) }
+    ensures begun { IfOk result (λ c. record { me = me.new; progress = c } ≡ begins (L.ways d.now) place.now me.old (spec.seen_by me.old.part place.now.home whose.now (S.store (S.meaning s.old)))) }
+    ensures lent { OnOk result (S.meaning s.new ≡ S.lending me.old.part place.now.home whose.now (S.meaning s.old) (leaves (L.ways d.now) place.now me.old (spec.seen_by me.old.part place.now.home whose.now (S.store (S.meaning s.old))))) }
     ensures kept { Keeps result (S.holds s.old) (S.holds s.new) me.old.part me.new.part (S.store (S.meaning s.old)) (S.store (S.meaning s.new)) }
 {
     let part = me.part;
-    begin_over::<L>(alloc, me, s.lend(part, part, &At::None), d, place)
+    let Lent {
+        own,
+        home,
+        globals,
+        found,
+        ..
+    } = s.lend(part, place.home, whose);
+    let (begun, left) = begin_with::<L>(alloc, me, own, home, globals, found, d, *place);
+    note_where_reached(s, part, place.home, whose, left.reached);
+    begun
 }
 
 /// It finishes, after its access was answered.
@@ -133,21 +177,33 @@ fn finish<L: Language, S: Shared>(
     alloc: Global,
     me: &mut Private,
     s: &mut S,
-    place: Place,
+    place: &Place,
+    whose: &At,
     builder: Builder,
     onward: Onward,
     access: &Access,
-    answer: Answer,
+    answer: &Answer,
 ) -> Result<Stepped, NoMemory>
     requires own { IsSome (content (S.store (S.meaning s.old)) (Object.Text me.old.part)) }
-    requires possible { can_answer access.now answer ≡ true }
-    ensures ended { (devices : List Device) → IfOk result (λ e. record { me = me.new; end = e } ≡ finishes (L.ways devices) builder access.now answer onward place me.old (spec.seen_by me.old (S.store (S.meaning s.old)))) }
-    ensures lent { S.meaning s.new ≡ spec.lent S.store S.serving S.lending me.old (S.meaning s.old) }
+    requires home { IsSome (content (S.store (S.meaning s.old)) (Object.Text place.now.home)) }
+    requires possible { can_answer access.now answer.now ≡ true }
+    ensures ended { (devices : List Device) → IfOk result (λ e. record { me = me.new; end = e } ≡ finishes (L.ways devices) builder access.now answer.now onward place.now me.old (spec.seen_by me.old.part place.now.home whose.now (S.store (S.meaning s.old)))) }
+    ensures lent { (devices : List Device) → OnOk result (S.meaning s.new ≡ S.lending me.old.part place.now.home whose.now (S.meaning s.old) (finish_by (L.ways devices) builder access.now answer.now me.old (spec.seen_by me.old.part place.now.home whose.now (S.store (S.meaning s.old)))).globals) }
     ensures kept { Keeps result (S.holds s.old) (S.holds s.new) me.old.part me.new.part (S.store (S.meaning s.old)) (S.store (S.meaning s.new)) }
 {
     let part = me.part;
-    let lent = s.lend(part, part, &At::None);
-    finish_over::<L>(alloc, me, lent, place, builder, onward, access, &answer)
+    let Lent {
+        own,
+        home,
+        globals,
+        found,
+        ..
+    } = s.lend(part, place.home, whose);
+    let (finished, left) = finish_with::<L>(
+        alloc, me, own, home, globals, found, *place, builder, onward, access, answer,
+    );
+    note_where_reached(s, part, place.home, whose, left.reached);
+    finished
 }
 
 /// What a statement that began asked for is done.
@@ -157,20 +213,43 @@ fn carry_out<L: Language, S: Shared>(
     me: &mut Private,
     s: &mut S,
     place: Place,
+    whose: &At,
     progress: Progress,
 ) -> Result<Stepped, NoMemory>
     requires own { IsSome (content (S.store (S.meaning s.old)) (Object.Text me.old.part)) }
+    requires home { IsSome (content (S.store (S.meaning s.old)) (Object.Text place.home)) }
     requires legal { IsLegalProgress progress }
-    ensures ended { (devices : List Device) → IfOk result (λ e. record { me = me.new; after = S.meaning s.new; end = e } ≡ spec.carries_out (L.ways devices) S.store S.serving S.lending progress place me.old (S.meaning s.old)) }
+    ensures ended { (devices : List Device) → IfOk result (λ e. record { me = me.new; after = S.meaning s.new; end = e } ≡ spec.carries_out (L.ways devices) S.store S.serving S.lending me.old.part progress place whose.now me.old (S.meaning s.old)) }
     ensures kept { Keeps result (S.holds s.old) (S.holds s.new) me.old.part me.new.part (S.store (S.meaning s.old)) (S.store (S.meaning s.new)) }
 {
     match progress {
         Progress::Ended(end) => Ok(end),
         Progress::Asks(access, builder, onward) => {
             let answer = ask_store(s, me.part, &access)?;
-            finish::<L, S>(alloc, me, s, place, builder, onward, &access, answer)
+            finish::<L, S>(
+                alloc, me, s, &place, whose, builder, onward, &access, &answer,
+            )
         }
     }
+}
+
+/// The statement at a place, which wants some `@` variables, is executed.
+#[tactic(auto, using(crate::proofs::Kept::both_kept))]
+fn execute_over<L: Language, S: Shared>(
+    alloc: Global,
+    me: &mut Private,
+    s: &mut S,
+    d: &DeviceTable,
+    place: Place,
+    whose: &At,
+) -> Result<Stepped, NoMemory>
+    requires own { IsSome (content (S.store (S.meaning s.old)) (Object.Text me.old.part)) }
+    requires home { IsSome (content (S.store (S.meaning s.old)) (Object.Text place.home)) }
+    ensures ended { IfOk result (λ e. record { me = me.new; after = S.meaning s.new; end = e } ≡ spec.executes_over (L.ways d.now) S.store S.serving S.lending whose.now place me.old (S.meaning s.old)) }
+    ensures kept { Keeps result (S.holds s.old) (S.holds s.new) me.old.part me.new.part (S.store (S.meaning s.old)) (S.store (S.meaning s.new)) }
+{
+    let progress = begin::<L, S>(alloc, me, s, d, &place, whose)?;
+    carry_out::<L, S>(alloc, me, s, place, whose, progress)
 }
 
 /// The statement at a place is executed.
@@ -184,11 +263,15 @@ fn execute<L: Language, S: Shared>(
 ) -> Result<Stepped, NoMemory>
     requires stands { me.old.place ≡ Some place }
     requires own { IsSome (content (S.store (S.meaning s.old)) (Object.Text me.old.part)) }
+    requires home { IsSome (content (S.store (S.meaning s.old)) (Object.Text place.home)) }
     ensures ended { IfOk result (λ e. record { me = me.new; after = S.meaning s.new; end = e } ≡ spec.executes (L.ways d.now) S.store S.serving S.lending place me.old (S.meaning s.old)) }
     ensures kept { Keeps result (S.holds s.old) (S.holds s.new) me.old.part me.new.part (S.store (S.meaning s.old)) (S.store (S.meaning s.new)) }
 {
-    let progress = begin::<L, S>(alloc, me, s, d, &place)?;
-    carry_out::<L, S>(alloc, me, s, place, progress)
+    let opening = open::<L, S>(alloc, me, s, d, &place)?;
+    match opening {
+        Opening::Began(progress) => carry_out::<L, S>(alloc, me, s, place, &At::None, progress),
+        Opening::Wants(whose) => execute_over::<L, S>(alloc, me, s, d, place, &whose),
+    }
 }
 
 /// The statement at the place is executed, or a line is read.
@@ -199,6 +282,7 @@ fn run_or_read<L: Language, S: Shared>(
     d: &DeviceTable,
 ) -> Result<Stepped, NoMemory>
     requires own { IsSome (content (S.store (S.meaning s.old)) (Object.Text me.old.part)) }
+    requires home { PlaceIn (is_present (S.store (S.meaning s.old))) me.old.place }
     ensures ended { IfOk result (λ e. record { me = me.new; after = S.meaning s.new; end = e } ≡ spec.runs_or_reads (L.ways d.now) S.store S.serving S.lending me.old.place me.old (S.meaning s.old)) }
     ensures kept { Keeps result (S.holds s.old) (S.holds s.new) me.old.part me.new.part (S.store (S.meaning s.old)) (S.store (S.meaning s.new)) }
 {
@@ -216,6 +300,7 @@ fn enter_or_go_on<L: Language, S: Shared>(
     d: &DeviceTable,
 ) -> Result<Stepped, NoMemory>
     requires own { IsSome (content (S.store (S.meaning s.old)) (Object.Text me.old.part)) }
+    requires home { PlaceIn (is_present (S.store (S.meaning s.old))) me.old.place }
     ensures ended { IfOk result (λ e. record { me = me.new; after = S.meaning s.new; end = e } ≡ spec.enters_or_goes_on (L.ways d.now) S.store S.serving S.lending me.old.numbered me.old (S.meaning s.old)) }
     ensures kept { Keeps result (S.holds s.old) (S.holds s.new) me.old.part me.new.part (S.store (S.meaning s.old)) (S.store (S.meaning s.new)) }
 {
@@ -233,6 +318,7 @@ fn type_or_go_on<L: Language, S: Shared>(
     d: &DeviceTable,
 ) -> Result<Stepped, NoMemory>
     requires own { IsSome (content (S.store (S.meaning s.old)) (Object.Text me.old.part)) }
+    requires home { PlaceIn (is_present (S.store (S.meaning s.old))) me.old.place }
     ensures ended { IfOk result (λ e. record { me = me.new; after = S.meaning s.new; end = e } ≡ spec.types_or_goes_on (L.ways d.now) S.store S.serving S.lending me.old.literal me.old (S.meaning s.old)) }
     ensures kept { Keeps result (S.holds s.old) (S.holds s.new) me.old.part me.new.part (S.store (S.meaning s.old)) (S.store (S.meaning s.new)) }
 {
@@ -253,6 +339,7 @@ fn act<L: Language, S: Shared>(
     d: &DeviceTable,
 ) -> Result<Stepped, NoMemory>
     requires own { IsSome (content (S.store (S.meaning s.old)) (Object.Text me.old.part)) }
+    requires home { PlaceIn (is_present (S.store (S.meaning s.old))) me.old.place }
     ensures ended { IfOk result (λ e. record { me = me.new; after = S.meaning s.new; end = e } ≡ spec.shows_or_goes_on (L.ways d.now) S.store S.serving S.lending me.old.pending me.old (S.meaning s.old)) }
     ensures kept { Keeps result (S.holds s.old) (S.holds s.new) me.old.part me.new.part (S.store (S.meaning s.old)) (S.store (S.meaning s.new)) }
 {
@@ -273,6 +360,7 @@ fn halt_or_act<L: Language, S: Shared>(
     d: &DeviceTable,
 ) -> Result<Stepped, NoMemory>
     requires own { IsSome (content (S.store (S.meaning s.old)) (Object.Text me.old.part)) }
+    requires home { PlaceIn (is_present (S.store (S.meaning s.old))) me.old.place }
     ensures ended { IfOk result (λ e. record { me = me.new; after = S.meaning s.new; end = e } ≡ spec.halts_or_acts (L.ways d.now) S.store S.serving S.lending me.old (S.meaning s.old)) }
     ensures kept { Keeps result (S.holds s.old) (S.holds s.new) me.old.part me.new.part (S.store (S.meaning s.old)) (S.store (S.meaning s.new)) }
 {
@@ -283,8 +371,8 @@ fn halt_or_act<L: Language, S: Shared>(
     act::<L, S>(alloc, me, s, d)
 }
 
-/// One step of a partition whose own text is in the store: the first of the six rules that applies. After want of memory
-/// nothing is said of the partition and of what the store means.
+/// One step of a partition whose own text is in the store, and that of the home of its place: the first of the six rules that applies.
+/// After want of memory nothing is said of the partition and of what the store means.
 pub fn step<L: Language, S: Shared>(
     alloc: Global,
     me: &mut Private,
@@ -292,6 +380,7 @@ pub fn step<L: Language, S: Shared>(
     d: &DeviceTable,
 ) -> Result<Stepped, NoMemory>
     requires own { IsSome (content (S.store (S.meaning s.old)) (Object.Text me.old.part)) }
+    requires home { PlaceIn (is_present (S.store (S.meaning s.old))) me.old.place }
     ensures stepped { IfOk result (λ e. record { me = me.new; after = S.meaning s.new; end = e } ≡ spec.step (L.ways d.now) S.store S.serving S.lending me.old (S.meaning s.old)) }
     ensures kept { Keeps result (S.holds s.old) (S.holds s.new) me.old.part me.new.part (S.store (S.meaning s.old)) (S.store (S.meaning s.new)) }
 {

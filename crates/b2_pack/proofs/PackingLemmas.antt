@@ -1,5 +1,5 @@
 -- Values and numbers that are packed from the left, one step at a time.
-use Rattle.std.proofs.Common.{◌≡◌, ℕ, zero, suc, ◌+◌, ◌<◌, ◌≤◌, true, false, List, [], ◌∷◌, ◌++◌, length, drop, take, get_or, Option, Some, None, sym, ap, ◌∙◌, refl, arith, le-ltb, lt-ltb, inl, inr, append_assoc, length-append, length-drop}
+use Rattle.std.proofs.Common.{◌≡◌, ℕ, zero, suc, ◌+◌, ◌<◌, ◌≤◌, Bool, true, false, if◌then◌else◌, List, [], ◌∷◌, ◌++◌, length, drop, take, get_or, Option, Some, None, sym, ap, ◌∙◌, refl, arith, le-ltb, lt-ltb, inl, inr, append_assoc, length-append, length-drop}
 use Rattle.std.proofs.lemmas.Bool.{cases_lt, cases_Bool}
 use Rattle.std.proofs.lemmas.List.{drop_more, take_at, drop_at, take-append-drop, length-take-le, drop-drop}
 use Rattle.b2_pack.proofs.RowLemmas.{row_bytes-length}
@@ -11,7 +11,7 @@ use Rattle.b2_pack.specs.declared.specification.Pair.{Pair}
 use Rattle.b2_pack.specs.declared.specification.Pair.TheVariants as pair
 use Rattle.b2_pack.specs.Specification.{field_length}
 use Rattle.b2_pack.specs.FieldValues.{value_code, bytes_in_field}
-use Rattle.b2_pack.specs.Packing.{Placed, placed_from, lacks_room, written_at, earlier_code, values_code, with_values, numbers_code, numbers_bytes, with_front_bytes}
+use Rattle.b2_pack.specs.Packing.{Placed, placed_from, lacks_room, written_at, earlier_code, placed_fields, fields_code, values_code, with_values, numbers_code, numbers_bytes, with_front_bytes}
 
 -- a buffer with numbers in rows, one after another from a place on
 abbrev pub with_numbers : Row → ℕ → List Number → List ℕ → List ℕ
@@ -46,6 +46,14 @@ code-fits (Some code) next e = e
 pub code-after : (first next : Option ℕ) → earlier_code first next ≡ None → next ≡ None
 code-after None next e = e
 code-after (Some code) next e = absurd (cc)
+
+-- values that have no code by a specification have none by its fields
+unless_refused : (b : Bool) (code : Option ℕ) (refusal : ℕ) → (if b then code else Some refusal) ≡ None → code ≡ None
+unless_refused true code refusal none = none
+unless_refused false code refusal none = cc
+
+pub values-fit : (specification : List ℕ) (vs : List Value) (room : ℕ) → fields_code specification vs room ≡ None → values_code (placed_fields specification) vs room ≡ None
+values-fit specification vs room none = unless_refused _ (values_code (placed_fields specification) vs room) _ none
 
 pub with-done : (ps : List Placed) (buffer : List ℕ) → with_values ps [] buffer ≡ buffer
 with-done [] buffer = refl

@@ -113,10 +113,7 @@ pub fn fields(spec: &[u8], values: &[Value], to: &mut [u8]) -> Result<(), Code>
     ensures stands { OnOk result (Packs (packing.placed_fields spec.now) values.now to.old to.new) }
     ensures refused { OnErr result (to.new ≡ to.old) }
 {
-    if !is_specification(spec) {
-        return Err(Code::known(P58_SPECIFICATION));
-    }
-    check_values(spec, values, to.len())?;
+    check_fields(spec, values, to.len())?;
     put_values(spec, values, to);
     Ok(())
 }

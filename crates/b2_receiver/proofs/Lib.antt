@@ -5,3 +5,4 @@ pub mod Reaching
 pub mod Ended
 pub mod OneKind
 pub mod ReceiverLists
+pub mod Reached

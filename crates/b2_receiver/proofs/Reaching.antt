@@ -62,7 +62,7 @@ made_code_by (Err d) to next c here later h = same d c h ∙ here d refl
     same : (d c : ℕ) → ◌≡◌ {A = Option ℕ} (Some d) (Some c) → c ≡ d
     same d c h = cc
 
-made_code : (os : List Operation) (to : List ℕ) (c : ℕ) → (made_by os to).code ≡ Some c → c ≡ X75_NOT_DECIMAL
+pub made_code : (os : List Operation) (to : List ℕ) (c : ℕ) → (made_by os to).code ≡ Some c → c ≡ X75_NOT_DECIMAL
 made_code [] to c h = cc
 made_code (o ∷ os) to c h =
     made_code_by (operated o.operator to o.operand) to (made_by os) c (λ d is. operation_code o.operator to o.operand d is) (λ new is. made_code os new c is) h

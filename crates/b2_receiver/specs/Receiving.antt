@@ -4,28 +4,27 @@ use Rattle.b2_dec.specs.Number.{Number}
 use Rattle.b2_dec.specs.declared.values.Value.{Value}
 use Rattle.b2_atom.specs.Tree.{Trees}
 use Rattle.b2_expr.specs.Answers.{Answer, TextAnswer}
-use Rattle.b2_receiver.specs.Assigning.{assigned_bytes, assigned_number, assigned_side, assigned_value}
+use Rattle.b2_receiver.specs.Assigning.{assigned_bytes, assigned_number, assigned_side, assigned_value, is_global_receiver}
 use Rattle.b2_receiver.specs.Receivers.{alpha_receiver, number_receiver}
 use Rattle.b2_receiver.specs.RightSide.{Side}
 use Rattle.b2_expr.specs.Value.{context_of}
-use Rattle.b2_expr.specs.Workspace.{WorkState, WorkLeft, on_own, refused}
+use Rattle.b2_expr.specs.Workspace.{WorkState, WorkLeft, among, refused}
 use Rattle.b2_expr.specs.declared.named.Element.{Element}
 use Rattle.b2_receiver.specs.declared.receiver.AlphaReceiver.{AlphaReceiver}
 use Rattle.b2_receiver.specs.declared.receiver.Receiver.{Receiver}
 
--- a number, bytes, a value or the right side of an alpha assignment; a receiver is among the partition's own variables, since
--- none is located among others yet
+-- a number, bytes, a value or the right side of an alpha assignment, among the `@` variables or the own
 abbrev pub given_number : Element → Number → WorkState → WorkLeft
-given_number to x w = on_own (assigned_number to x w.own) w
+given_number to x w = among to.global (assigned_number to x) w
 
 abbrev pub given_bytes : AlphaReceiver → List ℕ → WorkState → WorkLeft
-given_bytes to bytes w = on_own (assigned_bytes to bytes w.own) w
+given_bytes to bytes w = among to.element.global (assigned_bytes to bytes) w
 
 abbrev pub given_value : Receiver → Value → WorkState → WorkLeft
-given_value to x w = on_own (assigned_value to x w.own) w
+given_value to x w = among (is_global_receiver to) (assigned_value to x) w
 
 abbrev pub given_side : AlphaReceiver → Side → WorkState → WorkLeft
-given_side to side w = on_own (assigned_side to side w.own) w
+given_side to side w = among to.element.global (assigned_side to side) w
 
 -- a receiver that was located, and what it takes: its own code comes before that of what it takes
 abbrev pub number_to : Result Element ℕ → Answer → WorkState → WorkLeft

@@ -3,20 +3,108 @@ ghost use Rattle.std.specs.Prelude.{◌≡◌, true, IfOk, Ok};
 ghost use Rattle.b2_atom.specs.declared.rows.TheConstants as row;
 ghost use Rattle.b2_rows.specs.Rows.{is_part, tree_at};
 ghost use Rattle.b2_vars.specs.Variables.{is_alpha};
-ghost use Rattle.b2_receiver.specs.Assigning.{is_alpha_receiver};
-ghost use Rattle.b2_receiver.specs.Receivers.{IsAlpha, IsNamed};
+ghost use Rattle.b2_receiver.specs.Assigning.{assigned_bytes, assigned_number, assigned_side, assigned_value, is_alpha_receiver};
+ghost use Rattle.b2_receiver.specs.Receivers.{IsAlpha, IsNamed, IsNumeric};
 ghost use Rattle.b2_receiver.specs.Receiving as spec;
 ghost use Rattle.b2_receiver.specs.RightSide.{side_seen};
-ghost use Rattle.b2_expr.specs.Workspace.{workspace};
+ghost use Rattle.b2_expr.specs.Workspace.{SameReferences, on_lent, workspace};
 
 use crate::assign::{assign_bytes, assign_number, assign_side, assign_value, code_of};
 use crate::operations::RightSide;
 use crate::receiver::{AlphaReceiver, Receiver};
 use crate::receivers::{alpha_receiver, number_receiver};
 use b2_atom::Cursor;
+use b2_base::codes::X77_NO_PARTITION;
 use b2_base::{Code, NoMemory};
 use b2_dec::{Dec, Value};
-use b2_expr::{Workspace, surroundings_of};
+use b2_expr::{Element, Workspace, reached_after, surroundings_of};
+
+/// Assigns a number among the `@` variables.
+#[tactic(auto, using(crate::proofs::Ended::lent_so))]
+fn give_lent_number(work: &mut Workspace<'_>, to: Element, x: Dec) -> Result<Option<Code>, NoMemory>
+    requires named { IsNumeric to.var }
+    ensures worked { IfOk result (λ code. record { work = workspace work.new; code = code } ≡ on_lent (assigned_number to x) (workspace work.old).globals.vars (workspace work.old)) }
+    ensures same_references { SameReferences work.old work.new }
+{
+    if !work.found {
+        return Ok(Some(Code::known(X77_NO_PARTITION)));
+    }
+    let code = code_of(assign_number(work.globals, to, x))?;
+    work.reached = reached_after(work.reached, &code);
+    Ok(code)
+}
+
+/// Assigns bytes among the `@` variables.
+#[tactic(auto, using(crate::proofs::Ended::lent_so))]
+fn give_lent_bytes(
+    work: &mut Workspace<'_>,
+    to: &AlphaReceiver,
+    bytes: &[u8],
+) -> Result<Option<Code>, NoMemory>
+    requires named { IsAlpha to.now.element.var }
+    ensures worked { IfOk result (λ code. record { work = workspace work.new; code = code } ≡ on_lent (assigned_bytes to.now bytes.now) (workspace work.old).globals.vars (workspace work.old)) }
+    ensures same_references { SameReferences work.old work.new }
+{
+    if !work.found {
+        return Ok(Some(Code::known(X77_NO_PARTITION)));
+    }
+    let code = code_of(assign_bytes(work.globals, to, bytes))?;
+    work.reached = reached_after(work.reached, &code);
+    Ok(code)
+}
+
+/// Assigns a value of a receiver's kind among the `@` variables.
+#[tactic(auto, using(crate::proofs::Ended::lent_so))]
+fn give_lent_value(
+    work: &mut Workspace<'_>,
+    to: &Receiver,
+    value: &Value,
+) -> Result<Option<Code>, NoMemory>
+    requires named { IsNamed to.now }
+    requires kind { is_alpha value.now ≡ is_alpha_receiver to.now }
+    ensures worked { IfOk result (λ code. record { work = workspace work.new; code = code } ≡ on_lent (assigned_value to.now value.now) (workspace work.old).globals.vars (workspace work.old)) }
+    ensures same_references { SameReferences work.old work.new }
+{
+    if !work.found {
+        return Ok(Some(Code::known(X77_NO_PARTITION)));
+    }
+    let code = code_of(assign_value(work.globals, to, value))?;
+    work.reached = reached_after(work.reached, &code);
+    Ok(code)
+}
+
+/// Assigns the right side of an alpha assignment among the `@` variables.
+#[tactic(auto, using(crate::proofs::Ended::lent_so))]
+fn give_lent_side(
+    work: &mut Workspace<'_>,
+    to: &AlphaReceiver,
+    side: &RightSide,
+) -> Result<Option<Code>, NoMemory>
+    requires named { IsAlpha to.now.element.var }
+    ensures worked { IfOk result (λ code. record { work = workspace work.new; code = code } ≡ on_lent (assigned_side to.now (side_seen side.now)) (workspace work.old).globals.vars (workspace work.old)) }
+    ensures same_references { SameReferences work.old work.new }
+{
+    if !work.found {
+        return Ok(Some(Code::known(X77_NO_PARTITION)));
+    }
+    let code = code_of(assign_side(work.globals, to, side))?;
+    work.reached = reached_after(work.reached, &code);
+    Ok(code)
+}
+
+/// Assigns a number to a numeric receiver. Gives the code with which that ended, or none (`assign_number`).
+#[tactic(auto, using(crate::proofs::Ended::worked_so))]
+fn give_number(work: &mut Workspace<'_>, to: Element, x: Dec) -> Result<Option<Code>, NoMemory>
+    requires named { IsNumeric to.var }
+    ensures worked { IfOk result (λ code. record { work = workspace work.new; code = code } ≡ spec.given_number to x (workspace work.old)) }
+    ensures same_references { SameReferences work.old work.new }
+{
+    if to.global {
+        give_lent_number(work, to, x)
+    } else {
+        code_of(assign_number(work.own, to, x))
+    }
+}
 
 /// Assigns bytes to an alpha receiver. Gives the code with which that ended, or none (`assign_bytes`).
 #[tactic(auto, using(crate::proofs::Ended::worked_so))]
@@ -27,9 +115,31 @@ pub fn give_bytes(
 ) -> Result<Option<Code>, NoMemory>
     requires named { IsAlpha to.now.element.var }
     ensures worked { IfOk result (λ code. record { work = workspace work.new; code = code } ≡ spec.given_bytes to.now bytes.now (workspace work.old)) }
-    ensures same_reference { work.new.own.ghost_name ≡ work.old.own.ghost_name }
+    ensures same_references { SameReferences work.old work.new }
 {
-    code_of(assign_bytes(work.own, to, bytes))
+    if to.element.global {
+        give_lent_bytes(work, to, bytes)
+    } else {
+        code_of(assign_bytes(work.own, to, bytes))
+    }
+}
+
+/// Assigns the right side of an alpha assignment (`assign_side`).
+#[tactic(auto, using(crate::proofs::Ended::worked_so))]
+fn give_side(
+    work: &mut Workspace<'_>,
+    to: &AlphaReceiver,
+    side: &RightSide,
+) -> Result<Option<Code>, NoMemory>
+    requires named { IsAlpha to.now.element.var }
+    ensures worked { IfOk result (λ code. record { work = workspace work.new; code = code } ≡ spec.given_side to.now (side_seen side.now) (workspace work.old)) }
+    ensures same_references { SameReferences work.old work.new }
+{
+    if to.element.global {
+        give_lent_side(work, to, side)
+    } else {
+        code_of(assign_side(work.own, to, side))
+    }
 }
 
 /// Assigns a value to a receiver of its kind. Gives the code with which that ended, or none (`assign_value`).
@@ -42,14 +152,17 @@ pub fn give_value(
     requires named { IsNamed to.now }
     requires kind { is_alpha value.now ≡ is_alpha_receiver to.now }
     ensures worked { IfOk result (λ code. record { work = workspace work.new; code = code } ≡ spec.given_value to.now value.now (workspace work.old)) }
-    ensures same_reference { work.new.own.ghost_name ≡ work.old.own.ghost_name }
+    ensures same_references { SameReferences work.old work.new }
 {
-    code_of(assign_value(work.own, to, value))
+    if to.is_global() {
+        give_lent_value(work, to, value)
+    } else {
+        code_of(assign_value(work.own, to, value))
+    }
 }
 
 /// Assigns bytes to the alpha receiver at a text, located among the variables as they are. Gives the first code: of the
 /// receiver, then of assigning to it (`assign_bytes`).
-#[tactic(auto, using(crate::proofs::Ended::worked_so))]
 pub fn assign_bytes_at(
     work: &mut Workspace<'_>,
     bytes: &[u8],
@@ -57,17 +170,15 @@ pub fn assign_bytes_at(
 ) -> Result<Option<Code>, NoMemory>
     requires part { is_part row.ALPHA_RECEIVER text.now ≡ true }
     ensures worked { IfOk result (λ code. record { work = workspace work.new; code = code } ≡ spec.assign_bytes_at (Ok bytes.now) (tree_at row.ALPHA_RECEIVER text.now) (workspace work.old)) }
-    ensures same_reference { work.new.own.ghost_name ≡ work.old.own.ghost_name }
+    ensures same_references { SameReferences work.old work.new }
 {
-    let to = match alpha_receiver(&mut Cursor::over(text), &surroundings_of(work)) {
-        Ok(to) => to,
-        Err(code) => return Ok(Some(code)),
-    };
-    code_of(assign_bytes(work.own, &to, bytes))
+    match alpha_receiver(&mut Cursor::over(text), &surroundings_of(work)) {
+        Ok(to) => give_bytes(work, &to, bytes),
+        Err(code) => Ok(Some(code)),
+    }
 }
 
 /// Assigns the right side of an alpha assignment to the receiver at a text, as `assign_bytes_at` (`assign_side`).
-#[tactic(auto, using(crate::proofs::Ended::worked_so))]
 pub fn assign_side_at(
     work: &mut Workspace<'_>,
     side: &RightSide,
@@ -75,18 +186,16 @@ pub fn assign_side_at(
 ) -> Result<Option<Code>, NoMemory>
     requires part { is_part row.ALPHA_RECEIVER text.now ≡ true }
     ensures worked { IfOk result (λ code. record { work = workspace work.new; code = code } ≡ spec.assign_side_at (side_seen side.now) (tree_at row.ALPHA_RECEIVER text.now) (workspace work.old)) }
-    ensures same_reference { work.new.own.ghost_name ≡ work.old.own.ghost_name }
+    ensures same_references { SameReferences work.old work.new }
 {
-    let to = match alpha_receiver(&mut Cursor::over(text), &surroundings_of(work)) {
-        Ok(to) => to,
-        Err(code) => return Ok(Some(code)),
-    };
-    code_of(assign_side(work.own, &to, side))
+    match alpha_receiver(&mut Cursor::over(text), &surroundings_of(work)) {
+        Ok(to) => give_side(work, &to, side),
+        Err(code) => Ok(Some(code)),
+    }
 }
 
 /// Assigns a number, or gives the code in its place, to the numeric receiver at a text, located among the variables as they
 /// are. Gives the first code: of the receiver, then the one in the number's place, then of assigning (`assign_number`).
-#[tactic(auto, using(crate::proofs::Ended::worked_so))]
 pub fn assign_number_at(
     work: &mut Workspace<'_>,
     x: Result<Dec, Code>,
@@ -94,14 +203,14 @@ pub fn assign_number_at(
 ) -> Result<Option<Code>, NoMemory>
     requires part { is_part row.NUMERIC_RECEIVER text.now ≡ true }
     ensures worked { IfOk result (λ code. record { work = workspace work.new; code = code } ≡ spec.assign_number_at x (tree_at row.NUMERIC_RECEIVER text.now) (workspace work.old)) }
-    ensures same_reference { work.new.own.ghost_name ≡ work.old.own.ghost_name }
+    ensures same_references { SameReferences work.old work.new }
 {
     let to = match number_receiver(&mut Cursor::over(text), &surroundings_of(work)) {
         Ok(to) => to,
         Err(code) => return Ok(Some(code)),
     };
     match x {
-        Ok(x) => code_of(assign_number(work.own, to, x)),
+        Ok(x) => give_number(work, to, x),
         Err(code) => Ok(Some(code)),
     }
 }

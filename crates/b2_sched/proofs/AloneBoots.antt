@@ -90,6 +90,10 @@ objects g b images (object.Globals p) inside = areas_kept g p (λ a. (globals_ro
 objects g b images (object.Terminal t) inside = refl
 objects g b images o inside = refl
 
+-- a name that nobody holds leads to nobody
+pub held_by_nobody : (p : ℕ) → ◌≡◌ {A = Option (Option ℕ)} (Some None) (Some (Some p)) → ⊥
+held_by_nobody p e = cc
+
 pub starts_alike : (g : Group) (b : BootState) (images : Images) → WorldsAlike (IsOutside g) g [] (booted b images) (booted (alone g b) images)
 starts_alike g b images = record {
   quota = refl;
@@ -100,6 +104,7 @@ starts_alike g b images = record {
     homes = λ p me member is. starts_within g p b.partitions me member is;
   };
   stores = λ o clear inside. objects g b images o inside;
+  names = λ n p clear leads. absurd (held_by_nobody p leads);
 }
 
 pub as_alone : CleanGroupsAreAsAlone

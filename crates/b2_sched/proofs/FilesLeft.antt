@@ -1,9 +1,10 @@
 -- What each access leaves as it was a step does, and so a turn, and so all that happens; and a file is so left.
 use Rattle.std.specs.Prelude.{◌≡◌, ℕ, zero, suc, List, [], ◌∷◌, Option, Some, None, refl}
-use Rattle.std.proofs.Common.{sym, subst, ◌∙◌}
+use Rattle.std.proofs.Common.{sym, ◌∙◌}
 use Rattle.b2_term.specs.Terminal.{TerminalState, keyed}
 use Rattle.b2_dec.specs.declared.values.Value.{Value}
 use Rattle.b2_catalog.specs.declared.entry.Entry.{Entry}
+use Rattle.b2_access.specs.Loans.{lends}
 use Rattle.b2_access.specs.Serving.{itself}
 use Rattle.b2_access.specs.Store.{StoreState, content}
 use Rattle.b2_access.specs.Touching.{IsLegal}
@@ -26,7 +27,7 @@ use Rattle.b2_sched.specs.Choice.{basic}
 use Rattle.b2_sched.specs.EachStep.{AtEachStep, EachInAction, EachInTurn, EachOf}
 use Rattle.b2_sched.specs.Files.{AsksElsewhere, FilesOutlastTurns, HeldFilesStay, LeavesFile}
 use Rattle.b2_sched.specs.Lawful.{basic_is_lawful}
-use Rattle.b2_sched.specs.Turns.{after_loan, step_of}
+use Rattle.b2_sched.specs.Turns.{step_of}
 use Rattle.b2_sched.specs.World.{WorldState, Action, Key, Front, Halt, Reset, Turn, does, does_all, private_of, with_turn}
 
 -- ---- what holds of a store, through all that happens
@@ -41,6 +42,9 @@ module _ (addr name : List ℕ) (Holds : StoreState → Type 0)
   abbrev Both : StoreState → Type 0
   Both s = AreSound s × Holds s
 
+  same_both : (s t : StoreState) → ((a : List ℕ) → content t (object.Platter a) ≡ content s (object.Platter a)) → Both s → Both t
+  same_both s t same k = (λ a image there. k.0 a image (sym (same a) ∙ there), moved s t (same addr) k.1)
+
   asked : (x : Option Access) (who : ℕ) (s : StoreState) → IsLegalIfAny x → AsksElsewhere addr name x → Both s → Both (left_where x who s)
   asked None who s legal h k = k
   asked (Some x) who s legal h k = (platters-stay-sound who x s legal k.0, served who x s legal (are-good s k.0) h k.1)
@@ -49,9 +53,11 @@ module _ (addr name : List ℕ) (Holds : StoreState → Type 0)
     in_step : (me : Private) (s : StoreState) → LeavesFile addr name devices me s → Both s → Both (step_of devices me s).after
     in_step me s h k =
         let x = asking (basic devices) me s in
-        subst Both (sym (step_left (basic devices) me s)) (asked x.access x.who s (steps_ask_legally (basic devices) (basic_is_lawful devices) me s) h k)
+        let l = step_left (basic devices) me s in
+        same_both (left_where x me.part l.before) (step_of devices me s).after (λ a. l.left (object.Platter a) refl)
+        (asked x me.part l.before (steps_ask_legally (basic devices) (basic_is_lawful devices) me s) h (same_both s l.before (λ a. l.lent (object.Platter a) refl) k))
 
-    in_turn : (n : ℕ) (me : Private) (s : StoreState) (steps : ℕ) → EachInTurn (LeavesFile addr name) devices n me s → Both s → Both (turn_from (basic devices) itself serves after_loan n me s steps).after
+    in_turn : (n : ℕ) (me : Private) (s : StoreState) (steps : ℕ) → EachInTurn (LeavesFile addr name) devices n me s → Both s → Both (turn_from (basic devices) itself serves lends n me s steps).after
     unfolding turn_from
     in_turn zero me s steps h k = k
     in_turn (suc n) me s steps h k =
@@ -59,8 +65,8 @@ module _ (addr name : List ℕ) (Holds : StoreState → Type 0)
         by x.end.why refl (in_step me s h.0 k) (λ on. in_turn n x.me x.after (counted_on steps x.end) (h.1 on) (in_step me s h.0 k))
       where
         by : (o : Option Why) → (step_of devices me s).end.why ≡ o → Both (step_of devices me s).after
-            → ((step_of devices me s).end.why ≡ None → Both (turn_from (basic devices) itself serves after_loan n (step_of devices me s).me (step_of devices me s).after (counted_on steps (step_of devices me s).end)).after)
-            → Both (unless_ended o (λ w. ended_turn (counted_on steps (step_of devices me s).end) w (step_of devices me s).me (step_of devices me s).after) (turn_from (basic devices) itself serves after_loan n (step_of devices me s).me (step_of devices me s).after (counted_on steps (step_of devices me s).end))).after
+            → ((step_of devices me s).end.why ≡ None → Both (turn_from (basic devices) itself serves lends n (step_of devices me s).me (step_of devices me s).after (counted_on steps (step_of devices me s).end)).after)
+            → Both (unless_ended o (λ w. ended_turn (counted_on steps (step_of devices me s).end) w (step_of devices me s).me (step_of devices me s).after) (turn_from (basic devices) itself serves lends n (step_of devices me s).me (step_of devices me s).after (counted_on steps (step_of devices me s).end))).after
         by None is here later = later is
         by (Some why) is here later = here
 

@@ -3,6 +3,7 @@ use Rattle.std.specs.Prelude.{◌≡◌, ◌⊎◌, Bool, true, false, List, [],
 use Rattle.std.proofs.Common.{sym, ap, subst, inl, inr}
 use Rattle.b2_access.specs.declared.objects.Object.{Object}
 use Rattle.b2_access.specs.Store.{IsIn}
+use Rattle.b2_access.specs.Task.{in_left, in_right}
 use Rattle.b2_audit.specs.Steps.{Step, Group, by_other, foul}
 use Rattle.b2_audit.proofs.CleanSteps.{CleanFrom, in_both}
 
@@ -13,15 +14,6 @@ fouled g x os = by_other g x ++ os
 abbrev pub foul_after : Group → List Step → List Object → List Object
 foul_after g [] os = os
 foul_after g (x ∷ xs) os = foul_after g xs (fouled g x os)
-
-pub in_left : (o : Object) (xs ys : List Object) → IsIn o xs → IsIn o (xs ++ ys)
-in_left o [] ys h = absurd h
-in_left o (x ∷ xs) ys (inl e) = inl e
-in_left o (x ∷ xs) ys (inr h) = inr (in_left o xs ys h)
-
-pub in_right : (o : Object) (xs ys : List Object) → IsIn o ys → IsIn o (xs ++ ys)
-in_right o [] ys h = h
-in_right o (x ∷ xs) ys h = inr (in_right o xs ys h)
 
 -- a step of a member makes nothing foul, and that of another what it wrote
 pub own_fouls_nothing : (g : Group) (x : Step) (os : List Object) → g x.who ≡ true → fouled g x os ≡ os

@@ -6,8 +6,8 @@ use Rattle.b2_access.specs.Lending.{SeenLent}
 use Rattle.b2_access.specs.declared.devices.Device.{Device}
 use Rattle.b2_access.specs.Courses.{Here, here, permitted, units_on}
 use Rattle.b2_access.specs.Placed.{Statement, line_named, statement_on, statement_placed}
-use Rattle.b2_access.specs.Planning.{Planning, done}
-use Rattle.b2_access.specs.Working.{as_planned, ended, plans_by, stops}
+use Rattle.b2_access.specs.Planning.{Planning}
+use Rattle.b2_access.specs.Working.{Ends, as_planned, plans_by, stops}
 use Rattle.b2_access.specs.declared.private.Private.{Private}
 use Rattle.b2_access.proofs.Courses.{found_course, may_stand}
 use Rattle.b2_stmt.specs.Clearing.{asks_access}
@@ -62,7 +62,7 @@ here_is p me s line is_line = ap (λ (l : Option (List ℕ)). record { place = p
 
 module _ (devices : List Device) (p : Place) (me : Private) (s : SeenLent) (line : List ℕ) (u : Statement) (x : Planning) (is : me.place ≡ Some p) (is_line : line_named me.immediate s.home.lines p.line ≡ Some line)
     (is_unit : Some u ≡ statement_on (Some line) p.unit) (at_once : is_at_once u.row ≡ true) where
-  pub variables_at_once : stmt_var.is_built u.row ≡ true → x ≡ done s (ended me (stmt_var.ended_of u me s)) → x ≡ plan devices u.row me s
+  pub variables_at_once : stmt_var.is_built u.row ≡ true → x ≡ as_planned me s (Ends (stmt_var.ended_of u me s)) → x ≡ plan devices u.row me s
   variables_at_once built is_x =
       is_x
       ∙ ap (as_planned me s) (found_course stmt_var.is_refused stops (stmt_var.does me s) p me s u is (unit_here p me s line u is_line is_unit))

@@ -8,6 +8,7 @@ use Rattle.b2_boot.specs.Boots.{BootState}
 use Rattle.b2_boot.specs.Logs.{grants, granted_by}
 use Rattle.b2_boot.specs.declared.log.Event.{Event}
 use Rattle.b2_boot.specs.declared.log.Event.TheVariants as event
+use Rattle.b2_access.specs.Loans.{lends}
 use Rattle.b2_access.specs.Rows.{row_of}
 use Rattle.b2_access.specs.Serving.{itself}
 use Rattle.b2_store.specs.DiskWork.{serves}
@@ -24,7 +25,7 @@ use Rattle.b2_sched.proofs.Lasting.{all_there, does_there, there_from}
 use Rattle.b2_sched.proofs.Numbers.{same_number}
 use Rattle.b2_sched.specs.Laws.{RunsKeepToTheirGrant, TurnsCountAllButOne, present_from, present}
 use Rattle.b2_sched.specs.Start.{booted, private_row}
-use Rattle.b2_sched.specs.Turns.{after_loan, step_of, step_noted, steps_in_turn, turn_of}
+use Rattle.b2_sched.specs.Turns.{step_of, step_noted, steps_in_turn, turn_of}
 use Rattle.b2_sched.specs.World.{WorldState, Turn, private_of, with_turn, actions, does, does_all, happens, ran, rounds, turns_from}
 
 -- a turn by its next step
@@ -38,13 +39,13 @@ few_by None c n k me s t h few = omega arith
 few_by (Some w) c n k me s t h few = omega arith
 
 module _ (devices : List Device) where
-  few_from : (n : ℕ) (me : Private) (s : StoreState) (k : ℕ) → (turn_from (basic devices) itself serves after_loan n me s k).turned.steps ≤ k + n
+  few_from : (n : ℕ) (me : Private) (s : StoreState) (k : ℕ) → (turn_from (basic devices) itself serves lends n me s k).turned.steps ≤ k + n
   unfolding turn_from
   few_from zero me s k = omega arith
   few_from (suc n) me s k =
       let x = step_of devices me s in
       let c = counted_on k x.end in
-      few_by x.end.why c n k x.me x.after (turn_from (basic devices) itself serves after_loan n x.me x.after c) (counted_few x.end.counted k) (few_from n x.me x.after c)
+      few_by x.end.why c n k x.me x.after (turn_from (basic devices) itself serves lends n x.me x.after c) (counted_few x.end.counted k) (few_from n x.me x.after c)
 
   turn_few : (quota : ℕ) (me : Private) (s : StoreState) → (turn_of devices quota me s).turned.steps ≤ quota
   turn_few quota me s = let few = few_from quota me s 0 in omega arith
@@ -59,14 +60,14 @@ more_by (Some w) true told rest k me s t ends h = omega arith
 more_by (Some w) false told rest k me s t ends h = omega arith
 
 module _ (devices : List Device) where
-  more_from : (who n : ℕ) (me : Private) (s : StoreState) (k : ℕ) → length (steps_in_turn devices who n me s) + k ≤ (turn_from (basic devices) itself serves after_loan n me s k).turned.steps + 1
+  more_from : (who n : ℕ) (me : Private) (s : StoreState) (k : ℕ) → length (steps_in_turn devices who n me s) + k ≤ (turn_from (basic devices) itself serves lends n me s k).turned.steps + 1
   unfolding steps_in_turn turn_from
   more_from who zero me s k = omega arith
   more_from who (suc n) me s k =
       let x = step_of devices me s in
       let c = counted_on k x.end in
-      more_by x.end.why x.end.counted (step_noted devices who me s) (steps_in_turn devices who n x.me x.after) k x.me x.after (turn_from (basic devices) itself serves after_loan n x.me x.after c)
-      (steps_count_or_end (basic devices) itself serves after_loan me s) (more_from who n x.me x.after c)
+      more_by x.end.why x.end.counted (step_noted devices who me s) (steps_in_turn devices who n x.me x.after) k x.me x.after (turn_from (basic devices) itself serves lends n x.me x.after c)
+      (steps_count_or_end (basic devices) itself serves lends me s) (more_from who n x.me x.after c)
 
 no_more : (n : ℕ) → n + 0 ≡ n
 no_more n = omega arith

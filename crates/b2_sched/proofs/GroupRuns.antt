@@ -14,7 +14,7 @@ use Rattle.b2_machine.specs.Turn.{TurnEnd}
 use Rattle.b2_audit.proofs.CleanSteps.{CleanFrom, clean_steps}
 use Rattle.b2_sched.proofs.Foul.{clean_first, clean_rest, foul_after, foul_append, foul_so_far, stays_foul}
 use Rattle.b2_sched.proofs.GroupRows.{both_rows, first_rows, rows_changed}
-use Rattle.b2_sched.proofs.GroupTurns.{IsOut, members_foul, members_turn, others_turn, turn_stays_within}
+use Rattle.b2_sched.proofs.GroupTurns.{IsOut, members_foul, members_turn, others_turn}
 use Rattle.b2_sched.proofs.Lasting.{by_actions}
 use Rattle.b2_sched.specs.Groups.{GroupsRelyOnTheirOwn, IsOutside, MembersAlike, WorldsAlike, steps_along, steps_at, steps_of}
 use Rattle.b2_sched.specs.Laws.{all_actions}
@@ -45,6 +45,10 @@ terminal_alike t f s u o same = by (same_object o (object.Terminal t))
         subst (λ (x : Object). content s x ≡ content u x → content (with_terminal (content s (object.Terminal t)) t f s) x ≡ content (with_terminal (content u (object.Terminal t)) t f u) x) (sym is) here same
     by (inr apart) = terminal_other (content s (object.Terminal t)) t f s o apart ∙ same ∙ sym (terminal_other (content u (object.Terminal t)) t f u o apart)
 
+names_stay : (c : Option TerminalState) (t : ℕ) (f : TerminalState → TerminalState) (s : StoreState) (n : List ℕ) → content (with_terminal c t f s) (object.Name n) ≡ content s (object.Name n)
+names_stay None t f s n = refl
+names_stay (Some x) t f s n = refl
+
 module _ (g : Group) (out : Object → Type 0) (is_out : IsOut g out) where
   abbrev Alike : List Object → WorldState → WorldState → Type 0
   Alike os w v = WorldsAlike out g os w v
@@ -56,14 +60,15 @@ module _ (g : Group) (out : Object → Type 0) (is_out : IsOut g out) where
   both_turn p n w v os (Some me) member is alike clean =
       let inside = alike.privates.homes p me member is in
       let x : TurnEnd StoreState = turn_of w.devices n me w.store in
-      let turns = members_turn w.devices g out is_out p n me w.store v.store 0 os member inside alike.stores clean in
-      let rows = both_rows g p x.me w.privates v.privates (turn_stays_within w.devices g n me w.store 0 inside) alike.privates in
+      let turns = members_turn w.devices g out is_out p n me w.store v.store 0 os member inside alike.names alike.stores clean in
+      let rows = both_rows g p x.me w.privates v.privates turns.homes alike.privates in
       let there : List Device → WorldState = λ ds. after_turn p (turn_of ds n me v.store) (marks_after (steps_in_turn ds p n me v.store) v.marks) v in
       let here : Alike os (with_turn p (Some me) n w) (there w.devices) = record {
         quota = alike.quota;
         devices = alike.devices;
         privates = subst (λ (z : Private). MembersAlike g (with_row p w.privates x.me) (with_row p v.privates z)) turns.own rows;
         stores = turns.objects;
+        names = turns.names;
       } in
       subst (λ (xs : List Object). Alike xs (with_turn p (Some me) n w) (with_turn p (Some me) n v)) (sym (members_foul w.devices g p n me w.store os member)) (subst (λ (ds : List Device). Alike os (with_turn p (Some me) n w) (there ds)) alike.devices here)
 
@@ -75,6 +80,8 @@ module _ (g : Group) (out : Object → Type 0) (is_out : IsOut g out) where
     devices = alike.devices;
     privates = first_rows g p (turn_of w.devices n me w.store).me w.privates v.privates other alike.privates;
     stores = λ o clear inside. others_turn w.devices g p n me w.store 0 os other o clear ∙ alike.stores o (λ i. clear (stays_foul g (noted_by w.devices p n (Some me) w.store) os o i)) inside;
+    names = λ k q clear leads.
+        alike.names k q (λ i. clear (stays_foul g (noted_by w.devices p n (Some me) w.store) os (object.Name k) i)) (sym (others_turn w.devices g p n me w.store 0 os other (object.Name k) clear) ∙ leads);
   }
 
   turn_alike : (p n : ℕ) (w v : WorldState) (os : List Object) → Alike os w v → CleanFrom g os (noted_by w.devices p n (private_of p w) w.store)
@@ -87,19 +94,33 @@ module _ (g : Group) (out : Object → Type 0) (is_out : IsOut g out) where
 
   -- whatever happens
   action_alike : (a : Action) (w v : WorldState) (os : List Object) → Alike os w v → CleanFrom g os (steps_at a w) → Alike (foul_after g (steps_at a w) os) (does a w) (does a v)
-  action_alike (Key t k) w v os alike clean = record { quota = alike.quota; devices = alike.devices; privates = alike.privates; stores = λ o clear inside. terminal_alike t (keyed k) w.store v.store o (alike.stores o clear inside) }
-  action_alike (Front t p) w v os alike clean = record { quota = alike.quota; devices = alike.devices; privates = alike.privates; stores = λ o clear inside. terminal_alike t (λ x. record x { front = p }) w.store v.store o (alike.stores o clear inside) }
+  action_alike (Key t k) w v os alike clean = record {
+    quota = alike.quota;
+    devices = alike.devices;
+    privates = alike.privates;
+    stores = λ o clear inside. terminal_alike t (keyed k) w.store v.store o (alike.stores o clear inside);
+    names = λ n q clear leads. alike.names n q clear (sym (names_stay (content w.store (object.Terminal t)) t (keyed k) w.store n) ∙ leads);
+  }
+  action_alike (Front t p) w v os alike clean = record {
+    quota = alike.quota;
+    devices = alike.devices;
+    privates = alike.privates;
+    stores = λ o clear inside. terminal_alike t (λ x. record x { front = p }) w.store v.store o (alike.stores o clear inside);
+    names = λ n q clear leads. alike.names n q clear (sym (names_stay (content w.store (object.Terminal t)) t (λ x. record x { front = p }) w.store n) ∙ leads);
+  }
   action_alike (Halt p) w v os alike clean = record {
     quota = alike.quota;
     devices = alike.devices;
     privates = rows_changed g asked_to_halt (λ me h. record { part = h.part; place = h.place; kept = h.kept; frames = h.frames }) p w.privates v.privates alike.privates;
     stores = alike.stores;
+    names = alike.names;
   }
   action_alike (Reset p) w v os alike clean = record {
     quota = alike.quota;
     devices = alike.devices;
     privates = rows_changed g asked_to_reset (λ me h. record { part = h.part; place = h.place; kept = h.kept; frames = h.frames }) p w.privates v.privates alike.privates;
     stores = alike.stores;
+    names = alike.names;
   }
   action_alike (Turn p n) w v os alike clean = turn_alike p n w v os alike clean
 
@@ -139,6 +160,7 @@ group_relies g log w v alike clean =
       devices = all.devices;
       privates = all.privates;
       stores = λ o clear inside. all.stores o (λ i. elim (foul_so_far g steps [] o i) [ inl j ↦ clear j | inr j ↦ absurd j ]) inside;
+      names = λ n p clear leads. all.names n p (λ i. elim (foul_so_far g steps [] (object.Name n) i) [ inl j ↦ clear j | inr j ↦ absurd j ]) leads;
     } in
     let second : does_all acts v ≡ ran log v = ap (λ q. does_all (all_actions q log) v) alike.quota ∙ sym (by_actions log v) in
     let one = subst (λ (x : WorldState). WorldsAlike (IsOutside g) g (foul g steps) x (does_all acts v)) (sym (by_actions log w)) less in

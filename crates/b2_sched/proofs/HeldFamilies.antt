@@ -105,11 +105,11 @@ none_planned who (planned.Ask x) are = none_changed x (nothing_listed who (reach
 
 -- statements of control leave the list as they plan
 control_leaves : (me : Private) (s : SeenLent) → (stmt.plan me s).me.held ≡ me.held
-control_leaves me s = each_course stmt.is_refused (stmt.stops me s) (stmt.does me s) me s (λ (x : Planning). x.me.held ≡ me.held) refl refl (λ p is u. by (asked_access u.row u.tree) _)
+control_leaves me s = each_course stmt.is_refused (stmt.stops me s) (stmt.does me s) me s (λ (x : Planning). x.me.held ≡ me.held) refl refl (λ p is u. by (asked_access u.row u.tree me.declared) (stmt.lent_left u me s) _)
   where
-    by : (o : Option Access) (e : Steered) → (stmt.by_access o s me e).me.held ≡ me.held
-    by None e = refl
-    by (Some x) e = refl
+    by : (o : Option Access) (t : SeenLent) (e : Steered) → (stmt.by_access o t me e).me.held ≡ me.held
+    by None t e = refl
+    by (Some x) t e = refl
 
 plans_leave : (devices : List Device) (f : Family) (me : Private) (s : SeenLent) → (plan_by devices f me s).me.held ≡ me.held
 plans_leave devices family.Variables me s = (plans_keep_held stmt_var.works me s).1

@@ -1,31 +1,38 @@
 -- A step leaves the list of devices of its partition as the access that it asks for and its answer say.
-use Rattle.std.proofs.Common.{◌≡◌, ◌∙◌, refl, sym, ap, ℕ, Bool, true, false, if◌then◌else◌, List, Option, Some, None, is_some}
+use Rattle.std.proofs.Common.{◌≡◌, ◌∙◌, refl, sym, ap, ℕ, Bool, true, false, if◌then◌else◌, List, [], ◌∷◌, ◌++◌, Option, Some, None, is_some, subst, inl, inr}
+use Rattle.std.proofs.lemmas.List.{append-nil}
 use Rattle.std.specs.Str.{bytes_eq}
 use Rattle.b2_flow.specs.declared.frame.Place.{Place}
 use Rattle.b2_syntax.specs.Reading.{reads}
 use Rattle.b2_text.specs.Program.{Lines}
 use Rattle.b2_text.specs.Spots.{first_opening, is_mark}
 use Rattle.b2_access.specs.Lending.{SeenLent}
+use Rattle.b2_access.specs.Loans.{lends}
 use Rattle.b2_access.specs.Marks.{typed_by_mark}
 use Rattle.b2_access.specs.Partition.{is_ready, terminal_address}
 use Rattle.b2_access.specs.Placed.{Statement, statement_placed}
 use Rattle.b2_access.specs.Serving.{itself}
-use Rattle.b2_access.specs.Store.{StoreState}
+use Rattle.b2_access.specs.Reach.{device_objects, objects_held, to_free, to_take}
+use Rattle.b2_access.specs.Store.{StoreState, IsIn, content}
 use Rattle.b2_access.specs.declared.accesses.Access.{Access}
 use Rattle.b2_access.specs.declared.accesses.Access.TheVariants as access
 use Rattle.b2_access.specs.declared.accesses.Answer.{Answer}
 use Rattle.b2_access.specs.declared.accesses.Answer.TheVariants as answer
+use Rattle.b2_access.specs.declared.lending.At.{At}
+use Rattle.b2_access.specs.declared.objects.Object.{Object}
+use Rattle.b2_access.specs.declared.objects.Object.TheVariants as object
 use Rattle.b2_access.specs.declared.planned.Planned.{Planned}
 use Rattle.b2_access.specs.declared.planned.Planned.TheVariants as planned
 use Rattle.b2_access.specs.declared.private.Private.{Private}
 use Rattle.b2_access.proofs.Choice.{either}
+use Rattle.b2_access.proofs.Locality.{serves_is_local}
 use Rattle.b2_language.specs.Languages.{Ways}
 use Rattle.b2_machine.specs.Endings.{counts, repeats}
 use Rattle.b2_machine.specs.Listed.{lists}
 use Rattle.b2_machine.specs.Messages.{prints_text, shows_text}
-use Rattle.b2_machine.specs.Statements.{Begun, begins, begins_where, begun_by, builder_of, finish_by, plan_by}
-use Rattle.b2_machine.specs.Step.{StepEnd, carries_out, enters_or_goes_on, halts_or_acts, line_read, runs_or_reads, seen_by, shows_or_goes_on, step, text_in, types_or_goes_on}
-use Rattle.b2_machine.specs.Touched.{Asking, access_asked, asking, asks_at, asks_to_enter, asks_to_show, asks_to_type, asks_unless_halted}
+use Rattle.b2_machine.specs.Statements.{Begun, begins, begins_where, begun_by, builder_of, finish_by, leaves, plan_by}
+use Rattle.b2_machine.specs.Step.{StepEnd, carries_out, enters_or_goes_on, halts_or_acts, lent_to_begin, line_read, runs_or_reads, seen_by, shows_or_goes_on, step, text_in, types_or_goes_on, whose_by}
+use Rattle.b2_machine.specs.Touched.{access_asked, asking, asks_at, asks_to_enter, asks_to_show, asks_to_type, asks_unless_halted}
 use Rattle.b2_machine.specs.Typing.{on_own_line, puts_numbered, shows_pending}
 use Rattle.b2_machine.specs.declared.statements.Builder.{Builder}
 use Rattle.b2_machine.specs.declared.statements.Builder.TheVariants as builder
@@ -33,9 +40,10 @@ use Rattle.b2_machine.specs.declared.statements.Progress.{Progress}
 use Rattle.b2_machine.specs.declared.statements.Progress.TheVariants as progress
 use Rattle.b2_machine.proofs.OwnRules.{Own, ended_stays, line_stays, listed_stays, onward_stays, pressed_stays, put_stays, shown_stays, typed_stays}
 use Rattle.b2_stmt_device.specs.Held.{held_after}
-use Rattle.b2_store.specs.DiskWork.{serves}
-use Rattle.b2_sched.specs.Holding.{FinishesByAccess, KeepTheList, held_where}
-use Rattle.b2_sched.specs.Turns.{after_loan}
+use Rattle.b2_store.specs.DiskWork.{disks, serves}
+use Rattle.b2_audit.proofs.InParts.{freed_are_held, taken_are_held}
+use Rattle.b2_sched.proofs.StepEnds.{begun_stays}
+use Rattle.b2_sched.specs.Holding.{FinishesByAccess, IsLent, KeepTheList, held_where, is_globals}
 
 -- what the machine's own rules leave has the same list
 same_list : {x y : Own} → x ≡ y → x.held ≡ y.held
@@ -78,14 +86,15 @@ module _ (ways : Ways) (keep : KeepTheList ways) where
 
   -- ---- the rules of a step: none but a statement asks for devices to be taken or freed
 
-  abbrev SoLeft : List (List ℕ) → StepEnd StoreState → Asking → StoreState → Type 0
-  SoLeft held e asks s = e.me.held ≡ held_where asks.access asks.who held s
+  -- the list is as the access and its answer say, over whatever was lent
+  abbrev SoLeft : List (List ℕ) → StepEnd StoreState → Option Access → ℕ → StoreState → Type 0
+  SoLeft held e asks who s = e.me.held ≡ held_where asks who held s
 
-  by_test : (held : List (List ℕ)) (b : Bool) (e f : StepEnd StoreState) (x y : Asking) (s : StoreState) → SoLeft held e x s → SoLeft held f y s → SoLeft held (if b then e else f) (if b then x else y) s
-  by_test held true e f x y s h k = h
-  by_test held false e f x y s h k = k
+  by_test : (held : List (List ℕ)) (b : Bool) (e f : StepEnd StoreState) (x y : Option Access) (who : ℕ) (s : StoreState) → SoLeft held e x who s → SoLeft held f y who s → SoLeft held (if b then e else f) (if b then x else y) who s
+  by_test held true e f x y who s h k = h
+  by_test held false e f x y who s h k = k
 
-  read_stays : (x : Answer) (me : Private) (s : StoreState) → (line_read itself serves after_loan x me s).me.held ≡ me.held
+  read_stays : (x : Answer) (me : Private) (s : StoreState) → (line_read itself serves lends x me s).me.held ≡ me.held
   read_stays (answer.Line bytes) me s = same_list (line_stays (reads bytes) (record me { term_column = 0 }))
   read_stays (answer.Special n) me s = let own = (text_in s me.part).lines in same_list (pressed_stays (typed_by_mark n own) (first_opening (is_mark n) own) me)
   read_stays x me s = refl
@@ -95,38 +104,61 @@ module _ (ways : Ways) (keep : KeepTheList ways) where
   pending_stays device text a me =
       either (λ (x : Access). held_after x a me.held ≡ me.held) (bytes_eq device terminal_address) (shows_text (on_own_line me.term_column text) me) (prints_text device text me) refl refl
 
-  carried : (held : List (List ℕ)) (c : Progress) (p : Place) (me : Private) (s : StoreState) → me.held ≡ held → FinishesIfItAsks c
-      → (carries_out ways itself serves after_loan c p me s).me.held ≡ held_where (access_asked c) me.part held s
-  carried held (progress.Ended e) p me s is goes = is
-  carried held (progress.Asks x b w) p me s is goes =
-      let g = serves s me.part x in
-      let y = finish_by ways b x g.answer me (seen_by me g.after) in
-      same_list (onward_stays (repeats g.answer) y.outcome w p y.me (seen_by me g.after).home.lines) ∙ goes g.answer me (seen_by me g.after) ∙ ap (held_after x g.answer) is
+  carried : (held : List (List ℕ)) (who : ℕ) (c : Progress) (p : Place) (whose : At) (me : Private) (s : StoreState) → me.held ≡ held → FinishesIfItAsks c
+      → (carries_out ways itself serves lends who c p whose me s).me.held ≡ held_where (access_asked c) who held s
+  carried held who (progress.Ended e) p whose me s is goes = is
+  carried held who (progress.Asks x b w) p whose me s is goes =
+      let g = serves s who x in
+      let seen = seen_by who p.home whose g.after in
+      let y = finish_by ways b x g.answer me seen in
+      same_list (onward_stays (repeats g.answer) y.outcome w p y.me seen.home.lines) ∙ goes g.answer me seen ∙ ap (held_after x g.answer) is
 
-  at_place : (x : Option Place) (me : Private) (s : StoreState) → SoLeft me.held (runs_or_reads ways itself serves after_loan x me s) (asks_at ways x me s) s
+  -- answers are the same over what is lent, where devices are taken or freed
+  none_after : (o : Object) (xs : List Object) → IsIn o (xs ++ []) → IsIn o xs
+  none_after o xs i = subst (IsIn o) (append-nil xs) i
+
+  same_holders : (addrs : List (List ℕ)) (s u : StoreState) → IsLent s u → (o : Object) → IsIn o (objects_held addrs) → content u o ≡ content s o
+  same_holders [] s u lent o i = absurd i
+  same_holders (a ∷ addrs) s u lent o i = elim i [ inl e ↦ lent o (ap is_globals e) | inr j ↦ same_holders addrs s u lent o j ]
+
+  pub lent_same : (x : Option Access) (who : ℕ) (held : List (List ℕ)) (s u : StoreState) → IsLent s u → held_where x who held u ≡ held_where x who held s
+  lent_same None who held s u lent = refl
+  lent_same (Some (access.OpenDevices addrs)) who held s u lent =
+      ap (λ (y : Answer). held_after (access.OpenDevices addrs) y held)
+      ((serves_is_local disks).alike who (access.OpenDevices addrs) u s (λ o i. same_holders addrs s u lent o (subst (IsIn o) (taken_are_held addrs) (none_after o (device_objects (to_take addrs).devices) i)))).answers
+  lent_same (Some (access.CloseDevices addrs)) who held s u lent =
+      ap (λ (y : Answer). held_after (access.CloseDevices addrs) y held)
+      ((serves_is_local disks).alike who (access.CloseDevices addrs) u s (λ o i. same_holders addrs s u lent o (subst (IsIn o) (freed_are_held addrs) (none_after o (device_objects (to_free addrs).devices) i)))).answers
+  lent_same (Some x) who held s u lent = refl
+
+  at_place : (x : Option Place) (me : Private) (s : StoreState) → SoLeft me.held (runs_or_reads ways itself serves lends x me s) (asks_at ways x me s) me.part s
   at_place None me s = let g = serves s me.part (access.ReadLine me.term) in read_stays g.answer me g.after
   at_place (Some p) me s =
-      let b = begins ways p me (seen_by me s) in
-      let so = begins_so (statement_placed p me.immediate (seen_by me s).home.lines) p me (seen_by me s) in
-      carried me.held b.progress p b.me s so.same so.goes
+      let whose = whose_by p me s in
+      let seen = seen_by me.part p.home whose s in
+      let left = leaves ways p me seen in
+      let b = begins ways p me seen in
+      let u = lent_to_begin itself serves lends me.part p.home whose s left in
+      let so = begins_so (statement_placed p me.immediate seen.home.lines) p me seen in
+      carried me.held me.part b.progress p whose b.me u so.same so.goes ∙ lent_same (access_asked b.progress) me.part me.held s u (λ o is. begun_stays me.part p.home whose left s o is)
 
-  at_number : (x : Option (ℕ × Option (List ℕ))) (me : Private) (s : StoreState) → SoLeft me.held (enters_or_goes_on ways itself serves after_loan x me s) (asks_to_enter ways x me s) s
+  at_number : (x : Option (ℕ × Option (List ℕ))) (me : Private) (s : StoreState) → SoLeft me.held (enters_or_goes_on ways itself serves lends x me s) (asks_to_enter ways x me s) me.part s
   at_number (Some line) me s = same_list (put_stays (serves s me.part (puts_numbered line)).answer me)
   at_number None me s = at_place me.place me s
 
-  at_literal : (x : Option (List ℕ)) (me : Private) (s : StoreState) → SoLeft me.held (types_or_goes_on ways itself serves after_loan x me s) (asks_to_type ways x me s) s
+  at_literal : (x : Option (List ℕ)) (me : Private) (s : StoreState) → SoLeft me.held (types_or_goes_on ways itself serves lends x me s) (asks_to_type ways x me s) me.part s
   at_literal (Some text) me s = same_list (typed_stays (serves s me.part (access.Insert me.term text)).answer me)
   at_literal None me s = at_number me.numbered me s
 
-  at_output : (x : Option (List ℕ × List ℕ)) (me : Private) (s : StoreState) → SoLeft me.held (shows_or_goes_on ways itself serves after_loan x me s) (asks_to_show ways x me s) s
+  at_output : (x : Option (List ℕ × List ℕ)) (me : Private) (s : StoreState) → SoLeft me.held (shows_or_goes_on ways itself serves lends x me s) (asks_to_show ways x me s) me.part s
   at_output (Some text) me s =
       let x = shows_pending text.0 text.1 me in
       let a = (serves s me.part x).answer in
       same_list (shown_stays x a me) ∙ sym (pending_stays text.0 text.1 a me)
   at_output None me s = at_literal me.literal me s
 
-  at_halt : (me : Private) (s : StoreState) → SoLeft me.held (halts_or_acts ways itself serves after_loan me s) (asks_unless_halted ways me s) s
-  at_halt me s = by_test me.held (is_ready me) _ _ _ _ s (at_output me.pending (record me { halt = false }) s) refl
+  at_halt : (me : Private) (s : StoreState) → SoLeft me.held (halts_or_acts ways itself serves lends me s) (asks_unless_halted ways me s) me.part s
+  at_halt me s = by_test me.held (is_ready me) _ _ _ _ me.part s (at_output me.pending (record me { halt = false }) s) refl
 
-  pub list_after : (me : Private) (s : StoreState) → SoLeft me.held (step ways itself serves after_loan me s) (asking ways me s) s
-  list_after me s = by_test me.held me.reset _ _ _ _ s refl (by_test me.held me.halt _ _ _ _ s (at_halt me s) (at_output me.pending me s))
+  pub list_after : (me : Private) (s : StoreState) → SoLeft me.held (step ways itself serves lends me s) (asking ways me s) me.part s
+  list_after me s = by_test me.held me.reset _ _ _ _ me.part s refl (by_test me.held me.halt _ _ _ _ me.part s (at_halt me s) (at_output me.pending me s))

@@ -1,17 +1,16 @@
 -- A step of a partition while another one holds a device; and a step after which a device isn't held as it was.
-use Rattle.std.specs.Prelude.{◌≡◌, ◌≢◌, ◌⊎◌, ℕ, ◌==◌, Bool, true, false, List, [], ◌∷◌, map, Option, Some, None, unwrap_or, option_map, refl}
+use Rattle.std.specs.Prelude.{◌≡◌, ◌≢◌, ◌⊎◌, ℕ, ◌==◌, Bool, true, false, List, [], ◌∷◌, map, Option, Some, None, option_map, refl}
 use Rattle.std.proofs.Common.{sym, ap, subst, ◌∙◌, inl, inr}
+use Rattle.std.proofs.lemmas.Bool.{true≢false}
 use Rattle.b2_access.specs.Contents.{content_other, content_same}
 use Rattle.b2_access.specs.Holding.{AgreeBut, IsAddressIn, IsContentOf, device_of}
-use Rattle.b2_access.specs.Homes.{IsWithin}
 use Rattle.b2_access.specs.Objects.{Decided, same_object}
 use Rattle.b2_access.specs.Reach.{hold_freed}
-use Rattle.b2_access.specs.Serving.{itself, performs, unless_stopped}
+use Rattle.b2_access.specs.Serving.{performs, unless_stopped}
 use Rattle.b2_access.specs.Sharing.{Gives}
 use Rattle.b2_access.specs.AccessRows.{frees, takes, row}
 use Rattle.b2_access.specs.Stopping.{first_other, holders, stop, stop_by}
 use Rattle.b2_access.specs.Store.{StoreState, content, put}
-use Rattle.b2_access.specs.Touching.{written_by}
 use Rattle.b2_access.specs.declared.accesses.Access.{Access}
 use Rattle.b2_access.specs.declared.accesses.Access.TheVariants as access
 use Rattle.b2_access.specs.declared.accesses.Answer.{Answer}
@@ -21,19 +20,18 @@ use Rattle.b2_access.specs.declared.objects.Object.{Object}
 use Rattle.b2_access.specs.declared.objects.Object.TheVariants as object
 use Rattle.b2_access.specs.declared.private.Private.{Private}
 use Rattle.b2_access.proofs.Held.{held_is_out_of_reach, held_stays, other_holders_stay, who_asks_waits}
-use Rattle.b2_audit.specs.Steps.{Step, just}
-use Rattle.b2_machine.proofs.StepHomes.{steps_stay_within}
-use Rattle.b2_machine.specs.Step.{no_text, text_in}
-use Rattle.b2_machine.specs.Touched.{Asking, asking, step_touched, step_written, touched_by, touched_where, written_for, written_where}
+use Rattle.b2_audit.specs.Steps.{Step}
+use Rattle.b2_machine.proofs.Lent.{lender_same, loan_follows}
+use Rattle.b2_machine.specs.Touched.{Told, asking}
 use Rattle.b2_store.proofs.Holders.{freed, taken}
 use Rattle.b2_store.specs.DiskWork.{disks, serves}
 use Rattle.b2_store.specs.Holders.{all_held}
 use Rattle.b2_sched.proofs.Numbers.{other_number, same_number}
-use Rattle.b2_sched.proofs.StepEnds.{AnsweredAlike, left_where, step_alike, step_left}
+use Rattle.b2_sched.proofs.OwnObjects.{step_part}
+use Rattle.b2_sched.proofs.StepEnds.{IsLikeness, Left, is_seen, left_where, loan_seen, loan_stays, step_alike, step_left}
 use Rattle.b2_sched.specs.Choice.{basic}
-use Rattle.b2_sched.specs.Holding.{Frees, IsHeld, Waits}
-use Rattle.b2_sched.specs.Lawful.{basic_is_lawful}
-use Rattle.b2_sched.specs.Turns.{after_loan, step_noted, step_of}
+use Rattle.b2_sched.specs.Holding.{Frees, IsHeld, IsLent, Waits, is_globals}
+use Rattle.b2_sched.specs.Turns.{step_noted, step_of}
 
 -- ---- an access of the holder leaves the device held, or frees it
 
@@ -94,61 +92,66 @@ own_access a p x s held = inl (other_holders_stay disks p a x s (λ i. i) ∙ he
 
 -- ---- steps
 
-module _ (devices : List Device) (a : List ℕ) (p q : ℕ) (me : Private) (s : StoreState) (home : IsWithin (just q) me) (held : IsHeld a p s) where
-  pub next_home : IsWithin (just q) (step_of devices me s).me
-  next_home = (steps_stay_within (basic devices) (basic_is_lawful devices) itself serves after_loan (just q) me s home).0
+-- what belongs to a device are no `@` variables
+pub no_globals : (a : List ℕ) (o : Object) → device_of o ≡ Some a → is_globals o ≡ false
+no_globals a (object.Globals p) is = cc
+no_globals a o is = refl
 
-  asks_itself : (asking (basic devices) me s).who ≡ q
-  asks_itself = same_number (asking (basic devices) me s).who q (steps_stay_within (basic devices) (basic_is_lawful devices) itself serves after_loan (just q) me s home).1
+module _ (devices : List Device) (a : List ℕ) (p q : ℕ) (me : Private) (s : StoreState) (own : me.part ≡ q) (held : IsHeld a p s) where
+  pub next_own : (step_of devices me s).me.part ≡ q
+  next_own = step_part devices me s ∙ own
 
-  is_itself : me.part ≡ q
-  is_itself = same_number me.part q home.part
+  held_when_lent : (u : StoreState) → IsLent s u → IsHeld a p u
+  held_when_lent u lent = lent (object.Hog a) refl ∙ held
 
   -- what belongs to the device stays as it is through a step of another
-  left_stays : (x : Option Access) (who : ℕ) → p ≢ who → (o : Object) → device_of o ≡ Some a → content (left_where x who s) o ≡ content s o
-  left_stays None who apart o is = refl
-  left_stays (Some x) who apart o is = held_stays disks who p a o x s held apart is
+  left_stays : (x : Option Access) (who : ℕ) (u : StoreState) → IsHeld a p u → p ≢ who → (o : Object) → device_of o ≡ Some a → content (left_where x who u) o ≡ content u o
+  left_stays None who u there apart o is = refl
+  left_stays (Some x) who u there apart o is = held_stays disks who p a o x u there apart is
 
   -- the holder's step leaves it held, or frees it
-  own_left : (x : Option Access) → (asking (basic devices) me s).access ≡ x → me.part ≡ p → IsHeld a p (left_where x p s) ⊎ Frees a p devices me s
-  own_left None is own = inl held
-  own_left (Some x) is own = by (own_access a p x s held)
+  own_left : (x : Option Access) (u : StoreState) → IsHeld a p u → asking (basic devices) me s ≡ x → me.part ≡ p → IsHeld a p (left_where x p u) ⊎ Frees a p devices me s
+  own_left None u there is same = inl there
+  own_left (Some x) u there is same = by (own_access a p x u there)
     where
-      by : IsHeld a p (serves s p x).after ⊎ FreedBy a p x s → IsHeld a p (serves s p x).after ⊎ Frees a p devices me s
+      by : IsHeld a p (serves u p x).after ⊎ FreedBy a p x u → IsHeld a p (serves u p x).after ⊎ Frees a p devices me s
       by (inl still) = inl still
-      by (inr f) = inr (record { own = own; held = held; addresses = f.addresses; asked = is ∙ ap Some f.asked; named = f.named; done = freeing_done p f.addresses s })
+      by (inr f) = inr (record { own = same; held = held; addresses = f.addresses; asked = is ∙ ap Some f.asked; named = f.named; done = freeing_done p f.addresses s })
 
   module _ (apart : q ≢ p) where
-    asks_as_other : p ≢ (asking (basic devices) me s).who
-    asks_as_other is = apart (sym asks_itself ∙ sym is)
+    pub asks_as_other : p ≢ me.part
+    asks_as_other is = apart (sym own ∙ sym is)
 
     pub step_stays : (o : Object) → device_of o ≡ Some a → content (step_of devices me s).after o ≡ content s o
     step_stays o is =
-        let x = asking (basic devices) me s in
-        ap (λ (t : StoreState). content t o) (step_left (basic devices) me s) ∙ left_stays x.access x.who asks_as_other o is
+        let l = step_left (basic devices) me s in
+        l.left o (no_globals a o is) ∙ left_stays (asking (basic devices) me s) me.part l.before (held_when_lent l.before l.lent) asks_as_other o is ∙ l.lent o (no_globals a o is)
 
     pub step_held : IsHeld a p (step_of devices me s).after
     step_held = step_stays (object.Hog a) refl ∙ held
 
     -- who asks for the device waits
     pub step_waits : Waits a devices me s
-    step_waits x is asks = who_asks_waits disks (asking (basic devices) me s).who p a x s held asks_as_other asks
+    step_waits x is asks u lent = who_asks_waits disks me.part p a x u (held_when_lent u lent) asks_as_other asks
 
   pub step_keeps_or_frees : IsHeld a p (step_of devices me s).after ⊎ Frees a p devices me s
   step_keeps_or_frees = by (q == p) refl
     where
+      still : Left (asking (basic devices) me s) me.part s (step_of devices me s).after → me.part ≡ p → IsHeld a p (step_of devices me s).after ⊎ Frees a p devices me s
+      still l same = elim (own_left (asking (basic devices) me s) l.before (held_when_lent l.before l.lent) refl same) [
+        | inl there ↦ inl (l.left (object.Hog a) refl ∙ subst (λ (k : ℕ). IsHeld a p (left_where (asking (basic devices) me s) k l.before)) (sym same) there)
+        | inr frees ↦ inr frees
+      ]
+
       by : (b : Bool) → (q == p) ≡ b → IsHeld a p (step_of devices me s).after ⊎ Frees a p devices me s
       by false is = inl (step_held (other_number q p is))
-      by true is =
-          let same = same_number q p is in
-          let x = asking (basic devices) me s in
-          subst (λ (t : StoreState). IsHeld a p t ⊎ Frees a p devices me s) (sym (step_left (basic devices) me s))
-          (subst (λ (k : ℕ). IsHeld a p (left_where x.access k s) ⊎ Frees a p devices me s) (sym (asks_itself ∙ same)) (own_left x.access refl (is_itself ∙ same)))
+      by true is = still (step_left (basic devices) me s) (own ∙ same_number q p is)
 
 -- ---- a step of another from two stores that have the same but for what the device has
 
-no_content : (a : List ℕ) (p : ℕ) → IsContentOf a (object.Text p) → ⊥
-no_content a p c = elim c [ inl e ↦ cc | inr e ↦ cc ]
+-- what a step sees isn't that
+no_content : (a : List ℕ) (o : Object) → is_seen o ≡ true → IsContentOf a o → ⊥
+no_content a o seen c = elim c [ inl e ↦ true≢false (sym seen ∙ ap is_seen e) | inr e ↦ true≢false (sym seen ∙ ap is_seen e) ]
 
 -- two steps, of an own state and of two stores
 pub record StepsAgreeBut (a : List ℕ) (devices : List Device) (who : ℕ) (me : Private) (s t : StoreState) : Type 0 where
@@ -157,48 +160,28 @@ pub record StepsAgreeBut (a : List ℕ) (devices : List Device) (who : ℕ) (me 
   pub noted : step_noted devices who me s ≡ step_noted devices who me t
   pub stores : AgreeBut a (step_of devices me s).after (step_of devices me t).after
 
-module _ (devices : List Device) (a : List ℕ) (p q : ℕ) (me : Private) (s t : StoreState) (home : IsWithin (just q) me) (held : IsHeld a p s) (apart : q ≢ p) (agree : AgreeBut a s t) where
-  text_same : (k : ℕ) (u v : StoreState) → AgreeBut a u v → text_in u k ≡ text_in v k
-  text_same k u v same = ap (λ x. unwrap_or x no_text) (same (object.Text k) (no_content a k))
+module _ (a : List ℕ) (p : ℕ) where
+  -- two stores that have the same but for that, while it is held
+  abbrev HeldAlike : StoreState → StoreState → Type 0
+  HeldAlike s t = AgreeBut a s t × IsHeld a p s
 
-  answered : (x : Option Access) (who : ℕ) → p ≢ who → AnsweredAlike x who s t
-  answered None who other = tt
-  answered (Some x) who other =
-      let g = held_is_out_of_reach disks who p a x s t held other agree in
-      (g.0, text_same who (serves s who x).after (serves t who x).after g.1)
+  held_alike : (who : ℕ) → p ≢ who → IsLikeness who HeldAlike
+  held_alike who other = record {
+    sees = λ s t r o seen. r.0 o (no_content a o seen);
+    lent = λ home whose left s t r.
+        let lender = lender_same who home s t whose (λ o i. r.0 o (no_content a o (loan_seen who home whose s o i))) in
+        (λ o c. loan_follows home whose left.vars left.vars s t lender refl o (r.0 o c), loan_stays home whose left.vars s (object.Hog a) refl ∙ r.1);
+    served = λ x s t r.
+        let g = held_is_out_of_reach disks who p a x s t r.1 other r.0 in
+        (g.0, (g.1, held_stays disks who p a (object.Hog a) x s r.1 other refl ∙ r.1));
+  }
 
-  left_agree : (x : Option Access) (who : ℕ) → p ≢ who → AgreeBut a (left_where x who s) (left_where x who t)
-  left_agree None who other = agree
-  left_agree (Some x) who other = (held_is_out_of_reach disks who p a x s t held other agree).1
-
-  touched_same : (x : Option Access) (who : ℕ) → touched_where x who s ≡ touched_where x who t
-  touched_same None who = refl
-  touched_same (Some x) who = refl
-
-  written_same : (x : Option Access) (who : ℕ) → AnsweredAlike x who s t → written_where itself serves x who s ≡ written_where itself serves x who t
-  written_same None who h = refl
-  written_same (Some x) who h = ap (λ (y : Answer). written_by y who x) h.0
-
+module _ (devices : List Device) (a : List ℕ) (p q : ℕ) (me : Private) (s t : StoreState) (own : me.part ≡ q) (held : IsHeld a p s) (apart : q ≢ p) (agree : AgreeBut a s t) where
   pub steps_agree : (number : ℕ) → StepsAgreeBut a devices number me s t
   steps_agree number =
-      let x = asking (basic devices) me s in
-      let y = asking (basic devices) me t in
-      let other = asks_as_other devices a p q me s home held apart in
-      let alike = step_alike (basic devices) s t me (text_same me.part s t agree) in
-      let answers = answered x.access x.who other in
-      let ends = alike.1 answers in
-      let touched : step_touched (basic devices) me s ≡ step_touched (basic devices) me t =
-      ap (λ (os : List Object). object.Text me.part ∷ object.Text x.who ∷ os) (touched_same x.access x.who) ∙ ap (λ (z : Asking). touched_by me.part z t) alike.0 in
-      let wrote : step_written (basic devices) itself serves me s ≡ step_written (basic devices) itself serves me t =
-      written_same x.access x.who answers ∙ ap (λ (z : Asking). written_for itself serves z t) alike.0 in
-      let left : AgreeBut a (left_where x.access x.who s) (left_where y.access y.who t) =
-      subst (λ (z : Asking). AgreeBut a (left_where x.access x.who s) (left_where z.access z.who t)) alike.0 (left_agree x.access x.who other) in
-      record {
-        own = ends.0;
-        end = ends.1;
-        noted = ap (λ (os : List Object). note os (step_written (basic devices) itself serves me s)) touched ∙ ap (λ (os : List Object). note (step_touched (basic devices) me t) os) wrote;
-        stores = λ o c. ap (λ (u : StoreState). content u o) (step_left (basic devices) me s) ∙ left o c ∙ sym (ap (λ (u : StoreState). content u o) (step_left (basic devices) me t));
-      }
+      let other = asks_as_other devices a p q me s own held apart in
+      let alike = step_alike (basic devices) (HeldAlike a p) me (held_alike a p me.part other) s t (agree, held) in
+      record { own = alike.own; end = alike.end; noted = ap note alike.tells; stores = alike.stores.0 }
     where
-      note : List Object → List Object → Step
-      note touched written = record { who = number; touched = touched; written = written }
+      note : Told → Step
+      note x = record { who = number; touched = x.touched; written = x.written }

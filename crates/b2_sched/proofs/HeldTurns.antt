@@ -4,7 +4,7 @@ use Rattle.std.proofs.Common.{sym, ap, subst, ◌∙◌, inl, inr}
 use Rattle.b2_term.specs.Terminal.{TerminalState, keyed}
 use Rattle.b2_access.specs.Contents.{content_other, put_alike}
 use Rattle.b2_access.specs.Holding.{AgreeBut, IsContentOf, device_of}
-use Rattle.b2_access.specs.Homes.{IsWithin}
+use Rattle.b2_access.specs.Loans.{lends}
 use Rattle.b2_access.specs.Rows.{with_row}
 use Rattle.b2_access.specs.Serving.{itself}
 use Rattle.b2_access.specs.Store.{StoreState, content}
@@ -12,7 +12,7 @@ use Rattle.b2_access.specs.declared.devices.Device.{Device}
 use Rattle.b2_access.specs.declared.objects.Object.{Object}
 use Rattle.b2_access.specs.declared.objects.Object.TheVariants as object
 use Rattle.b2_access.specs.declared.private.Private.{Private}
-use Rattle.b2_audit.specs.Steps.{Step, just, marks_after}
+use Rattle.b2_audit.specs.Steps.{Step, marks_after}
 use Rattle.b2_machine.specs.Turn.{TurnEnd, counted_on, ended_turn, turn_from, unless_ended}
 use Rattle.b2_machine.specs.declared.ends.Stepped.{Stepped}
 use Rattle.b2_machine.specs.declared.ends.Turned.{Turned}
@@ -20,25 +20,20 @@ use Rattle.b2_machine.specs.declared.ends.Why.{Why}
 use Rattle.b2_store.specs.Changes.{room_at, with_terminal}
 use Rattle.b2_store.specs.DiskWork.{serves}
 use Rattle.b2_sched.proofs.EachRow.{EachIs, each_action, each_ran}
-use Rattle.b2_sched.proofs.HeldSteps.{next_home, step_held, step_keeps_or_frees, step_stays, step_waits, steps_agree}
-use Rattle.b2_sched.proofs.OwnObjects.{IsHome, keeps_home, starts_at_home}
+use Rattle.b2_sched.proofs.HeldSteps.{next_own, step_held, step_keeps_or_frees, step_stays, step_waits, steps_agree}
+use Rattle.b2_sched.proofs.OwnObjects.{IsItself, by_end, keeps_itself, starts_itself}
 use Rattle.b2_sched.specs.Choice.{basic}
 use Rattle.b2_sched.specs.EachStep.{AtEachStep, AtSomeStep, EachInAction, EachInTurn, EachOf, SomeInAction, SomeInTurn, SomeOf}
 use Rattle.b2_sched.specs.Holding.{AreOfOthers, Frees, HeldUntilFreed, IsHeld, IsOfOthers, IsReached, OthersLeaveHeld, OthersReadNothing, OthersWait, Waits, WorldsAgreeBut, with_store}
 use Rattle.b2_sched.specs.Start.{booted}
-use Rattle.b2_sched.specs.Turns.{after_loan, step_noted, step_of, steps_in_turn}
+use Rattle.b2_sched.specs.Turns.{step_noted, step_of, steps_in_turn}
 use Rattle.b2_sched.specs.World.{WorldState, Action, Key, Front, Halt, Reset, Turn, does, does_all, dropped_by, private_of, tallied, with_turn}
-
--- what holds however a turn goes on
-pub by_end : {A : Type 0} (P : A → Type 0) (why : Option Why) (ends : Why → A) (on : A) → ((w : Why) → P (ends w)) → P on → P (unless_ended why ends on)
-by_end P None ends on h k = k
-by_end P (Some w) ends on h k = h w
 
 -- ---- a turn of another
 
 module _ (devices : List Device) where
   abbrev turn_on : ℕ → Private → StoreState → ℕ → TurnEnd StoreState
-  turn_on n me s steps = turn_from (basic devices) itself serves after_loan n me s steps
+  turn_on n me s steps = turn_from (basic devices) itself serves lends n me s steps
 
   -- how a step ends is how its turn goes on
   abbrev goes_on : ℕ → Stepped → ℕ → Private → StoreState → TurnEnd StoreState
@@ -56,28 +51,28 @@ module _ (devices : List Device) where
 
   module _ (a : List ℕ) (p q : ℕ) where
     module _ (apart : q ≢ p) where
-      turn_stays : (n : ℕ) (me : Private) (s : StoreState) (steps : ℕ) → IsWithin (just q) me → IsHeld a p s → (o : Object) → device_of o ≡ Some a → content (turn_on n me s steps).after o ≡ content s o
+      turn_stays : (n : ℕ) (me : Private) (s : StoreState) (steps : ℕ) → me.part ≡ q → IsHeld a p s → (o : Object) → device_of o ≡ Some a → content (turn_on n me s steps).after o ≡ content s o
       unfolding turn_from
       turn_stays zero me s steps home held o is = refl
       turn_stays (suc n) me s steps home held o is =
           let x = step_of devices me s in
           let here = step_stays devices a p q me s home held apart o is in
           by_end (λ (t : TurnEnd StoreState). content t.after o ≡ content s o) x.end.why (λ w. ended_turn (counted_on steps x.end) w x.me x.after) (turn_on n x.me x.after (counted_on steps x.end)) (λ w. here)
-          (turn_stays n x.me x.after (counted_on steps x.end) (next_home devices a p q me s home held) (step_held devices a p q me s home held apart) o is ∙ here)
+          (turn_stays n x.me x.after (counted_on steps x.end) (next_own devices a p q me s home held) (step_held devices a p q me s home held apart) o is ∙ here)
 
-      turn_waits : (n : ℕ) (me : Private) (s : StoreState) → IsWithin (just q) me → IsHeld a p s → EachInTurn (Waits a) devices n me s
+      turn_waits : (n : ℕ) (me : Private) (s : StoreState) → me.part ≡ q → IsHeld a p s → EachInTurn (Waits a) devices n me s
       turn_waits zero me s home held = tt
       turn_waits (suc n) me s home held =
-          (step_waits devices a p q me s home held apart, λ on. turn_waits n (step_of devices me s).me (step_of devices me s).after (next_home devices a p q me s home held) (step_held devices a p q me s home held apart))
+          (step_waits devices a p q me s home held apart, λ on. turn_waits n (step_of devices me s).me (step_of devices me s).after (next_own devices a p q me s home held) (step_held devices a p q me s home held apart))
 
-      turns_agree : (n : ℕ) (me : Private) (s t : StoreState) (steps : ℕ) → IsWithin (just q) me → IsHeld a p s → AgreeBut a s t → TurnsAgreeBut a (turn_on n me s steps) (turn_on n me t steps)
+      turns_agree : (n : ℕ) (me : Private) (s t : StoreState) (steps : ℕ) → me.part ≡ q → IsHeld a p s → AgreeBut a s t → TurnsAgreeBut a (turn_on n me s steps) (turn_on n me t steps)
       unfolding turn_from
       turns_agree zero me s t steps home held agree = record { own = refl; turned = refl; stores = agree }
       turns_agree (suc n) me s t steps home held agree =
           let x = step_of devices me s in
           let y = step_of devices me t in
           let same = steps_agree devices a p q me s t home held apart agree q in
-          let later = turns_agree n x.me x.after y.after (counted_on steps x.end) (next_home devices a p q me s home held) (step_held devices a p q me s home held apart) same.stores in
+          let later = turns_agree n x.me x.after y.after (counted_on steps x.end) (next_own devices a p q me s home held) (step_held devices a p q me s home held apart) same.stores in
           subst (λ (e : Stepped). TurnsAgreeBut a (goes_on n x.end steps x.me x.after) (goes_on n e steps y.me y.after)) same.end
           (subst (λ (z : Private). TurnsAgreeBut a (goes_on n x.end steps x.me x.after) (goes_on n x.end steps z y.after)) same.own (by x.end.why x.me x.after y.after (counted_on steps x.end) same.stores later))
         where
@@ -86,14 +81,14 @@ module _ (devices : List Device) where
           by None z u v k same later = later
           by (Some w) z u v k same later = record { own = refl; turned = refl; stores = same }
 
-      noted_agree : (who n : ℕ) (me : Private) (s t : StoreState) → IsWithin (just q) me → IsHeld a p s → AgreeBut a s t → steps_in_turn devices who n me s ≡ steps_in_turn devices who n me t
+      noted_agree : (who n : ℕ) (me : Private) (s t : StoreState) → me.part ≡ q → IsHeld a p s → AgreeBut a s t → steps_in_turn devices who n me s ≡ steps_in_turn devices who n me t
       unfolding steps_in_turn
       noted_agree who zero me s t home held agree = refl
       noted_agree who (suc n) me s t home held agree =
           let x = step_of devices me s in
           let y = step_of devices me t in
           let same = steps_agree devices a p q me s t home held apart agree who in
-          let later = noted_agree who n x.me x.after y.after (next_home devices a p q me s home held) (step_held devices a p q me s home held apart) same.stores in
+          let later = noted_agree who n x.me x.after y.after (next_own devices a p q me s home held) (step_held devices a p q me s home held apart) same.stores in
           ap (λ (z : Step). z ∷ follow who n x.end x.me x.after) same.noted
           ∙ ap (λ (zs : List Step). step_noted devices who me t ∷ zs)
           (ap (λ (zs : List Step). unless_ended x.end.why (λ w. []) zs) later
@@ -104,12 +99,12 @@ module _ (devices : List Device) where
     abbrev KeepsOrFrees : ℕ → Private → StoreState → ℕ → Type 0
     KeepsOrFrees n me s steps = IsHeld a p (turn_on n me s steps).after ⊎ SomeInTurn (Frees a p) devices n me s
 
-    turn_keeps_or_frees : (n : ℕ) (me : Private) (s : StoreState) (steps : ℕ) → IsWithin (just q) me → IsHeld a p s → KeepsOrFrees n me s steps
+    turn_keeps_or_frees : (n : ℕ) (me : Private) (s : StoreState) (steps : ℕ) → me.part ≡ q → IsHeld a p s → KeepsOrFrees n me s steps
     unfolding turn_from
     turn_keeps_or_frees zero me s steps home held = inl held
     turn_keeps_or_frees (suc n) me s steps home held =
         by (step_keeps_or_frees devices a p q me s home held)
-        (λ still. turn_keeps_or_frees n (step_of devices me s).me (step_of devices me s).after (counted_on steps (step_of devices me s).end) (next_home devices a p q me s home held) still)
+        (λ still. turn_keeps_or_frees n (step_of devices me s).me (step_of devices me s).after (counted_on steps (step_of devices me s).end) (next_own devices a p q me s home held) still)
       where
         goes : (why : Option Why) → (step_of devices me s).end.why ≡ why → IsHeld a p (step_of devices me s).after → KeepsOrFrees n (step_of devices me s).me (step_of devices me s).after (counted_on steps (step_of devices me s).end)
             → IsHeld a p (unless_ended why (λ w. ended_turn (counted_on steps (step_of devices me s).end) w (step_of devices me s).me (step_of devices me s).after) (turn_on n (step_of devices me s).me (step_of devices me s).after (counted_on steps (step_of devices me s).end))).after
@@ -125,8 +120,8 @@ module _ (devices : List Device) where
 
 -- ---- what happens at once
 
-abbrev AreAtHome : WorldState → Type 0
-AreAtHome w = EachIs IsHome w.privates
+abbrev AreThemselves : WorldState → Type 0
+AreThemselves w = EachIs IsItself w.privates
 
 -- a terminal changes, and what belongs to a device stays
 pub terminal_leaves : (o : Object) (a : List ℕ) → device_of o ≡ Some a → (c : Option TerminalState) (t : ℕ) (f : TerminalState → TerminalState) (s : StoreState) → content (with_terminal c t f s) o ≡ content s o
@@ -142,41 +137,41 @@ not_content : (a : List ℕ) (t : ℕ) → IsContentOf a (object.Terminal t) →
 not_content a t c = elim c [ inl e ↦ cc | inr e ↦ cc ]
 
 module _ (a : List ℕ) (p : ℕ) where
-  turned_stays : (q n : ℕ) (m : Option Private) (w : WorldState) → private_of q w ≡ m → AreAtHome w → q ≢ p → IsHeld a p w.store → (o : Object) → device_of o ≡ Some a → content (with_turn q m n w).store o ≡ content w.store o
+  turned_stays : (q n : ℕ) (m : Option Private) (w : WorldState) → private_of q w ≡ m → AreThemselves w → q ≢ p → IsHeld a p w.store → (o : Object) → device_of o ≡ Some a → content (with_turn q m n w).store o ≡ content w.store o
   turned_stays q n None w is home apart held o of = refl
   turned_stays q n (Some me) w is home apart held o of = turn_stays w.devices a p q apart n me w.store 0 (home q me is) held o of
 
-  action_stays : (x : Action) (w : WorldState) → AreAtHome w → IsOfOthers p x → IsHeld a p w.store → (o : Object) → device_of o ≡ Some a → content (does x w).store o ≡ content w.store o
+  action_stays : (x : Action) (w : WorldState) → AreThemselves w → IsOfOthers p x → IsHeld a p w.store → (o : Object) → device_of o ≡ Some a → content (does x w).store o ≡ content w.store o
   action_stays (Key t k) w home other held o of = terminal_leaves o a of (content w.store (object.Terminal t)) t (keyed k) w.store
   action_stays (Front t q) w home other held o of = terminal_leaves o a of (content w.store (object.Terminal t)) t (λ x. record x { front = q }) w.store
   action_stays (Halt q) w home other held o of = refl
   action_stays (Reset q) w home other held o of = refl
   action_stays (Turn q n) w home apart held o of = turned_stays q n (private_of q w) w refl home apart held o of
 
-  action_held : (x : Action) (w : WorldState) → AreAtHome w → IsOfOthers p x → IsHeld a p w.store → IsHeld a p (does x w).store
+  action_held : (x : Action) (w : WorldState) → AreThemselves w → IsOfOthers p x → IsHeld a p w.store → IsHeld a p (does x w).store
   action_held x w home other held = action_stays x w home other held (object.Hog a) refl ∙ held
 
-  all_stay : (others : List Action) (w : WorldState) → AreAtHome w → AreOfOthers p others → IsHeld a p w.store → (o : Object) → device_of o ≡ Some a → content (does_all others w).store o ≡ content w.store o
+  all_stay : (others : List Action) (w : WorldState) → AreThemselves w → AreOfOthers p others → IsHeld a p w.store → (o : Object) → device_of o ≡ Some a → content (does_all others w).store o ≡ content w.store o
   all_stay [] w home other held o of = refl
   all_stay (x ∷ xs) w home other held o of =
-      all_stay xs (does x w) (each_action IsHome keeps_home x w home) other.1 (action_held x w home other.0 held) o of ∙ action_stays x w home other.0 held o of
+      all_stay xs (does x w) (each_action IsItself keeps_itself x w home) other.1 (action_held x w home other.0 held) o of ∙ action_stays x w home other.0 held o of
 
   -- who asks waits
-  turned_waits : (q n : ℕ) (m : Option Private) (w : WorldState) → private_of q w ≡ m → AreAtHome w → q ≢ p → IsHeld a p w.store → EachOf (Waits a) w.devices n m w.store
+  turned_waits : (q n : ℕ) (m : Option Private) (w : WorldState) → private_of q w ≡ m → AreThemselves w → q ≢ p → IsHeld a p w.store → EachOf (Waits a) w.devices n m w.store
   turned_waits q n None w is home apart held = tt
   turned_waits q n (Some me) w is home apart held = turn_waits w.devices a p q apart n me w.store (home q me is) held
 
-  action_waits : (x : Action) (w : WorldState) → AreAtHome w → IsOfOthers p x → IsHeld a p w.store → EachInAction (Waits a) x w
+  action_waits : (x : Action) (w : WorldState) → AreThemselves w → IsOfOthers p x → IsHeld a p w.store → EachInAction (Waits a) x w
   action_waits (Turn q n) w home apart held = turned_waits q n (private_of q w) w refl home apart held
   action_waits x w home other held = tt
 
-  all_wait : (others : List Action) (w : WorldState) → AreAtHome w → AreOfOthers p others → IsHeld a p w.store → AtEachStep (Waits a) others w
+  all_wait : (others : List Action) (w : WorldState) → AreThemselves w → AreOfOthers p others → IsHeld a p w.store → AtEachStep (Waits a) others w
   all_wait [] w home other held = tt
   all_wait (x ∷ xs) w home other held =
-      (action_waits x w home other.0 held, all_wait xs (does x w) (each_action IsHome keeps_home x w home) other.1 (action_held x w home other.0 held))
+      (action_waits x w home other.0 held, all_wait xs (does x w) (each_action IsItself keeps_itself x w home) other.1 (action_held x w home other.0 held))
 
   -- from another store
-  turned_agrees : (q n : ℕ) (m : Option Private) (w : WorldState) (t : StoreState) → private_of q w ≡ m → AreAtHome w → q ≢ p → IsHeld a p w.store → AgreeBut a w.store t
+  turned_agrees : (q n : ℕ) (m : Option Private) (w : WorldState) (t : StoreState) → private_of q w ≡ m → AreThemselves w → q ≢ p → IsHeld a p w.store → AgreeBut a w.store t
       → WorldsAgreeBut a (with_turn q m n w) (with_turn q m n (with_store t w))
   turned_agrees q n None w t is home apart held agree = (refl, agree)
   turned_agrees q n (Some me) w t is home apart held agree =
@@ -198,7 +193,7 @@ module _ (a : List ℕ) (p : ℕ) where
       subst (λ (c : Option TerminalState). AgreeBut a (with_terminal (content w.store (object.Terminal t)) t f w.store) (with_terminal c t f u)) (agree (object.Terminal t) (not_content a t))
       (terminal_agrees a (content w.store (object.Terminal t)) t f w.store u agree)
 
-  action_agrees : (x : Action) (w : WorldState) (u : StoreState) → AreAtHome w → IsOfOthers p x → IsHeld a p w.store → AgreeBut a w.store u → WorldsAgreeBut a (does x w) (does x (with_store u w))
+  action_agrees : (x : Action) (w : WorldState) (u : StoreState) → AreThemselves w → IsOfOthers p x → IsHeld a p w.store → AgreeBut a w.store u → WorldsAgreeBut a (does x w) (does x (with_store u w))
   action_agrees (Key t k) w u home other held agree = (
     ap (λ (c : Option TerminalState). record w { store = with_terminal (content u (object.Terminal t)) t (keyed k) u; dropped = tallied w.dropped (dropped_by (room_at c)) }) (agree (object.Terminal t) (not_content a t)),
     keyed_agrees t (keyed k) w u agree,
@@ -208,27 +203,27 @@ module _ (a : List ℕ) (p : ℕ) where
   action_agrees (Reset q) w u home other held agree = (refl, agree)
   action_agrees (Turn q n) w u home apart held agree = turned_agrees q n (private_of q w) w u refl home apart held agree
 
-  all_agree : (others : List Action) (w v : WorldState) → AreAtHome w → AreOfOthers p others → IsHeld a p w.store → WorldsAgreeBut a w v → WorldsAgreeBut a (does_all others w) (does_all others v)
+  all_agree : (others : List Action) (w v : WorldState) → AreThemselves w → AreOfOthers p others → IsHeld a p w.store → WorldsAgreeBut a w v → WorldsAgreeBut a (does_all others w) (does_all others v)
   all_agree [] w v home other held agree = agree
   all_agree (x ∷ xs) w v home other held agree =
-      all_agree xs (does x w) (does x v) (each_action IsHome keeps_home x w home) other.1 (action_held x w home other.0 held)
+      all_agree xs (does x w) (does x v) (each_action IsItself keeps_itself x w home) other.1 (action_held x w home other.0 held)
       (subst (λ (z : WorldState). WorldsAgreeBut a (does x w) (does x z)) agree.0 (action_agrees x w v.store home other.0 held agree.1))
 
   -- whoever acts
-  turned_keeps_or_frees : (q n : ℕ) (m : Option Private) (w : WorldState) → private_of q w ≡ m → AreAtHome w → IsHeld a p w.store → IsHeld a p (with_turn q m n w).store ⊎ SomeOf (Frees a p) w.devices n m w.store
+  turned_keeps_or_frees : (q n : ℕ) (m : Option Private) (w : WorldState) → private_of q w ≡ m → AreThemselves w → IsHeld a p w.store → IsHeld a p (with_turn q m n w).store ⊎ SomeOf (Frees a p) w.devices n m w.store
   turned_keeps_or_frees q n None w is home held = inl held
   turned_keeps_or_frees q n (Some me) w is home held = turn_keeps_or_frees w.devices a p q n me w.store 0 (home q me is) held
 
-  action_keeps_or_frees : (x : Action) (w : WorldState) → AreAtHome w → IsHeld a p w.store → IsHeld a p (does x w).store ⊎ SomeInAction (Frees a p) x w
+  action_keeps_or_frees : (x : Action) (w : WorldState) → AreThemselves w → IsHeld a p w.store → IsHeld a p (does x w).store ⊎ SomeInAction (Frees a p) x w
   action_keeps_or_frees (Turn q n) w home held = turned_keeps_or_frees q n (private_of q w) w refl home held
   action_keeps_or_frees (Key t k) w home held = inl (action_held (Key t k) w home tt held)
   action_keeps_or_frees (Front t q) w home held = inl (action_held (Front t q) w home tt held)
   action_keeps_or_frees (Halt q) w home held = inl held
   action_keeps_or_frees (Reset q) w home held = inl held
 
-  all_keep_or_free : (between : List Action) (w : WorldState) → AreAtHome w → IsHeld a p w.store → IsHeld a p (does_all between w).store ⊎ AtSomeStep (Frees a p) between w
+  all_keep_or_free : (between : List Action) (w : WorldState) → AreThemselves w → IsHeld a p w.store → IsHeld a p (does_all between w).store ⊎ AtSomeStep (Frees a p) between w
   all_keep_or_free [] w home held = inl held
-  all_keep_or_free (x ∷ xs) w home held = by (action_keeps_or_frees x w home held) (λ still. all_keep_or_free xs (does x w) (each_action IsHome keeps_home x w home) still)
+  all_keep_or_free (x ∷ xs) w home held = by (action_keeps_or_frees x w home held) (λ still. all_keep_or_free xs (does x w) (each_action IsItself keeps_itself x w home) still)
     where
       goes : IsHeld a p (does_all xs (does x w)).store ⊎ AtSomeStep (Frees a p) xs (does x w) → IsHeld a p (does_all xs (does x w)).store ⊎ AtSomeStep (Frees a p) (x ∷ xs) w
       goes (inl held) = inl held
@@ -241,19 +236,19 @@ module _ (a : List ℕ) (p : ℕ) where
 
 -- ---- in a world that a boot leads to
 
-reached_home : (w : WorldState) → IsReached w → AreAtHome w
-reached_home w reached =
+reached_selves : (w : WorldState) → IsReached w → AreThemselves w
+reached_selves w reached =
     let b = reached.0 in
-    subst AreAtHome (sym reached.3) (each_ran IsHome keeps_home reached.2 (booted b reached.1) (starts_at_home b.partitions))
+    subst AreThemselves (sym reached.3) (each_ran IsItself keeps_itself reached.2 (booted b reached.1) (starts_itself b.partitions))
 
 pub others_leave_held : OthersLeaveHeld
-others_leave_held w p a others o reached held other of = all_stay a p others w (reached_home w reached) other held o of
+others_leave_held w p a others o reached held other of = all_stay a p others w (reached_selves w reached) other held o of
 
 pub others_read_nothing : OthersReadNothing
-others_read_nothing w v p a others reached held other agree = all_agree a p others w v (reached_home w reached) other held agree
+others_read_nothing w v p a others reached held other agree = all_agree a p others w v (reached_selves w reached) other held agree
 
 pub others_wait : OthersWait
-others_wait w p a others reached held other = all_wait a p others w (reached_home w reached) other held
+others_wait w p a others reached held other = all_wait a p others w (reached_selves w reached) other held
 
 pub held_until_freed : HeldUntilFreed
-held_until_freed w p a between reached held = all_keep_or_free a p between w (reached_home w reached) held
+held_until_freed w p a between reached held = all_keep_or_free a p between w (reached_selves w reached) held

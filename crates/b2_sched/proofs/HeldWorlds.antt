@@ -6,6 +6,7 @@ use Rattle.std.proofs.lemmas.Bool.{true≢false}
 use Rattle.std.proofs.lemmas.Slice.Eq.{bytes_eq-Decides}
 use Rattle.b2_term.specs.Terminal.{TerminalState, keyed}
 use Rattle.b2_access.specs.Holding.{IsAddressIn}
+use Rattle.b2_access.specs.Loans.{lends}
 use Rattle.b2_access.specs.Rows.{device_row, row_of, with_row}
 use Rattle.b2_access.specs.Serving.{itself}
 use Rattle.b2_access.specs.Store.{StoreState, content}
@@ -14,13 +15,11 @@ use Rattle.b2_access.specs.declared.devices.Device.{Device}
 use Rattle.b2_access.specs.declared.objects.Object.TheVariants as object
 use Rattle.b2_access.specs.declared.private.Private.{Private}
 use Rattle.b2_access.proofs.Locality.{serves_keeps_listed}
-use Rattle.b2_audit.specs.Steps.{just}
 use Rattle.b2_boot.specs.Boots.{BootState}
 use Rattle.b2_boot.specs.declared.boot.BootPartition.{BootPartition}
 use Rattle.b2_boot.specs.declared.boot.BootPlatter.{BootPlatter}
 use Rattle.b2_boot.specs.declared.boot.BootPrinter.{BootPrinter}
 use Rattle.b2_machine.proofs.StepDevices.{steps_ask_for_listed}
-use Rattle.b2_machine.proofs.StepHomes.{steps_stay_within}
 use Rattle.b2_machine.specs.Touched.{AskedListed, asking}
 use Rattle.b2_machine.specs.Turn.{TurnEnd, counted_on, ended_turn, turn_from}
 use Rattle.b2_store.specs.Changes.{with_terminal}
@@ -30,21 +29,20 @@ use Rattle.b2_sched.proofs.EachRow.{EachIs, each_changed}
 use Rattle.b2_sched.proofs.Folds.{all_keep_devices}
 use Rattle.b2_sched.proofs.GroupRows.{is_it, row_comes}
 use Rattle.b2_sched.proofs.HeldAccesses.{Agree, KnowsAll, addresses_of, at_most_twelve, none_else, own_agrees, still_agree}
-use Rattle.b2_sched.proofs.HeldList.{list_after}
+use Rattle.b2_sched.proofs.HeldList.{lent_same, list_after}
 use Rattle.b2_sched.proofs.HeldSteps.{step_held}
-use Rattle.b2_sched.proofs.HeldTurns.{by_end, terminal_leaves}
+use Rattle.b2_sched.proofs.HeldTurns.{terminal_leaves}
 use Rattle.b2_sched.proofs.Lasting.{by_actions}
-use Rattle.b2_sched.proofs.Numbers.{same_number}
-use Rattle.b2_sched.proofs.OwnObjects.{IsHome, starts_at_home}
+use Rattle.b2_sched.proofs.OwnObjects.{by_end, starts_itself}
 use Rattle.b2_sched.proofs.ShownAtTerminals.{booted_shows, for_listed}
 use Rattle.b2_sched.proofs.StepEnds.{left_where, step_left}
 use Rattle.b2_sched.proofs.TouchedDevices.{IsFit, always_fit, fit_after}
 use Rattle.b2_sched.specs.Choice.{basic}
 use Rattle.b2_sched.specs.Holding.{IsHeld, KeepTheList, ListsAreWhatIsHeld, ListsWhatItHolds, held_where}
 use Rattle.b2_sched.specs.Laws.{all_actions}
-use Rattle.b2_sched.specs.Lawful.{basic_asks_for_listed, basic_is_lawful}
+use Rattle.b2_sched.specs.Lawful.{basic_asks_for_listed}
 use Rattle.b2_sched.specs.Start.{CanStart, Images, booted, devices_of, platter_addresses, printer_addresses, private_row, store_booted}
-use Rattle.b2_sched.specs.Turns.{after_loan, step_of, turn_of}
+use Rattle.b2_sched.specs.Turns.{step_of, turn_of}
 use Rattle.b2_sched.specs.World.{WorldState, Action, Key, Front, Halt, Reset, Turn, asked_to_halt, asked_to_reset, does, does_all, private_of, with_turn}
 
 -- ---- a step, and a turn
@@ -54,17 +52,23 @@ left_knows : (devices : List Device) (x : Option Access) (who : ℕ) (s : StoreS
 left_knows devices None who s knows = knows
 left_knows devices (Some x) who s knows = λ a i. serves_keeps_listed disks who x s (object.Hog a) (knows a i)
 
+-- where the holders are the same, what was known is so, and what agreed
+same_known : (devices : List Device) (s t : StoreState) → ((a : List ℕ) → content t (object.Hog a) ≡ content s (object.Hog a)) → KnowsAll devices s → KnowsAll devices t
+same_known devices s t same knows a i = subst (λ (o : Option (Option ℕ)). IsSome o) (sym (same a)) (knows a i)
+
+same_agreed : (devices : List Device) (p : ℕ) (held : List (List ℕ)) (s t : StoreState) → ((a : List ℕ) → content t (object.Hog a) ≡ content s (object.Hog a)) → Agree devices p held s → Agree devices p held t
+same_agreed devices p held s t same agree = still_agree devices p held s t (λ a is. sym (same a) ∙ is) (λ a is. same a ∙ is) agree
+
 module _ (devices : List Device) (few : length devices ≤ 12) (keep : KeepTheList (basic devices)) where
   abbrev turn_on : ℕ → Private → StoreState → ℕ → TurnEnd StoreState
-  turn_on n me s steps = turn_from (basic devices) itself serves after_loan n me s steps
+  turn_on n me s steps = turn_from (basic devices) itself serves lends n me s steps
 
   step_knows : (me : Private) (s : StoreState) → KnowsAll devices s → KnowsAll devices (step_of devices me s).after
   step_knows me s knows =
+      let l = step_left (basic devices) me s in
       let x = asking (basic devices) me s in
-      subst (KnowsAll devices) (sym (step_left (basic devices) me s)) (left_knows devices x.access x.who s knows)
-
-  asks_itself : (p : ℕ) (me : Private) (s : StoreState) → IsHome p me → (asking (basic devices) me s).who ≡ p
-  asks_itself p me s home = same_number (asking (basic devices) me s).who p (steps_stay_within (basic devices) (basic_is_lawful devices) itself serves after_loan (just p) me s home).1
+      same_known devices (left_where x me.part l.before) (step_of devices me s).after (λ a. l.left (object.Hog a) refl)
+      (left_knows devices x me.part l.before (same_known devices s l.before (λ a. l.lent (object.Hog a) refl) knows))
 
   -- of the partition that takes it
   module _ (p : ℕ) where
@@ -75,11 +79,15 @@ module _ (devices : List Device) (few : length devices ≤ 12) (keep : KeepTheLi
     own_step : (me : Private) (s : StoreState) → IsFit p me → KnowsAll devices s → Agree devices p me.held s → Agree devices p (step_of devices me s).me.held (step_of devices me s).after
     own_step me s fit knows agree =
         let x = asking (basic devices) me s in
+        let l = step_left (basic devices) me s in
         let asked = steps_ask_for_listed basic basic_asks_for_listed devices me s (for_listed devices me.part me.pending fit.0) in
-        let listed = subst (λ (k : ℕ). AskedListed devices k x.access) (same_number me.part p fit.1.part) asked in
-        subst (λ (t : StoreState). Agree devices p (step_of devices me s).me.held t) (sym (step_left (basic devices) me s))
-        (subst (λ (held : List (List ℕ)). Agree devices p held (left_where x.access x.who s)) (sym (list_after (basic devices) keep me s))
-        (subst (λ (k : ℕ). Agree devices p (held_where x.access k me.held s) (left_where x.access k s)) (sym (asks_itself p me s fit.1)) (own_left x.access me.held s knows listed agree)))
+        let listed = subst (λ (k : ℕ). AskedListed devices k x) fit.1 asked in
+        let lent : (a : List ℕ) → content l.before (object.Hog a) ≡ content s (object.Hog a) = λ a. l.lent (object.Hog a) refl in
+        let there = own_left x me.held l.before (same_known devices s l.before lent knows) listed (same_agreed devices p me.held s l.before lent agree) in
+        let list : held_where x p me.held l.before ≡ (step_of devices me s).me.held =
+        lent_same (basic devices) keep x p me.held s l.before l.lent ∙ ap (λ (k : ℕ). held_where x k me.held s) (sym fit.1) ∙ sym (list_after (basic devices) keep me s) in
+        same_agreed devices p (step_of devices me s).me.held (left_where x me.part l.before) (step_of devices me s).after (λ a. l.left (object.Hog a) refl)
+        (subst (λ (k : ℕ). Agree devices p (step_of devices me s).me.held (left_where x k l.before)) (sym fit.1) (subst (λ (held : List (List ℕ)). Agree devices p held (left_where x p l.before)) list there))
 
     own_turn : (n : ℕ) (me : Private) (s : StoreState) (steps : ℕ) → IsFit p me → KnowsAll devices s → Agree devices p me.held s → Agree devices p (turn_on n me s steps).me.held (turn_on n me s steps).after
     unfolding turn_from
@@ -99,8 +107,9 @@ module _ (devices : List Device) (few : length devices ≤ 12) (keep : KeepTheLi
     other_step : (held : List (List ℕ)) (me : Private) (s : StoreState) → IsFit q me → Agree devices p held s → Agree devices p held (step_of devices me s).after
     other_step held me s fit agree =
         let x = asking (basic devices) me s in
+        let l = step_left (basic devices) me s in
         still_agree devices p held s (step_of devices me s).after
-        (λ a is. none_left x.access a s (subst (λ (k : ℕ). IsHeld a p (left_where x.access k s)) (asks_itself q me s fit.1) (subst (IsHeld a p) (step_left (basic devices) me s) is)))
+        (λ a is. sym (l.lent (object.Hog a) refl) ∙ none_left x a l.before (subst (λ (k : ℕ). IsHeld a p (left_where x k l.before)) fit.1 (sym (l.left (object.Hog a) refl) ∙ is)))
         (λ a is. step_held devices a p q me s fit.1 is apart) agree
 
     other_turn : (held : List (List ℕ)) (n : ℕ) (me : Private) (s : StoreState) (steps : ℕ) → IsFit q me → Agree devices p held s → Agree devices p held (turn_on n me s steps).after
@@ -224,7 +233,7 @@ booted_good b images can = record {
   few = can.few;
   knows = booted_knows b.printers b.platters;
   each = λ p me is. (
-    (booted_shows b.partitions p me is, starts_at_home b.partitions p me is),
+    (booted_shows b.partitions p me is, starts_itself b.partitions p me is),
     subst (λ (held : List (List ℕ)). Agree (devices_of b.printers b.platters) p held (store_booted b images)) (sym (booted_empty b.partitions p me is)) (booted_agrees b images p),
   );
 }

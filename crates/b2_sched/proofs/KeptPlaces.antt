@@ -1,6 +1,7 @@
 -- No partition of a world keeps a place for CONTINUE while its program runs.
 use Rattle.std.specs.Prelude.{◌≡◌, ℕ, ◌==◌, Bool, true, false, cond, List, [], ◌∷◌, map, Option, Some, is_some, refl}
 use Rattle.std.proofs.Common.{ap, subst}
+use Rattle.b2_access.specs.Loans.{lends}
 use Rattle.b2_access.specs.Partition.{KeepsNone}
 use Rattle.b2_access.specs.Rows.{row_of}
 use Rattle.b2_access.specs.Serving.{itself}
@@ -14,7 +15,6 @@ use Rattle.b2_sched.proofs.EachRow.{IsKept, each_ran}
 use Rattle.b2_sched.proofs.GroupRows.{is_it}
 use Rattle.b2_sched.specs.Laws.{NoPlaceIsKept}
 use Rattle.b2_sched.specs.Start.{booted, private_row}
-use Rattle.b2_sched.specs.Turns.{after_loan}
 
 -- at the start of a boot
 first_by : (x : BootPartition) (xs : List BootPartition) (p : ℕ) (me : Private) → (row_of p (map private_row xs) ≡ Some me → KeepsNone me) → (b : Bool)
@@ -30,7 +30,7 @@ keeps_none : IsKept (λ p me. KeepsNone me)
 keeps_none = record {
   halt = λ p me h. h;
   reset = λ p me h. h;
-  turn = λ devices p n me s h. turn_keeps (basic devices) (basic_is_lawful devices) itself serves after_loan n me s h;
+  turn = λ devices p n me s h. turn_keeps (basic devices) (basic_is_lawful devices) itself serves lends n me s h;
 }
 
 pub no_place_kept : NoPlaceIsKept

@@ -14,8 +14,8 @@ use Rattle.b2_machine.proofs.LegalPlans.{legal_begun}
 use Rattle.b2_machine.specs.Messages.{prints_text, shows_text}
 use Rattle.b2_machine.specs.Statements.{begins}
 use Rattle.b2_machine.specs.Stays.{IsLegalProgress}
-use Rattle.b2_machine.specs.Step.{seen_by}
-use Rattle.b2_machine.specs.Touched.{Asking, access_asked, asking, asks_at, asks_to_enter, asks_to_show, asks_to_type, asks_unless_halted}
+use Rattle.b2_machine.specs.Step.{seen_at}
+use Rattle.b2_machine.specs.Touched.{access_asked, asking, asks_at, asks_to_enter, asks_to_show, asks_to_type, asks_unless_halted}
 use Rattle.b2_machine.specs.Typing.{on_own_line}
 use Rattle.b2_machine.specs.declared.statements.Progress.{Progress}
 use Rattle.b2_machine.specs.declared.statements.Progress.TheVariants as progress
@@ -25,10 +25,10 @@ IsLegalIfAny None = Unit {0}
 IsLegalIfAny (Some a) = IsLegal a
 
 module _ (ways : Ways) (lawful : AreLawful ways) where
-  abbrev Asks : Asking → Type 0
-  Asks x = IsLegalIfAny x.access
+  abbrev Asks : Option Access → Type 0
+  Asks x = IsLegalIfAny x
 
-  by_test : (b : Bool) (x y : Asking) → Asks x → Asks y → Asks (if b then x else y)
+  by_test : (b : Bool) (x y : Option Access) → Asks x → Asks y → Asks (if b then x else y)
   by_test true x y h k = h
   by_test false x y h k = k
 
@@ -38,7 +38,10 @@ module _ (ways : Ways) (lawful : AreLawful ways) where
 
   at_place : (x : Option Place) (me : Private) (s : StoreState) → Asks (asks_at ways x me s)
   at_place None me s = tt
-  at_place (Some p) me s = let b = begins ways p me (seen_by me s) in in_progress b.progress (legal_begun ways lawful p me b.me (seen_by me s) b.progress refl)
+  at_place (Some p) me s =
+      let seen = seen_at p me s in
+      let b = begins ways p me seen in
+      in_progress b.progress (legal_begun ways lawful p me b.me seen b.progress refl)
 
   entering : (x : Option (ℕ × Option (List ℕ))) (me : Private) (s : StoreState) → Asks (asks_to_enter ways x me s)
   entering (Some line) me s = at_most line.0
@@ -58,5 +61,5 @@ module _ (ways : Ways) (lawful : AreLawful ways) where
   halting : (me : Private) (s : StoreState) → Asks (asks_unless_halted ways me s)
   halting me s = by_test (is_ready me) _ _ (showing me.pending (record me { halt = false }) s) tt
 
-  pub steps_ask_legally : (me : Private) (s : StoreState) → IsLegalIfAny (asking ways me s).access
+  pub steps_ask_legally : (me : Private) (s : StoreState) → IsLegalIfAny (asking ways me s)
   steps_ask_legally me s = by_test me.reset _ _ tt (by_test me.halt _ _ (halting me s) (showing me.pending me s))

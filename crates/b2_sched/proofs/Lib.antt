@@ -7,11 +7,14 @@ pub mod Folds
 pub mod Numbers
 pub mod Lasting
 pub mod Foul
+pub mod AskedHomes
+pub mod Reaching
 pub mod GroupTurns
 pub mod GroupRows
 pub mod GroupRuns
 pub mod AloneBoots
 pub mod EachRow
+pub mod TextsWritten
 pub mod OwnObjects
 pub mod OwnTexts
 pub mod MarkedTurns

@@ -2,6 +2,7 @@
 use Rattle.std.specs.Prelude.{◌≡◌, ℕ, zero, suc, ◌==◌, Bool, true, false, cond, List, [], ◌∷◌, map, Option, Some, None, is_some, refl}
 use Rattle.std.proofs.Common.{sym, ap, subst, ◌∙◌}
 use Rattle.b2_term.specs.Terminal.{TerminalState, keyed}
+use Rattle.b2_access.specs.Loans.{lends}
 use Rattle.b2_access.specs.OpenFiles.{HasOpenFiles}
 use Rattle.b2_access.specs.Rows.{row_of}
 use Rattle.b2_access.specs.Serving.{itself}
@@ -14,6 +15,7 @@ use Rattle.b2_access.proofs.OpenFiles.{none_open}
 use Rattle.b2_boot.specs.declared.boot.BootPartition.{BootPartition}
 use Rattle.b2_machine.proofs.StepOpenFiles.{steps_keep_open_files}
 use Rattle.b2_machine.specs.OpenFiles.{FitsFrom}
+use Rattle.b2_machine.specs.Step.{lent_to_begin}
 use Rattle.b2_machine.specs.Touched.{asking}
 use Rattle.b2_machine.specs.Turn.{counted_on, ended_turn, turn_from, unless_ended}
 use Rattle.b2_machine.specs.declared.ends.Why.{Why}
@@ -27,18 +29,21 @@ use Rattle.b2_sched.proofs.Folds.{all_keep_devices}
 use Rattle.b2_sched.proofs.GroupRows.{is_it}
 use Rattle.b2_sched.proofs.Lasting.{by_actions}
 use Rattle.b2_sched.proofs.LegalSteps.{IsLegalIfAny, steps_ask_legally}
-use Rattle.b2_sched.proofs.StepEnds.{left_where, step_left}
+use Rattle.b2_sched.proofs.StepEnds.{begun_stays, left_where, step_left}
 use Rattle.b2_sched.specs.Choice.{basic}
 use Rattle.b2_sched.specs.Lawful.{basic_asks_for_listed, basic_is_lawful, basic_keeps_open_files}
 use Rattle.b2_sched.specs.Laws.{all_actions}
 use Rattle.b2_sched.specs.OpenFiles.{OpenFilesAreListed}
 use Rattle.b2_sched.specs.Start.{booted, private_row}
-use Rattle.b2_sched.specs.Turns.{after_loan, step_of}
+use Rattle.b2_sched.specs.Turns.{step_of}
 use Rattle.b2_sched.specs.World.{WorldState, Action, Key, Front, Halt, Reset, Turn, asked_to_halt, asked_to_reset, does, does_all, private_of, with_turn}
 
 -- a step, and a turn: platters stay sound, and so what is answered fits
 fits : (s : StoreState) → AreSound s → FitsFrom serves s
 fits s sound who a legal = answers-fit s who a legal (λ addr image there. (sound addr image there).0)
+
+same_sound : (s t : StoreState) → ((a : List ℕ) → content t (object.Platter a) ≡ content s (object.Platter a)) → AreSound s → AreSound t
+same_sound s t same sound a image there = sound a image (sym (same a) ∙ there)
 
 left_sound : (x : Option Access) (who : ℕ) (s : StoreState) → IsLegalIfAny x → AreSound s → AreSound (left_where x who s)
 left_sound None who s legal sound = sound
@@ -50,13 +55,16 @@ module _ (devices : List Device) where
 
   in_step : (me : Private) (s : StoreState) → Both me s → Both (step_of devices me s).me (step_of devices me s).after
   in_step me s k =
-      let x = asking (basic devices) me s in (
-        steps_keep_open_files basic basic_is_lawful basic_asks_for_listed basic_keeps_open_files itself serves after_loan devices me s (fits s k.1) k.0,
-        subst AreSound (sym (step_left (basic devices) me s)) (left_sound x.access x.who s (steps_ask_legally (basic devices) (basic_is_lawful devices) me s) k.1),
+      let x = asking (basic devices) me s in
+      let l = step_left (basic devices) me s in (
+        steps_keep_open_files basic basic_is_lawful basic_asks_for_listed basic_keeps_open_files itself serves lends devices me s
+            (λ home whose left. fits _ (same_sound s (lent_to_begin itself serves lends me.part home whose s left) (λ a. begun_stays me.part home whose left s (object.Platter a) refl) k.1)) k.0,
+        same_sound (left_where x me.part l.before) (step_of devices me s).after (λ a. l.left (object.Platter a) refl)
+            (left_sound x me.part l.before (steps_ask_legally (basic devices) (basic_is_lawful devices) me s) (same_sound s l.before (λ a. l.lent (object.Platter a) refl) k.1)),
       )
 
   abbrev BothAfter : ℕ → Private → StoreState → ℕ → Type 0
-  BothAfter n me s steps = Both (turn_from (basic devices) itself serves after_loan n me s steps).me (turn_from (basic devices) itself serves after_loan n me s steps).after
+  BothAfter n me s steps = Both (turn_from (basic devices) itself serves lends n me s steps).me (turn_from (basic devices) itself serves lends n me s steps).after
 
   in_turn : (n : ℕ) (me : Private) (s : StoreState) (steps : ℕ) → Both me s → BothAfter n me s steps
   unfolding turn_from
@@ -66,8 +74,8 @@ module _ (devices : List Device) where
       by x.end.why (in_step me s k) (in_turn n x.me x.after (counted_on steps x.end) (in_step me s k))
     where
       by : (o : Option Why) → Both (step_of devices me s).me (step_of devices me s).after → BothAfter n (step_of devices me s).me (step_of devices me s).after (counted_on steps (step_of devices me s).end)
-          → Both (unless_ended o (λ w. ended_turn (counted_on steps (step_of devices me s).end) w (step_of devices me s).me (step_of devices me s).after) (turn_from (basic devices) itself serves after_loan n (step_of devices me s).me (step_of devices me s).after (counted_on steps (step_of devices me s).end))).me
-          (unless_ended o (λ w. ended_turn (counted_on steps (step_of devices me s).end) w (step_of devices me s).me (step_of devices me s).after) (turn_from (basic devices) itself serves after_loan n (step_of devices me s).me (step_of devices me s).after (counted_on steps (step_of devices me s).end))).after
+          → Both (unless_ended o (λ w. ended_turn (counted_on steps (step_of devices me s).end) w (step_of devices me s).me (step_of devices me s).after) (turn_from (basic devices) itself serves lends n (step_of devices me s).me (step_of devices me s).after (counted_on steps (step_of devices me s).end))).me
+          (unless_ended o (λ w. ended_turn (counted_on steps (step_of devices me s).end) w (step_of devices me s).me (step_of devices me s).after) (turn_from (basic devices) itself serves lends n (step_of devices me s).me (step_of devices me s).after (counted_on steps (step_of devices me s).end))).after
       by None here later = later
       by (Some why) here later = here
 
@@ -86,7 +94,7 @@ turned : (p n : ℕ) (o : Option Private) (w : WorldState) → private_of p w �
 turned p n None w is k = k
 turned p n (Some me) w is k =
     let after = in_turn w.devices n me w.store 0 (k.0 p me is, k.1) in
-    (each_row (IsOpen w.devices) p (turn_from (basic w.devices) itself serves after_loan n me w.store 0).me w.privates after.0 k.0, after.1)
+    (each_row (IsOpen w.devices) p (turn_from (basic w.devices) itself serves lends n me w.store 0).me w.privates after.0 k.0, after.1)
 
 in_action : (x : Action) (w : WorldState) → AllOpen w → AllOpen (does x w)
 in_action (Key t key) w k = (k.0, sound_terminal (content w.store (object.Terminal t)) t (keyed key) w.store k.1)

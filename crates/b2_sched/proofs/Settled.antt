@@ -1,94 +1,121 @@
--- Each partition has its number, its terminal and itself as its only home, after whatever happened; so its steps touch and write
+-- Each partition has its number and its terminal, after whatever happened, and names none but such numbers; so its steps touch and write
 -- only what is marked, and no text but its own.
-use Rattle.std.specs.Prelude.{◌≡◌, ℕ, zero, suc, ◌==◌, Bool, true, false, cond, List, [], ◌∷◌, map, Option, Some, None, is_some, refl}
-use Rattle.std.proofs.Common.{sym, ap, subst, ◌∙◌, inl, inr}
-use Rattle.b2_access.specs.OwnTerminal.{AskedAt}
+use Rattle.std.specs.Prelude.{◌≡◌, ◌≤◌, ℕ, zero, suc, ◌==◌, ◌&&◌, nat_le, Bool, true, false, cond, List, [], ◌∷◌, map, Option, Some, None, is_some, refl}
+use Rattle.std.proofs.Common.{sym, ap, subst, ◌∙◌, arith}
+use Rattle.std.proofs.lemmas.Bool.{and_parts}
+use Rattle.std.proofs.lemmas.Bool.Decides.{nat_tests}
+use Rattle.b2_access.specs.Homes.{HomesIn}
+use Rattle.b2_access.specs.Leading.{NamesIn}
+use Rattle.b2_access.specs.Loans.{lends}
+use Rattle.b2_access.specs.OwnTerminal.{AskedAt, NamesAlone}
 use Rattle.b2_access.specs.Rows.{row_of}
 use Rattle.b2_access.specs.Serving.{itself}
 use Rattle.b2_store.specs.DiskWork.{serves}
 use Rattle.b2_access.specs.Store.{StoreState, IsIn}
 use Rattle.b2_access.specs.declared.devices.Device.{Device}
 use Rattle.b2_access.specs.declared.accesses.Access.{Access}
-use Rattle.b2_access.specs.declared.objects.Object.{Object}
 use Rattle.b2_access.specs.declared.objects.Object.TheVariants as object
 use Rattle.b2_access.specs.declared.private.Private.{Private}
-use Rattle.b2_audit.proofs.Accesses.{accesses_are_marked, accesses_write_own_texts}
-use Rattle.b2_audit.specs.Steps.{AreMarked, AreSteps, IsMarked, IsPartition, IsTerminal, WriteOwnTexts, just}
+use Rattle.b2_audit.proofs.Accesses.{accesses_are_marked}
+use Rattle.b2_audit.specs.Steps.{AreMarked, AreSteps, IsMarked, IsPartition, IsTerminal, WriteOwnTexts}
 use Rattle.b2_boot.specs.declared.boot.BootPartition.{BootPartition}
-use Rattle.b2_machine.proofs.StepHomes.{steps_stay_within}
 use Rattle.b2_machine.proofs.StepTerminal.{steps_ask_at_terminal}
-use Rattle.b2_machine.specs.Touched.{asking, step_touched, step_written, touched_where, written_where}
+use Rattle.b2_machine.specs.Touched.{asking, step_touched, step_written}
 use Rattle.b2_machine.specs.Turn.{TurnEnd, counted_on, ended_turn, turn_from, unless_ended}
 use Rattle.b2_machine.specs.declared.ends.Why.{Why}
 use Rattle.b2_sched.specs.Choice.{basic}
 use Rattle.b2_sched.specs.Lawful.{basic_is_lawful}
-use Rattle.b2_sched.proofs.EachRow.{EachIs, IsKept}
+use Rattle.b2_sched.proofs.AloneBoots.{starts_within}
+use Rattle.b2_sched.proofs.EachRow.{EachIs}
 use Rattle.b2_sched.proofs.GroupRows.{is_it}
+use Rattle.b2_sched.proofs.GroupTurns.{local}
 use Rattle.b2_sched.proofs.Numbers.{same_number}
-use Rattle.b2_sched.proofs.OwnObjects.{halts_at_home, resets_at_home, starts_at_home}
-use Rattle.b2_sched.specs.Presence.{IsSettled}
+use Rattle.b2_sched.proofs.OwnObjects.{starts_itself, step_part, step_within}
+use Rattle.b2_sched.proofs.AskedHomes.{HomesIfAny, asks_within}
+use Rattle.b2_sched.proofs.Reaching.{Covers, MayIfAny, holder_led, stepped}
+use Rattle.b2_sched.proofs.TextsWritten.{writes_own_text}
+use Rattle.b2_sched.specs.Presence.{IsSettled, is_number}
 use Rattle.b2_sched.specs.Start.{AreNumbered, private_row}
-use Rattle.b2_sched.specs.Turns.{after_loan, step_of, steps_in_turn}
+use Rattle.b2_sched.specs.Turns.{step_of, steps_in_turn}
 
--- what a step touches and writes
-marked_first : (x : Object) (xs : List Object) → IsMarked x → AreMarked xs → AreMarked (x ∷ xs)
-marked_first x xs is are o i = elim i [ inl e ↦ subst (λ (y : Object). IsMarked y) (sym e) is | inr j ↦ are o j ]
+-- numbers of partitions
+pub numbered : (p : ℕ) → is_number p ≡ true → IsPartition p
+numbered p is =
+    let (low, high) = and_parts (nat_le 1 p) (nat_le p 16) is in
+    let least : 1 ≤ p = grind (arith, nat_tests) in
+    let most : p ≤ 16 = grind (arith, nat_tests) in
+    (least, most)
 
-asked_marked : (who t : ℕ) (x : Option Access) (s : StoreState) → IsPartition who → IsTerminal t → AskedAt t x → AreMarked (touched_where x who s) × AreMarked (written_where itself serves x who s)
-asked_marked who t None s is_who is_t at = (λ o i. absurd i, λ o i. absurd i)
-asked_marked who t (Some a) s is_who is_t at =
-    let both = accesses_are_marked s who a is_who (λ u is. subst (λ (k : ℕ). IsTerminal k) (sym (at u is)) is_t) in
-    (both.0, both.1 (serves s who a).answer)
+pub is_numbered : (p : ℕ) → IsPartition p → is_number p ≡ true
+is_numbered p h =
+    let low : nat_le 1 p ≡ true = let least = h.0 in grind (arith, nat_tests) in
+    let high : nat_le p 16 ≡ true = let most = h.1 in grind (arith, nat_tests) in
+    ap (λ (b : Bool). b && nat_le p 16) low ∙ high
 
-wrote_own : (who q : ℕ) (x : Option Access) (s : StoreState) → IsIn (object.Text q) (written_where itself serves x who s) → q ≡ who
-wrote_own who q None s i = absurd i
-wrote_own who q (Some a) s i = accesses_write_own_texts who q a (serves s who a).answer i
+-- what is asked at the terminal of a partition, and marks such numbers as homes, touches what is marked
+abbrev MayAsk : ℕ → ℕ → Access → Type 0
+MayAsk term who a = NamesAlone term a × HomesIn is_number a
+
+asked_there : (term who : ℕ) (x : Option Access) → AskedAt term x → HomesIfAny is_number x → MayIfAny (MayAsk term) who x
+asked_there term who None h k = tt
+asked_there term who (Some a) h k = (h, k)
+
+marks_cover : (term : ℕ) → IsTerminal term → Covers is_number (MayAsk term) IsMarked
+marks_cover term is = record {
+  texts = numbered;
+  variables = numbered;
+  names = λ n. tt;
+  accesses = λ who a s member h led.
+      (accesses_are_marked s who a (numbered who member) (λ t at. subst (λ (k : ℕ). IsTerminal k) (sym (h.0 t at)) is) (λ k there. numbered k (h.1 k there))).0
+      (λ q holds. numbered q (holder_led is_number who a s led q holds));
+}
 
 module _ (devices : List Device) where
-  module _ (p : ℕ) (me : Private) (s : StoreState) (is : IsSettled p me) where
-    asks_itself : (asking (basic devices) me s).who ≡ p
-    asks_itself = same_number (asking (basic devices) me s).who p (steps_stay_within (basic devices) (basic_is_lawful devices) itself serves after_loan (just p) me s is.home).1
+  module _ (p : ℕ) (me : Private) (s : StoreState) (is : IsSettled p me) (names : NamesIn is_number s) where
+    touched_marked : AreMarked (step_touched (basic devices) itself serves lends me s)
+    touched_marked =
+        let asked = (steps_ask_at_terminal (basic devices) (basic_is_lawful devices) itself serves lends me s).1 in
+        stepped is_number (MayAsk me.term) IsMarked (marks_cover me.term is.terminal) (basic devices) me s is.homes (λ n q i leads. names n q leads)
+        (asked_there me.term me.part (asking (basic devices) me s) asked (asks_within (basic devices) (basic_is_lawful devices) is_number me s is.homes))
 
-    step_marked : AreMarked (step_touched (basic devices) me s) × AreMarked (step_written (basic devices) itself serves me s)
-    step_marked =
-        let x = asking (basic devices) me s in
-        let number : (k : ℕ) → k ≡ p → IsPartition k = λ k e. subst (λ (j : ℕ). IsPartition j) (sym e) is.number in
-        let me_is = number me.part (same_number me.part p is.home.part) in
-        let who_is = number x.who asks_itself in
-        let both = asked_marked x.who me.term x.access s who_is is.terminal (steps_ask_at_terminal (basic devices) (basic_is_lawful devices) itself serves after_loan me s).1 in
-        (marked_first (object.Text me.part) (object.Text x.who ∷ touched_where x.access x.who s) me_is (marked_first (object.Text x.who) (touched_where x.access x.who s) who_is both.0), both.1)
+    written_marked : AreMarked (step_written (basic devices) itself serves lends me s)
+    written_marked o i = touched_marked o ((local devices me).within s o i)
 
-    step_writes_own : (q : ℕ) → IsIn (object.Text q) (step_written (basic devices) itself serves me s) → q ≡ p
-    step_writes_own q i = wrote_own (asking (basic devices) me s).who q (asking (basic devices) me s).access s i ∙ asks_itself
+    step_writes_own : (q : ℕ) → IsIn (object.Text q) (step_written (basic devices) itself serves lends me s) → q ≡ p
+    step_writes_own q i = writes_own_text (basic devices) me s q i ∙ is.part
 
     next_settled : IsSettled p (step_of devices me s).me
     next_settled = record {
       number = is.number;
-      terminal = subst (λ (t : ℕ). IsTerminal t) (sym (steps_ask_at_terminal (basic devices) (basic_is_lawful devices) itself serves after_loan me s).0) is.terminal;
-      home = (steps_stay_within (basic devices) (basic_is_lawful devices) itself serves after_loan (just p) me s is.home).0;
+      terminal = subst (λ (t : ℕ). IsTerminal t) (sym (steps_ask_at_terminal (basic devices) (basic_is_lawful devices) itself serves lends me s).0) is.terminal;
+      part = step_part devices me s ∙ is.part;
+      homes = (step_within devices is_number me s is.homes names).0;
     }
+
+    next_names : NamesIn is_number (step_of devices me s).after
+    next_names = (step_within devices is_number me s is.homes names).1
 
   -- along a turn
   abbrev turn_on : ℕ → Private → StoreState → ℕ → TurnEnd StoreState
-  turn_on n me s steps = turn_from (basic devices) itself serves after_loan n me s steps
+  turn_on n me s steps = turn_from (basic devices) itself serves lends n me s steps
 
-  pub turn_settled : (p n : ℕ) (me : Private) (s : StoreState) (steps : ℕ) → IsSettled p me → IsSettled p (turn_on n me s steps).me
+  pub turn_settled : (p n : ℕ) (me : Private) (s : StoreState) (steps : ℕ) → IsSettled p me → NamesIn is_number s → IsSettled p (turn_on n me s steps).me
   unfolding turn_from
-  turn_settled p zero me s steps is = is
-  turn_settled p (suc n) me s steps is = by (step_of devices me s).end.why (turn_settled p n (step_of devices me s).me (step_of devices me s).after (counted_on steps (step_of devices me s).end) (next_settled p me s is))
+  turn_settled p zero me s steps is names = is
+  turn_settled p (suc n) me s steps is names =
+      by (step_of devices me s).end.why (turn_settled p n (step_of devices me s).me (step_of devices me s).after (counted_on steps (step_of devices me s).end) (next_settled p me s is names) (next_names p me s is names))
     where
       by : (why : Option Why) → IsSettled p (turn_on n (step_of devices me s).me (step_of devices me s).after (counted_on steps (step_of devices me s).end)).me
           → IsSettled p (unless_ended why (λ w. ended_turn (counted_on steps (step_of devices me s).end) w (step_of devices me s).me (step_of devices me s).after) (turn_on n (step_of devices me s).me (step_of devices me s).after (counted_on steps (step_of devices me s).end))).me
       by None later = later
-      by (Some why) later = next_settled p me s is
+      by (Some why) later = next_settled p me s is names
 
-  pub turn_steps : (p n : ℕ) (me : Private) (s : StoreState) → IsSettled p me → AreSteps (steps_in_turn devices p n me s) × WriteOwnTexts (steps_in_turn devices p n me s)
+  pub turn_steps : (p n : ℕ) (me : Private) (s : StoreState) → IsSettled p me → NamesIn is_number s → AreSteps (steps_in_turn devices p n me s) × WriteOwnTexts (steps_in_turn devices p n me s)
   unfolding steps_in_turn
-  turn_steps p zero me s is = (tt, tt)
-  turn_steps p (suc n) me s is =
-      let here = step_marked p me s is in
-      let rest = by (step_of devices me s).end.why (turn_steps p n (step_of devices me s).me (step_of devices me s).after (next_settled p me s is)) in
-      ((is.number, here.0, here.1, rest.0), (step_writes_own p me s is, rest.1))
+  turn_steps p zero me s is names = (tt, tt)
+  turn_steps p (suc n) me s is names =
+      let rest = by (step_of devices me s).end.why (turn_steps p n (step_of devices me s).me (step_of devices me s).after (next_settled p me s is names) (next_names p me s is names)) in
+      ((is.number, touched_marked p me s is names, written_marked p me s is names, rest.0), (step_writes_own p me s is names, rest.1))
     where
       by : (why : Option Why) → AreSteps (steps_in_turn devices p n (step_of devices me s).me (step_of devices me s).after) × WriteOwnTexts (steps_in_turn devices p n (step_of devices me s).me (step_of devices me s).after)
           → AreSteps (unless_ended why (λ w. []) (steps_in_turn devices p n (step_of devices me s).me (step_of devices me s).after)) × WriteOwnTexts (unless_ended why (λ w. []) (steps_in_turn devices p n (step_of devices me s).me (step_of devices me s).after))
@@ -96,13 +123,10 @@ module _ (devices : List Device) where
       by (Some why) later = (tt, tt)
 
 pub halt_settled : (p : ℕ) (me : Private) → IsSettled p me → IsSettled p (record me { halt = true })
-halt_settled p me is = record { number = is.number; terminal = is.terminal; home = halts_at_home p me is.home }
+halt_settled p me is = record { number = is.number; terminal = is.terminal; part = is.part; homes = record { part = is.homes.part; place = is.homes.place; kept = is.homes.kept; frames = is.homes.frames } }
 
 pub reset_settled : (p : ℕ) (me : Private) → IsSettled p me → IsSettled p (record me { reset = true })
-reset_settled p me is = record { number = is.number; terminal = is.terminal; home = resets_at_home p me is.home }
-
-pub keeps_settled : IsKept (λ p me. IsSettled p me)
-keeps_settled = record { halt = halt_settled; reset = reset_settled; turn = λ devices p n me s is. turn_settled devices p n me s 0 is }
+reset_settled p me is = record { number = is.number; terminal = is.terminal; part = is.part; homes = record { part = is.homes.part; place = is.homes.place; kept = is.homes.kept; frames = is.homes.frames } }
 
 -- at the start of a boot
 placed : (ps : List BootPartition) (p : ℕ) (me : Private) → AreNumbered ps → row_of p (map private_row ps) ≡ Some me → IsPartition p × IsTerminal me.term
@@ -116,4 +140,4 @@ placed (x ∷ xs) p me are is = by (x.number == p) refl (placed xs p me are.2) i
 pub starts_settled : (ps : List BootPartition) → AreNumbered ps → EachIs (λ p me. IsSettled p me) (map private_row ps)
 starts_settled ps are p me is =
     let here = placed ps p me are is in
-    record { number = here.0; terminal = here.1; home = starts_at_home ps p me is }
+    record { number = here.0; terminal = here.1; part = starts_itself ps p me is; homes = starts_within is_number p ps me (is_numbered p here.0) is }

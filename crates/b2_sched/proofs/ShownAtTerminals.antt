@@ -1,6 +1,7 @@
 -- What waits to be shown at a partition of a world that a boot leads to is for its terminal.
 use Rattle.std.specs.Prelude.{◌≡◌, ℕ, ◌==◌, Bool, true, false, cond, List, [], ◌∷◌, map, Option, Some, None, is_some, refl}
 use Rattle.std.proofs.Common.{ap, inl, subst}
+use Rattle.b2_access.specs.Loans.{lends}
 use Rattle.b2_access.specs.Partition.{greeting}
 use Rattle.b2_access.specs.Pending.{IsForListed, IsForTerminal, PendingOutput}
 use Rattle.b2_access.specs.Rows.{row_of}
@@ -15,7 +16,6 @@ use Rattle.b2_sched.proofs.GroupRows.{is_it}
 use Rattle.b2_sched.specs.Choice.{basic}
 use Rattle.b2_sched.specs.Lawful.{basic_is_lawful}
 use Rattle.b2_sched.specs.Start.{private_row, starting_line}
-use Rattle.b2_sched.specs.Turns.{after_loan}
 
 abbrev pub ShowsAtTerminal : ℕ → Private → Type 0
 ShowsAtTerminal p me = IsForTerminal me.pending
@@ -44,5 +44,5 @@ pub always_shows : IsKept ShowsAtTerminal
 always_shows = record {
   halt = λ p me h. h;
   reset = λ p me h. h;
-  turn = λ devices p n me s h. turn_shows (basic devices) (basic_is_lawful devices) itself serves after_loan n me s h;
+  turn = λ devices p n me s h. turn_shows (basic devices) (basic_is_lawful devices) itself serves lends n me s h;
 }

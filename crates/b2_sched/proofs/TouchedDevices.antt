@@ -1,14 +1,20 @@
 -- Each object of a device that a step of a run touches belongs to one that the boot lists for the partition of that step.
 use Rattle.std.specs.Prelude.{◌≡◌, ℕ, zero, suc, ◌||◌, Bool, true, false, List, [], ◌∷◌, map, Option, Some, None, All, refl}
-use Rattle.std.proofs.Common.{sym, subst, ◌∙◌}
-use Rattle.std.proofs.lemmas.List.Elements.{All-append, All-cons, All-nil}
-use Rattle.b2_access.specs.AccessRows.{reach}
+use Rattle.std.proofs.Common.{sym, subst, ◌∙◌, inl, inr}
+use Rattle.std.proofs.lemmas.List.Elements.{All-append, All-cons, All-head, All-nil, All-tail}
+use Rattle.b2_flow.specs.declared.frame.Frame.{Frame}
+use Rattle.b2_flow.specs.declared.frame.Frame.TheVariants.{For, Call}
+use Rattle.b2_flow.specs.declared.frame.Place.{Place}
+use Rattle.b2_access.specs.AccessRows.{holder_at, reach}
 use Rattle.b2_access.specs.Devices.{is_platter_for, is_printer_for}
 use Rattle.b2_access.specs.Holding.{device_of}
-use Rattle.b2_access.specs.OwnDevices.{AreListed, is_device_for, is_listed_for}
-use Rattle.b2_access.specs.Reach.{DevicePart, DeviceReach, HoldFreed, HoldTaken, WithPlatter, WithPrinter, Reach, device_objects, objects_reached, part_objects, terminal_objects, text_objects, variable_objects}
+use Rattle.b2_access.specs.Homes.{FrameIn, FramesIn, IsWithin, PartIn, PlaceIn}
+use Rattle.b2_access.specs.Loans.{lends}
+use Rattle.b2_access.specs.OwnDevices.{AreListed, ReachesListed, is_device_for, is_listed_for}
+use Rattle.b2_access.specs.Reach.{DevicePart, DeviceReach, HoldFreed, HoldTaken, WithPlatter, WithPrinter, Reach, device_objects, entered_objects, objects_reached, part_objects, terminal_objects, text_objects, variable_objects}
 use Rattle.b2_access.specs.Serving.{itself}
-use Rattle.b2_access.specs.Store.{StoreState}
+use Rattle.b2_access.specs.Store.{StoreState, IsIn}
+use Rattle.b2_access.specs.Touching.{touched}
 use Rattle.b2_access.specs.declared.accesses.Access.{Access}
 use Rattle.b2_access.specs.declared.devices.Device.{Device}
 use Rattle.b2_access.specs.declared.objects.Object.{Object}
@@ -16,18 +22,17 @@ use Rattle.b2_access.specs.declared.objects.Object.TheVariants as object
 use Rattle.b2_access.specs.declared.private.Private.{Private}
 use Rattle.b2_access.specs.declared.reached.TextUse.{TextUse}
 use Rattle.b2_access.specs.declared.reached.TextUse.TheVariants as text
-use Rattle.b2_audit.specs.Steps.{Step, just}
+use Rattle.b2_audit.specs.Steps.{Step}
 use Rattle.b2_machine.proofs.StepDevices.{steps_ask_for_listed}
-use Rattle.b2_machine.proofs.StepHomes.{steps_stay_within}
 use Rattle.b2_machine.proofs.StepOutput.{step_shows, still_for_terminal}
-use Rattle.b2_machine.specs.Touched.{AskedListed, asking, step_touched, touched_where}
+use Rattle.b2_machine.specs.Touched.{AskedListed, asking, step_touched}
 use Rattle.b2_machine.specs.Turn.{unless_ended}
 use Rattle.b2_machine.specs.declared.ends.Why.{Why}
 use Rattle.b2_store.specs.DiskWork.{serves}
 use Rattle.b2_sched.proofs.EachRow.{EachIs, IsKept, each_action}
 use Rattle.b2_sched.proofs.Folds.{keeps_devices}
-use Rattle.b2_sched.proofs.Numbers.{same_number}
-use Rattle.b2_sched.proofs.OwnObjects.{IsHome, keeps_home, starts_at_home}
+use Rattle.b2_sched.proofs.OwnObjects.{IsItself, keeps_itself, starts_itself, step_part}
+use Rattle.b2_sched.proofs.Reaching.{Covers, MayIfAny, stepped}
 use Rattle.b2_sched.proofs.ShownAtTerminals.{ShowsAtTerminal, always_shows, booted_shows, for_listed}
 use Rattle.b2_sched.specs.Choice.{basic}
 use Rattle.b2_sched.specs.Devices.{IsOfListed, RunsTouchListedDevices, TouchesListed}
@@ -35,7 +40,7 @@ use Rattle.b2_sched.specs.Groups.{steps_along, steps_at}
 use Rattle.b2_sched.specs.Laws.{all_actions}
 use Rattle.b2_sched.specs.Lawful.{basic_asks_for_listed, basic_is_lawful}
 use Rattle.b2_sched.specs.Start.{booted, devices_of}
-use Rattle.b2_sched.specs.Turns.{after_loan, noted_by, step_noted, step_of, steps_in_turn}
+use Rattle.b2_sched.specs.Turns.{noted_by, step_noted, step_of, steps_in_turn}
 use Rattle.b2_sched.specs.World.{WorldState, Action, Key, Front, Halt, Reset, Turn, does, private_of}
 
 -- a device that is listed as one of a kind is listed
@@ -47,15 +52,15 @@ as_printer : (b c : Bool) → c ≡ true → (b || c) ≡ true
 as_printer true c is = refl
 as_printer false c is = is
 
--- a partition names itself alone as a home, and what waits to be shown is for its terminal
+-- a partition is the one of its number, and what waits to be shown is for its terminal
 abbrev pub IsFit : ℕ → Private → Type 0
-IsFit p me = ShowsAtTerminal p me × IsHome p me
+IsFit p me = ShowsAtTerminal p me × IsItself p me
 
 pub always_fit : IsKept IsFit
 always_fit = record {
-  halt = λ p me h. (always_shows.halt p me h.0, keeps_home.halt p me h.1);
-  reset = λ p me h. (always_shows.reset p me h.0, keeps_home.reset p me h.1);
-  turn = λ devices p n me s h. (always_shows.turn devices p n me s h.0, keeps_home.turn devices p n me s h.1);
+  halt = λ p me h. (always_shows.halt p me h.0, keeps_itself.halt p me h.1);
+  reset = λ p me h. (always_shows.reset p me h.0, keeps_itself.reset p me h.1);
+  turn = λ devices p n me s h. (always_shows.turn devices p n me s h.0, keeps_itself.turn devices p n me s h.1);
 }
 
 -- the steps of one partition, over a table of devices
@@ -87,6 +92,15 @@ module _ (table : List Device) (p : ℕ) where
 
   more : (o : Object) (os : List Object) → Fine o → AreFine os → AreFine (o ∷ os)
   more o os h k = All-cons Fine o os h k
+
+  -- so it is of each that is listed
+  each_in : (os : List Object) → AreFine os → (o : Object) → IsIn o os → Fine o
+  each_in [] h o i = absurd i
+  each_in (x ∷ xs) h o i = elim i [ inl e ↦ subst Fine (sym e) (All-head Fine x xs h) | inr j ↦ each_in xs (All-tail Fine x xs h) o j ]
+
+  all_in : (os : List Object) → ((o : Object) → IsIn o os → Fine o) → AreFine os
+  all_in [] h = none_fine
+  all_in (x ∷ xs) h = more x xs (h x (inl refl)) (all_in xs (λ o i. h o (inr i)))
 
   -- what an access reaches
   terminal_fine : (term : Option ℕ) → AreFine (terminal_objects term)
@@ -124,26 +138,67 @@ module _ (table : List Device) (p : ℕ) where
   devices_fine (d ∷ ds) are =
       All-append Fine (part_objects d.address d.part) (device_objects ds) (part_fine d.address d.part (device_listed d.address d.part are.0)) (devices_fine ds are.1)
 
-  reached_fine : (who : ℕ) (r : Reach) → AreListed table p r.devices → AreFine (objects_reached who r)
-  reached_fine who r are =
+  entered_fine : (name : Option (List ℕ)) (holder : Option ℕ) → AreFine (entered_objects name holder)
+  entered_fine None holder = none_fine
+  entered_fine (Some name) None = more (object.Name name) [] (of_none (object.Name name) refl) none_fine
+  entered_fine (Some name) (Some q) =
+      more (object.Name name) (object.Text q ∷ object.Borrow q ∷ []) (of_none (object.Name name) refl)
+      (more (object.Text q) (object.Borrow q ∷ []) (of_none (object.Text q) refl) (more (object.Borrow q) [] (of_none (object.Borrow q) refl) none_fine))
+
+  reached_fine : (who : ℕ) (holder : Option ℕ) (r : Reach) → AreListed table p r.devices → AreFine (objects_reached who holder r)
+  reached_fine who holder r are =
       All-append Fine (terminal_objects r.terminal) _ (terminal_fine r.terminal)
       (All-append Fine (text_objects who r.text) _ (text_fine who r.text)
       (All-append Fine (variable_objects who r.variables) _ (variables_fine who r.variables)
       (All-append Fine (map object.Borrow r.borrowers) _ (borrowers_fine r.borrowers)
-      (All-append Fine (device_objects r.devices) (map object.Name r.names) (devices_fine r.devices are) (names_fine r.names)))))
+      (All-append Fine (device_objects r.devices) _ (devices_fine r.devices are)
+      (All-append Fine (entered_objects r.entered holder) (map object.Name r.names) (entered_fine r.entered holder) (names_fine r.names))))))
 
-  asked_fine : (who : ℕ) (x : Option Access) (s : StoreState) → AskedListed table p x → AreFine (touched_where x who s)
-  asked_fine who None s are = none_fine
-  asked_fine who (Some a) s are = reached_fine who (reach a) are
+  -- of all partitions
+  anyone : (among : ℕ → Bool) → ((q : ℕ) → among q ≡ true) → (me : Private) → IsWithin among me
+  anyone among all me = record { part = all me.part; place = at_place me.place; kept = at_place me.kept; frames = in_frames me.stack }
+    where
+      at_place : (x : Option Place) → PlaceIn among x
+      at_place None = tt
+      at_place (Some x) = all x.home
+
+      entered_in : (x : Option ℕ) → PartIn among x
+      entered_in None = tt
+      entered_in (Some q) = all q
+
+      in_frame : (f : Frame) → FrameIn among f
+      in_frame (For v limit step body) = all body.home
+      in_frame (Call back entered) = (at_place back, entered_in entered)
+
+      in_frames : (fs : List Frame) → FramesIn among fs
+      in_frames [] = tt
+      in_frames (f ∷ fs) = (in_frame f, in_frames fs)
+
+  abbrev everyone : ℕ → Bool
+  everyone q = true
+
+  abbrev May : ℕ → Access → Type 0
+  May who a = ReachesListed table p a
+
+  may_ask : (who : ℕ) (x : Option Access) → AskedListed table p x → MayIfAny May who x
+  may_ask who None h = tt
+  may_ask who (Some a) h = h
+
+  all_listed : Covers everyone May Fine
+  all_listed = record {
+    texts = λ q is. of_none (object.Text q) refl;
+    variables = λ q is. of_none (object.Globals q) refl;
+    names = λ n. of_none (object.Name n) refl;
+    accesses = λ who a s member h led. each_in (touched s who a) (reached_fine who (holder_at a s) (reach a) h);
+  }
 
   -- a step, and the steps of a turn
-  step_fine : (me : Private) (s : StoreState) → IsFit p me → AreFine (step_touched (basic table) me s)
+  step_fine : (me : Private) (s : StoreState) → IsFit p me → AreFine (step_touched (basic table) itself serves lends me s)
   step_fine me s fit =
-      let x = asking (basic table) me s in
       let listed = steps_ask_for_listed basic basic_asks_for_listed table me s (for_listed table me.part me.pending fit.0) in
-      let asked = asked_fine x.who x.access s (subst (λ (q : ℕ). AskedListed table q x.access) (same_number me.part p fit.1.part) listed) in
-      let reached = touched_where x.access x.who s in
-      more (object.Text me.part) (object.Text x.who ∷ reached) (of_none (object.Text me.part) refl) (more (object.Text x.who) reached (of_none (object.Text x.who) refl) asked)
+      let asked = may_ask me.part (asking (basic table) me s) (subst (λ (q : ℕ). AskedListed table q (asking (basic table) me s)) fit.1 listed) in
+      all_in (step_touched (basic table) itself serves lends me s)
+      (stepped everyone May Fine all_listed (basic table) me s (anyone everyone (λ q. refl) me) (λ n q i leads. refl) asked)
 
   abbrev StepsFine : List Step → Type 0
   StepsFine xs = All (TouchesListed table) xs
@@ -153,8 +208,8 @@ module _ (table : List Device) (p : ℕ) where
 
   pub fit_after : (me : Private) (s : StoreState) → IsFit p me → IsFit p (step_of table me s).me
   fit_after me s fit = (
-    still_for_terminal (basic table) (basic_is_lawful table) itself serves after_loan me (step_of table me s).me (step_shows (basic table) (basic_is_lawful table) itself serves after_loan me s) fit.0,
-    (steps_stay_within (basic table) (basic_is_lawful table) itself serves after_loan (just p) me s fit.1).0,
+    still_for_terminal (basic table) (basic_is_lawful table) itself serves lends me (step_of table me s).me (step_shows (basic table) (basic_is_lawful table) itself serves lends me s) fit.0,
+    step_part table me s ∙ fit.1,
   )
 
   turn_fine : (n : ℕ) (me : Private) (s : StoreState) → IsFit p me → StepsFine (steps_in_turn table p n me s)
@@ -197,4 +252,4 @@ module _ (table : List Device) where
 pub runs_touch_listed_devices : RunsTouchListedDevices
 runs_touch_listed_devices b images log =
     all_fine (devices_of b.printers b.platters) (all_actions b.quota log) (booted b images) refl
-    (λ p me is. (booted_shows b.partitions p me is, starts_at_home b.partitions p me is))
+    (λ p me is. (booted_shows b.partitions p me is, starts_itself b.partitions p me is))

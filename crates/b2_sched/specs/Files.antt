@@ -20,7 +20,7 @@ AsksElsewhere addr name (Some x) = IsAbout addr name x → ⊥
 
 -- a step asks so
 abbrev pub LeavesFile : List ℕ → List ℕ → List Device → Private → StoreState → Type 0
-LeavesFile addr name devices me s = AsksElsewhere addr name (asking (basic devices) me s).access
+LeavesFile addr name devices me s = AsksElsewhere addr name (asking (basic devices) me s)
 
 -- From sound platters, the records of a file, up to a place and up to its end mark, are what they were after whatever happened, where no
 -- step asked for an access that is about the file.

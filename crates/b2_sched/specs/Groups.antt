@@ -1,12 +1,13 @@
 -- What a group of partitions can rely on.
-use Rattle.std.specs.Prelude.{◌≡◌, ℕ, true, false, List, [], ◌∷◌, ◌++◌, Some, None}
+use Rattle.std.specs.Prelude.{◌≡◌, ◌≢◌, ℕ, true, false, List, [], ◌∷◌, ◌++◌, Some, None}
 use Rattle.b2_access.specs.declared.objects.Object.{Object}
 use Rattle.b2_access.specs.declared.objects.Object.TheVariants as object
 use Rattle.b2_access.specs.declared.private.Private.{Private}
 use Rattle.b2_access.specs.Homes.{IsWithin}
+use Rattle.b2_access.specs.Leading.{LeadsTo}
 use Rattle.b2_access.specs.Rows.{row_of}
 use Rattle.b2_access.specs.Store.{StoreState, IsIn, content}
-use Rattle.b2_audit.specs.Steps.{Step, Group, foul, IsClean, just}
+use Rattle.b2_audit.specs.Steps.{Step, Group, foul, IsClean}
 use Rattle.b2_boot.specs.Alone.{alone}
 use Rattle.b2_boot.specs.Boots.{BootState}
 use Rattle.b2_boot.specs.declared.log.Event.{Event}
@@ -49,12 +50,17 @@ pub record MembersAlike (g : Group) (ws vs : List (ℕ × Private)) : Type 0 whe
 abbrev pub StoresAlike : (Object → Type 0) → List Object → StoreState → StoreState → Type 0
 StoresAlike out dirty s t = (o : Object) → (IsIn o dirty → ⊥) → (out o → ⊥) → content s o ≡ content t o
 
+-- each name that isn't foul is held by a member, or by nobody
+abbrev pub NamesLead : Group → List Object → StoreState → Type 0
+NamesLead g dirty s = (n : List ℕ) (p : ℕ) → (IsIn (object.Name n) dirty → ⊥) → LeadsTo s n p → g p ≡ true
+
 -- THE INVARIANT of a world and that of a group alone, where some objects are foul
 pub record WorldsAlike (out : Object → Type 0) (g : Group) (dirty : List Object) (w v : WorldState) : Type 0 where
   pub quota : w.quota ≡ v.quota
   pub devices : w.devices ≡ v.devices
   pub privates : MembersAlike g w.privates v.privates
   pub stores : StoresAlike out dirty w.store v.store
+  pub names : NamesLead g dirty w.store
 
 -- A group of partitions is clean where none of its steps touches what a step of another wrote before. Whatever a clean group has in
 -- common with the group alone, it has so after any log, but for what others wrote.
@@ -69,7 +75,7 @@ CleanGroupsAreAsAlone = (g : Group) (b : BootState) (images : Images) (log : Lis
     → ((p : ℕ) → g p ≡ true → private_of p (ran log (booted b images)) ≡ private_of p (ran log (booted (alone g b) images)))
     × ((o : Object) → (IsOutside g o → ⊥) → (IsIn o (foul g (steps_of log (booted b images))) → ⊥) → content (ran log (booted b images)).store o ≡ content (ran log (booted (alone g b) images)).store o)
 
--- No turn of a partition changes what belongs to another: its text, who stands inside, and its `@` variables.
+-- No turn of a partition changes the text of another.
 abbrev pub TurnsChangeTheirOwn : Type 0
-TurnsChangeTheirOwn = (b : BootState) (images : Images) (log : List Event) (p n : ℕ) (o : Object) → IsOutside (just p) o
-    → content (does (Turn p n) (ran log (booted b images))).store o ≡ content (ran log (booted b images)).store o
+TurnsChangeTheirOwn = (b : BootState) (images : Images) (log : List Event) (p n q : ℕ) → q ≢ p
+    → content (does (Turn p n) (ran log (booted b images))).store (object.Text q) ≡ content (ran log (booted b images)).store (object.Text q)

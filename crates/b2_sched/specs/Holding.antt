@@ -1,5 +1,5 @@
 -- What a partition can rely on that holds a device, whichever others take turns; and that its list of devices is what it holds.
-use Rattle.std.specs.Prelude.{◌≡◌, ◌≢◌, ◌⊎◌, ◌≤◌, ℕ, true, List, [], ◌∷◌, length, Option, Some, None}
+use Rattle.std.specs.Prelude.{◌≡◌, ◌≢◌, ◌⊎◌, ◌≤◌, ℕ, Bool, true, false, List, [], ◌∷◌, length, Option, Some, None}
 use Rattle.b2_access.specs.AccessRows.{reach}
 use Rattle.b2_access.specs.AnswerKinds.{is_wait}
 use Rattle.b2_access.specs.Devices.{are_distinct}
@@ -68,11 +68,18 @@ OthersReadNothing =
     (w v : WorldState) (p : ℕ) (a : List ℕ) (others : List Action) → IsReached w → IsHeld a p w.store → AreOfOthers p others → WorldsAgreeBut a w v
     → WorldsAgreeBut a (does_all others w) (does_all others v)
 
--- an access of a step that reaches a device, and doesn't free it, is answered Wait
+-- a store as it is lent to a step: it has the same in each object but for `@` variables
+abbrev pub is_globals : Object → Bool
+is_globals (object.Globals p) = true
+is_globals o = false
+
+abbrev pub IsLent : StoreState → StoreState → Type 0
+IsLent s u = (o : Object) → is_globals o ≡ false → content u o ≡ content s o
+
+-- an access of a step that reaches a device, and doesn't free it, is answered Wait, over whatever is lent
 abbrev pub Waits : List ℕ → List Device → Private → StoreState → Type 0
 Waits a devices me s =
-    let x = asking (basic devices) me s in
-    (y : Access) → x.access ≡ Some y → Asks a (reach y).devices → is_wait (serves s x.who y).answer ≡ true
+    (y : Access) → asking (basic devices) me s ≡ Some y → Asks a (reach y).devices → (u : StoreState) → IsLent s u → is_wait (serves u me.part y).answer ≡ true
 
 -- So is each such access of the others.
 abbrev pub OthersWait : Type 0
@@ -83,7 +90,7 @@ pub record Frees (a : List ℕ) (p : ℕ) (devices : List Device) (me : Private)
   pub own : me.part ≡ p
   pub held : IsHeld a p s
   pub addresses : List (List ℕ)
-  pub asked : (asking (basic devices) me s).access ≡ Some (access.CloseDevices addresses)
+  pub asked : asking (basic devices) me s ≡ Some (access.CloseDevices addresses)
   pub named : IsAddressIn a addresses
   pub done : (serves s p (access.CloseDevices addresses)).answer ≡ answer.Done
 
@@ -112,7 +119,7 @@ held_where (Some x) who held s = held_after x (serves s who x).answer held
 -- A step leaves the list as the access that it asks for and its answer say, and as it is where it asks for none.
 abbrev pub StepsKeepTheList : Type 0
 StepsKeepTheList =
-    (devices : List Device) (me : Private) (s : StoreState) → let x = asking (basic devices) me s in (step_of devices me s).me.held ≡ held_where x.access x.who me.held s
+    (devices : List Device) (me : Private) (s : StoreState) → (step_of devices me s).me.held ≡ held_where (asking (basic devices) me s) me.part me.held s
 
 -- THE LIST OF A PARTITION IS WHAT IT HOLDS: a device that it holds stands there, and one that stands there it holds; each stands there once,
 -- they are at most twelve, and each is listed for it.

@@ -81,7 +81,7 @@ by_any devices (Some a) s me e h = h
 pub control_plans_open : PlansKeepOpenFiles (λ devices. stmt.plan)
 control_plans_open devices me s h =
     let Kept : Planning → Type 0 = λ x. HasOpenFiles devices x.me in
-    each_course stmt.is_refused (stmt.stops me s) (stmt.does me s) me s Kept h h (λ p is u. by_any devices (asked_access u.row u.tree) s me _ h)
+    each_course stmt.is_refused (stmt.stops me s) (stmt.does me s) me s Kept h h (λ p is u. by_any devices (asked_access u.row u.tree me.declared) (stmt.lent_left u me s) me _ h)
 
 pub control_finishes_open : FinishesKeepOpenFiles stmt.finish
 control_finishes_open devices x a me s listed fits h = steered_open devices me (edit_finishes x a me) h

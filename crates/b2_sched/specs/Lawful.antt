@@ -1,12 +1,20 @@
 -- What holds of the statements of each crate holds of the language: by the family of their row, and by nothing else.
-use Rattle.std.proofs.Common.{◌≡◌, ℕ, Bool, true, false, true≢false, ◌&&◌, ◌||◌, not, List, refl, sym}
+use Rattle.std.proofs.Common.{◌≡◌, ℕ, Bool, true, false, true≢false, ◌&&◌, ◌||◌, not, List, Option, Some, None, refl, sym}
 use Rattle.b2_access.specs.LeftAlone.{LeaveTheRest}
 use Rattle.b2_access.specs.OpenFiles.{FinishesKeepOpenFiles, PlansKeepOpenFiles}
 use Rattle.b2_access.specs.OwnDevices.{PlansListed}
 use Rattle.b2_access.specs.declared.devices.Device.{Device}
 use Rattle.b2_access.specs.LegalPlans.{PlansLegally}
+use Rattle.b2_access.specs.Lending.{SeenLent}
+use Rattle.b2_access.specs.Planning.{Planning}
+use Rattle.b2_access.specs.Steering.{Steered}
+use Rattle.b2_access.specs.Working.{Working, Ends, Plans, as_planned}
+use Rattle.b2_access.specs.declared.accesses.Access.{Access}
+use Rattle.b2_access.specs.declared.accesses.Answer.{Answer}
+use Rattle.b2_access.specs.declared.private.Private.{Private}
+use Rattle.b2_access.proofs.Courses.{each_course}
 use Rattle.b2_language.specs.Languages.{AreLawful, AskForListed, KeepOpenFiles}
-use Rattle.b2_stmt.specs.Clearing.{asks_access}
+use Rattle.b2_stmt.specs.Clearing.{asked_access, asks_access}
 use Rattle.b2_stmt.specs.Plan as stmt
 use Rattle.b2_stmt.proofs.LeftAlone as stmt_laws
 use Rattle.b2_stmt_device.specs.Plan as stmt_device
@@ -62,8 +70,51 @@ leave_the_rest devices family.Programs = stmt_program_laws.leave_the_rest device
 leave_the_rest devices family.Devices = stmt_device_laws.leave_the_rest devices
 leave_the_rest devices family.Disks = stmt_disk_laws.leave_the_rest devices
 
+-- A statement leaves which partition it is.
+planned_part : (me : Private) (s : SeenLent) (w : Working) → (as_planned me s w).me.part ≡ me.part
+planned_part me s (Ends w) = refl
+planned_part me s (Plans p) = refl
+
+control_part : (me : Private) (s : SeenLent) → (stmt.plan me s).me.part ≡ me.part
+control_part me s =
+    each_course stmt.is_refused (stmt.stops me s) (stmt.does me s) me s (λ (x : Planning). x.me.part ≡ me.part) refl refl (λ p is u. by (asked_access u.row u.tree me.declared) (stmt.lent_left u me s) _)
+  where
+    by : (o : Option Access) (t : SeenLent) (e : Steered) → (stmt.by_access o t me e).me.part ≡ me.part
+    by None t e = refl
+    by (Some x) t e = refl
+
+plan_part : (devices : List Device) (f : Family) (me : Private) (s : SeenLent) → (plan_by devices f me s).me.part ≡ me.part
+plan_part devices family.Variables me s = planned_part me s (stmt_var.works me s)
+plan_part devices family.Control me s = control_part me s
+plan_part devices family.Printing me s = planned_part me s (stmt_io.works devices me s)
+plan_part devices family.Terminal me s = planned_part me s (stmt_io.works devices me s)
+plan_part devices family.Arrays me s = planned_part me s (stmt_mat.works me s)
+plan_part devices family.Packed me s = planned_part me s (stmt_pack.works me s)
+plan_part devices family.Files me s = planned_part me s (stmt_file.works devices me s)
+plan_part devices family.Programs me s = planned_part me s (stmt_program.works devices me s)
+plan_part devices family.Devices me s = planned_part me s (stmt_device.works devices me s)
+plan_part devices family.Disks me s = planned_part me s (stmt_disk.works devices me s)
+
+finish_part : (f : Family) (x : Access) (a : Answer) (me : Private) (s : SeenLent) → (finish_by f x a me s).me.part ≡ me.part
+finish_part family.Variables x a me s = refl
+finish_part family.Control x a me s = refl
+finish_part family.Printing x a me s = refl
+finish_part family.Terminal x a me s = refl
+finish_part family.Arrays x a me s = refl
+finish_part family.Packed x a me s = refl
+finish_part family.Files x a me s = refl
+finish_part family.Programs x a me s = refl
+finish_part family.Devices x a me s = refl
+finish_part family.Disks x a me s = refl
+
 pub basic_is_lawful : (devices : List Device) → AreLawful (basic devices)
-basic_is_lawful devices = record { no_list = refl; plans_legally = λ r. plan_legally devices (family_of r); leave_the_rest = λ r. leave_the_rest devices (family_of r) }
+basic_is_lawful devices = record {
+  no_list = refl;
+  plans_legally = λ r. plan_legally devices (family_of r);
+  leave_the_rest = λ r. leave_the_rest devices (family_of r);
+  plans_keep_part = λ r. plan_part devices (family_of r);
+  finishes_keep_part = λ r. finish_part (family_of r);
+}
 
 plan_listed : (f : Family) → PlansListed (λ devices. plan_by devices f)
 plan_listed family.Variables = variables_listed

@@ -1,8 +1,7 @@
 -- What statements ask for may be asked for: no line above 9999, and what disks can do.
-use Rattle.std.proofs.Common.{ℕ, ◌==◌, Bool, true, false, if◌then◌else◌, List, Option, Some, None}
+use Rattle.std.proofs.Common.{ℕ, List, Option, Some, None}
 use Rattle.b2_atom.specs.Tree.{Trees}
 use Rattle.b2_atom.specs.Tree.Trees.{Done, Put, In}
-use Rattle.b2_atom.specs.declared.rows.TheConstants as row
 use Rattle.b2_access.specs.LegalPlans.{IsLegalPlan, PlansLegally}
 use Rattle.b2_access.specs.Lending.{SeenLent}
 use Rattle.b2_access.specs.Planning.{Planning}
@@ -15,6 +14,7 @@ use Rattle.b2_access.proofs.Courses.{each_course}
 use Rattle.b2_access.proofs.Working.{as_it_comes}
 use Rattle.b2_stmt.specs.Clearing.{asked_access, asks_to_erase}
 use Rattle.b2_stmt.specs.Plan as stmt
+use Rattle.b2_stmt.proofs.PartsCame.{each_asked}
 use Rattle.b2_stmt_mat.specs.Plan as stmt_mat
 use Rattle.b2_stmt_pack.specs.Plan as stmt_pack
 use Rattle.b2_stmt_var.specs.Plan as stmt_var
@@ -28,10 +28,6 @@ use Rattle.b2_stmt_io.specs.Plan as stmt_io
 use Rattle.b2_stmt_io.proofs.Legal as stmt_io_laws
 use Rattle.b2_stmt_program.specs.Plan as stmt_program
 use Rattle.b2_stmt_program.proofs.Legal as stmt_program_laws
-
-by_if : {A : Type 0} (P : A → Type 0) (b : Bool) (x y : A) → P x → P y → P (if b then x else y)
-by_if P true x y px py = px
-by_if P false x y px py = py
 
 abbrev IsLegalIfAny : Option Access → Type 0
 IsLegalIfAny None = Unit {0}
@@ -48,8 +44,8 @@ erased (Put w (Put l t)) = tt
 erased (Put w (In m i t)) = tt
 erased (In m i t) = tt
 
-accessed : (r : ℕ) (t : Trees) → IsLegalIfAny (asked_access r t)
-accessed r t = by_if IsLegalIfAny (r == row.CLEAR) _ _ tt (by_if IsLegalIfAny (r == row.CLEAR_P) (Some (asks_to_erase t)) None (erased t) tt)
+accessed : (r : ℕ) (t : Trees) (declared : Option (List ℕ)) → IsLegalIfAny (asked_access r t declared)
+accessed r t declared = each_asked IsLegalIfAny tt (λ name. tt) erased (λ name old. tt) (λ name. tt) r t declared
 
 -- statements of control
 by_any : (a : Option Access) (s : SeenLent) (me : Private) (e : _) → IsLegalIfAny a → Fine (stmt.by_access a s me e)
@@ -57,7 +53,7 @@ by_any None s me e h = tt
 by_any (Some a) s me e h = h
 
 pub control_legally : PlansLegally stmt.plan
-control_legally me s = each_course stmt.is_refused (stmt.stops me s) (stmt.does me s) me s Fine tt tt (λ p is u. by_any (asked_access u.row u.tree) s me _ (accessed u.row u.tree))
+control_legally me s = each_course stmt.is_refused (stmt.stops me s) (stmt.does me s) me s Fine tt tt (λ p is u. by_any (asked_access u.row u.tree me.declared) (stmt.lent_left u me s) me _ (accessed u.row u.tree me.declared))
 
 -- statements on variables
 pub variables_legally : PlansLegally stmt_var.plan

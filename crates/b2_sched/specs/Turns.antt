@@ -2,7 +2,7 @@
 use Rattle.std.specs.Prelude.{ℕ, zero, suc, List, [], ◌∷◌, Option, Some, None}
 use Rattle.b2_access.specs.declared.devices.Device.{Device}
 use Rattle.b2_access.specs.declared.private.Private.{Private}
-use Rattle.b2_access.specs.Loans.{Loan, lends}
+use Rattle.b2_access.specs.Loans.{lends}
 use Rattle.b2_access.specs.Serving.{itself}
 use Rattle.b2_store.specs.DiskWork.{serves}
 use Rattle.b2_access.specs.Store.{StoreState}
@@ -12,20 +12,16 @@ use Rattle.b2_machine.specs.Touched.{step_touched, step_written}
 use Rattle.b2_machine.specs.Turn.{TurnEnd, turn, unless_ended}
 use Rattle.b2_sched.specs.Choice.{basic}
 
--- a loan, as a plain store lends; no step asks for `@` variables yet
-abbrev pub after_loan : Loan StoreState
-after_loan who home whose s left = lends who home whose s left
-
 -- a turn
 abbrev pub turn_of : List Device → ℕ → Private → StoreState → TurnEnd StoreState
-turn_of devices quota me s = turn (basic devices) itself serves after_loan quota me s
+turn_of devices quota me s = turn (basic devices) itself serves lends quota me s
 
 -- a step, and how it is told
 abbrev pub step_of : List Device → Private → StoreState → StepEnd StoreState
-step_of devices me s = step (basic devices) itself serves after_loan me s
+step_of devices me s = step (basic devices) itself serves lends me s
 
 abbrev pub step_noted : List Device → ℕ → Private → StoreState → Step
-step_noted devices who me s = record { who = who; touched = step_touched (basic devices) me s; written = step_written (basic devices) itself serves me s }
+step_noted devices who me s = record { who = who; touched = step_touched (basic devices) itself serves lends me s; written = step_written (basic devices) itself serves lends me s }
 
 -- the steps of a turn
 unfoldable pub steps_in_turn : List Device → ℕ → ℕ → Private → StoreState → List Step

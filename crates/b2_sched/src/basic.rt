@@ -79,12 +79,13 @@ impl Language for Basic {
     fn plan_at_once(
         alloc: Global,
         me: &mut Private,
+        lent: &mut Lent<'_>,
         found: &Found<'_>,
     ) -> Result<Outcome, NoMemory> {
         if b2_stmt_var::is_built(found.unit.row) {
-            b2_stmt_var::execute(alloc, me, found)
+            b2_stmt_var::execute(alloc, me, lent, found)
         } else {
-            b2_stmt::execute(alloc, me, found)
+            b2_stmt::execute(alloc, me, lent, found)
         }
     }
 
@@ -98,8 +99,8 @@ impl Language for Basic {
         match family_of(found.unit.row) {
             Family::Variables => b2_stmt_var::plan(alloc, me, lent, devices),
             Family::Control => b2_stmt::plan(alloc, me, lent, devices),
-            Family::Printing => b2_stmt_io::plan_found(alloc, me, lent.home, devices, found.unit),
-            Family::Terminal => b2_stmt_io::plan_found(alloc, me, lent.home, devices, found.unit),
+            Family::Printing => b2_stmt_io::plan_found(alloc, me, lent, devices, found.unit),
+            Family::Terminal => b2_stmt_io::plan_found(alloc, me, lent, devices, found.unit),
             Family::Arrays => b2_stmt_mat::plan(alloc, me, lent, devices),
             Family::Packed => b2_stmt_pack::plan(alloc, me, lent, devices),
             Family::Files => b2_stmt_file::plan(alloc, me, lent, devices),

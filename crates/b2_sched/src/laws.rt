@@ -64,7 +64,7 @@ pub fn law_a_clean_group_is_as_alone()
     ensures { CleanGroupsAreAsAlone }
 {}
 
-/// No turn of a partition changes what belongs to another: its text, who stands inside, and its `@` variables.
+/// No turn of a partition changes the text of another.
 pub fn law_a_turn_changes_its_own()
     ensures { TurnsChangeTheirOwn }
 {}

@@ -1,1 +1,1 @@
-mod TextsKept
+mod KeptPresent

@@ -9,8 +9,9 @@ use b2_access::{
 };
 use b2_atom::Atoms;
 use b2_atom::words::Origin;
+use b2_base::codes::X78_NAME_HELD;
 use b2_base::lexical::{capped_value, digits_width, first, is_digit, rest_after};
-use b2_base::{ByteList, NoMemory, Part, Term, cut};
+use b2_base::{ByteList, Code, NoMemory, Part, Term, cut};
 use b2_cases::answers::Unanswered;
 use b2_cases::str_of;
 use b2_expr::Env;
@@ -46,6 +47,8 @@ pub struct Bench {
     pub globals: Vars,
     /// Whether there are `@` variables.
     pub found: bool,
+    /// Whether a receiver among them was reached.
+    pub reached: bool,
     pub builder: Builder,
     /// The devices that there are, none unless they are put here.
     pub devices: DeviceTable,
@@ -115,6 +118,9 @@ fn answer_of(alloc: Global, item: &[u8]) -> Result<Answer, Unanswered> {
         "wait" => Ok(Answer::Wait(Part::known(2))),
         "locked" => Ok(Answer::Locked(Part::known(2))),
         "done" => Ok(Answer::Done),
+        "taken" => Ok(Answer::Refused(Code::known(X78_NAME_HELD))),
+        "held" => Ok(Answer::Holder(Part::known(2))),
+        "nobody" => Ok(Answer::NoPart),
         _ => Err(Unanswered::Misread),
     }
 }
@@ -131,7 +137,10 @@ fn suits(access: &Access, answer: &Answer) -> bool
             answer,
             Answer::Line(_) | Answer::Special(_) | Answer::NoKeys | Answer::Wait(_)
         ),
-        Access::OpenDevices { .. } | Access::CloseDevices { .. } => matches!(answer, Answer::Done),
+        Access::OpenDevices { .. }
+        | Access::CloseDevices { .. }
+        | Access::Leave { .. }
+        | Access::Drop { .. } => matches!(answer, Answer::Done),
         Access::Key { .. } => matches!(
             answer,
             Answer::Key(_) | Answer::Special(_) | Answer::NoKeys | Answer::Wait(_)
@@ -147,6 +156,10 @@ fn suits(access: &Access, answer: &Answer) -> bool
         }
         Access::Declare { .. } => matches!(answer, Answer::Done | Answer::Refused(_)),
         Access::FindPart { .. } => matches!(answer, Answer::Holder(_) | Answer::NoPart),
+        Access::Enter { .. } => matches!(
+            answer,
+            Answer::Entered(..) | Answer::NoPart | Answer::Refused(_)
+        ),
         Access::Limits { .. } => matches!(answer, Answer::Four(..) | Answer::Wait(_)),
         Access::ListDisk { .. } => matches!(answer, Answer::Bytes(_) | Answer::Wait(_)),
         Access::Scratch { .. }
@@ -211,6 +224,7 @@ impl Bench {
             other: program_of(alloc, other)?,
             globals: Vars::new(alloc, 4096)?,
             found: false,
+            reached: false,
             builder: Builder::Either,
             devices: DeviceTable::new(Vec::new(alloc)),
             answers: Vec::from_slice(alloc, answers)?,
@@ -255,12 +269,15 @@ impl Bench {
             home: home_of(is_own(&place), &self.own, &self.other),
             globals: &mut self.globals,
             found: self.found,
+            reached: false,
         };
-        match builder {
+        let planned = match builder {
             Builder::Terminal => b2_stmt_io::plan(alloc, &mut self.me, &mut lent, &self.devices),
             Builder::Variables => b2_stmt_var::plan(alloc, &mut self.me, &mut lent, &self.devices),
             _ => b2_stmt::plan(alloc, &mut self.me, &mut lent, &self.devices),
-        }
+        };
+        self.reached = lent.reached || self.reached;
+        planned
     }
 
     /// How it finishes.
@@ -279,8 +296,9 @@ impl Bench {
             home: home_of(is_own(&place), &self.own, &self.other),
             globals: &mut self.globals,
             found: self.found,
+            reached: false,
         };
-        match builder {
+        let outcome = match builder {
             Builder::Terminal => {
                 b2_stmt_io::finish(alloc, &mut self.me, &mut lent, access, answer)
             }
@@ -288,7 +306,9 @@ impl Bench {
                 b2_stmt_var::finish(alloc, &mut self.me, &mut lent, access, answer)
             }
             _ => b2_stmt::finish(alloc, &mut self.me, &mut lent, access, answer),
-        }
+        };
+        self.reached = lent.reached || self.reached;
+        outcome
     }
 
     /// How it finishes, where the access can have the answer.
@@ -330,6 +350,19 @@ impl Bench {
                     self.told,
                     "clears all from {homes} homes and {named} name, "
                 )?;
+            }
+            Access::Declare { name, old } => {
+                let before = if old.is_some() { "a" } else { "no" };
+                let bytes = name.bytes();
+                write!(
+                    self.told,
+                    "declares {} and gives up {before} name, ",
+                    str_of(&bytes)
+                )?;
+            }
+            Access::FindPart { name } => {
+                let bytes = name.bytes();
+                write!(self.told, "looks for {}, ", str_of(&bytes))?;
             }
             _ => {}
         }

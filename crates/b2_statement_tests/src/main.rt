@@ -21,7 +21,7 @@ struct StatementCalls;
 /// What the call of that name gives.
 fn answer(alloc: Global, call: &[u8], cells: &mut Cells<'_>) -> Answer {
     match str_of(call) {
-        "run" | "at home" | "control" | "variables" | "terminal" | "read on" => {
+        "run" | "lent" | "at home" | "control" | "variables" | "terminal" | "read on" => {
             running::answer(alloc, call, cells)
         }
         "print" => printing::print(alloc, cells),

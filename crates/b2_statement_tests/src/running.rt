@@ -2,6 +2,8 @@
 // newline that is shown.
 //
 // `run | PROGRAM | LINES | ANSWERS`: what each typed line shows in brackets, what it asks for, and how it ends.
+// `lent | LENT | PROGRAM | LINES | ANSWERS`: the same, where the variables that another partition has after the lines LENT are lent as
+// `@` variables; and at the end whether a receiver among them was reached.
 // `at home | PROGRAM | HOME | LINE`: from a line of the text of partition 2.
 // `control | LINE`, `variables | LINE` and `terminal | LINE`: a line that one of the crates executes, whatever stands there.
 // `read on | PROGRAM | LINE | UNIT | COUNT`: what READ takes where it is to go on there, and where it goes on then.
@@ -12,11 +14,13 @@ use b2_cases::answers::{Answer, Unanswered};
 use b2_cases::{Cells, number_of, small_of, str_of};
 use b2_text::Spot;
 use std::alloc::Global;
+use std::mem::swap;
 
 /// What the call of that name gives.
 pub fn answer(alloc: Global, call: &[u8], cells: &mut Cells<'_>) -> Answer {
     match str_of(call) {
         "run" => run(alloc, cells),
+        "lent" => run_lent(alloc, cells),
         "at home" => run_at_home(alloc, cells),
         "control" => run_by(alloc, Builder::Control, cells),
         "variables" => run_by(alloc, Builder::Variables, cells),
@@ -31,6 +35,24 @@ fn run(alloc: Global, cells: &mut Cells<'_>) -> Answer {
     let lines = cells.next();
     let mut bench = Bench::new(alloc, program, &[], cells.next())?;
     bench.type_lines(alloc, lines)?;
+    Ok(bench.told)
+}
+
+fn run_lent(alloc: Global, cells: &mut Cells<'_>) -> Answer {
+    let mut lender = Bench::new(alloc, &[], &[], &[])?;
+    lender.type_lines(alloc, cells.next())?;
+    let program = cells.next();
+    let lines = cells.next();
+    let mut bench = Bench::new(alloc, program, &[], cells.next())?;
+    swap(&mut bench.globals, &mut lender.me.vars);
+    bench.found = true;
+    bench.type_lines(alloc, lines)?;
+    let reached = if bench.reached {
+        "reached"
+    } else {
+        "untouched"
+    };
+    write!(bench.told, "; {reached}")?;
     Ok(bench.told)
 }
 

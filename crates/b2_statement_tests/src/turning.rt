@@ -4,8 +4,10 @@
 // after the other: `type TEXT` (and RETURN), `keys TEXT`, `sf N`, `halt`, `reset`, `front N`, `turn N` of at most N steps, `step`,
 // and `fill`, which puts calls on the stack up to its limit. AREA is that of the text.
 // `state | AREA | ..`: the same, and then where the partition stands and what it keeps.
-ghost use Rattle.std.specs.Prelude.{◌≡◌, IfOk, OnOk, IsSome};
+ghost use Rattle.std.specs.Prelude.{◌≡◌, [], IfOk, OnOk, IsSome};
 ghost use Rattle.b2_access.specs.Store.{content};
+ghost use Rattle.b2_access.specs.declared.private.Private.{Private as PrivateState};
+ghost use Rattle.b2_statement_tests.specs.Present.{ArePresent};
 ghost use Rattle.b2_store.specs.Meaning.{store_of};
 
 use crate::showing::show_lines;
@@ -26,6 +28,7 @@ const RETURN: u8 = 0x0D;
 /// A store of partition 1 with an area for its text, in front of terminal 1.
 fn store_with(alloc: Global, area: usize) -> Result<Stores, NoMemory>
     ensures own { IfOk result (λ s. IsSome (content (store_of s) (Object.Text 1))) }
+    ensures names { IfOk result (λ s. (store_of s).names ≡ []) }
 {
     let mut partitions = Vec::new(alloc);
     partitions.push((Part::known(1), area, 0))?;
@@ -41,18 +44,16 @@ fn store_with(alloc: Global, area: usize) -> Result<Stores, NoMemory>
 }
 
 /// A key at the terminal.
-#[tactic(auto, using(crate::proofs::TextsKept::text_kept))]
+#[tactic(auto, using(crate::proofs::KeptPresent::kept_at))]
 fn strike(store: &mut Stores, key: KeyItem)
-    requires own { IsSome (content (store_of store.old) (Object.Text 1)) }
-    ensures own { IsSome (content (store_of store.new) (Object.Text 1)) }
+    ensures present { (me : PrivateState) → ArePresent me (store_of store.old) → ArePresent me (store_of store.new) }
 {
     store.key(Term::known(1), key);
 }
 
 /// The keys of a text at the terminal.
 fn strike_all(store: &mut Stores, text: &[u8])
-    requires own { IsSome (content (store_of store.old) (Object.Text 1)) }
-    ensures own { IsSome (content (store_of store.new) (Object.Text 1)) }
+    ensures present { (me : PrivateState) → ArePresent me (store_of store.old) → ArePresent me (store_of store.new) }
 {
     for byte in text {
         strike(store, KeyItem::Byte(*byte));
@@ -60,10 +61,9 @@ fn strike_all(store: &mut Stores, text: &[u8])
 }
 
 /// A partition in front of the terminal.
-#[tactic(auto, using(crate::proofs::TextsKept::text_kept))]
+#[tactic(auto, using(crate::proofs::KeptPresent::kept_at))]
 fn front(store: &mut Stores, part: Part)
-    requires own { IsSome (content (store_of store.old) (Object.Text 1)) }
-    ensures own { IsSome (content (store_of store.new) (Object.Text 1)) }
+    ensures present { (me : PrivateState) → ArePresent me (store_of store.old) → ArePresent me (store_of store.new) }
 {
     store.set_front(Term::known(1), part);
 }
@@ -74,10 +74,8 @@ fn take_turn(
     store: &mut Stores,
     quota: u16,
 ) -> Result<Turned, NoMemory>
-    requires part { me.old.part ≡ 1 }
-    requires own { IsSome (content (store_of store.old) (Object.Text 1)) }
-    ensures part { me.new.part ≡ 1 }
-    ensures own { OnOk result (IsSome (content (store_of store.new) (Object.Text 1))) }
+    requires present { ArePresent me.old (store_of store.old) }
+    ensures present { OnOk result (ArePresent me.new (store_of store.new)) }
 {
     let devices = DeviceTable::new(Vec::new(alloc));
     let turned = turn::<Basic, Stores>(alloc, me, store, &devices, quota)?;
@@ -85,19 +83,37 @@ fn take_turn(
 }
 
 fn take_step(alloc: Global, me: &mut Private, store: &mut Stores) -> Result<Stepped, NoMemory>
-    requires part { me.old.part ≡ 1 }
-    requires own { IsSome (content (store_of store.old) (Object.Text 1)) }
-    ensures part { me.new.part ≡ 1 }
-    ensures own { OnOk result (IsSome (content (store_of store.new) (Object.Text 1))) }
+    requires present { ArePresent me.old (store_of store.old) }
+    ensures present { OnOk result (ArePresent me.new (store_of store.new)) }
 {
     let devices = DeviceTable::new(Vec::new(alloc));
     let stepped = step::<Basic, Stores>(alloc, me, store, &devices)?;
     Ok(stepped)
 }
 
+/// A halt is asked for.
+#[tactic(auto, using(crate::proofs::KeptPresent::flagged))]
+fn flag_halt(me: &mut Private, store: &Stores)
+    requires present { ArePresent me.old (store_of store.now) }
+    ensures present { ArePresent me.new (store_of store.now) }
+{
+    me.flag_halt();
+}
+
+/// A reset is asked for.
+#[tactic(auto, using(crate::proofs::KeptPresent::flagged))]
+fn flag_reset(me: &mut Private, store: &Stores)
+    requires present { ArePresent me.old (store_of store.now) }
+    ensures present { ArePresent me.new (store_of store.now) }
+{
+    me.flag_reset();
+}
+
 /// Puts calls on a stack up to its limit.
-fn fill_stack(me: &mut Private)
-    ensures part { me.new.part ≡ me.old.part }
+#[tactic(auto, using(crate::proofs::KeptPresent::framed))]
+fn fill_stack(me: &mut Private, store: &Stores)
+    requires present { ArePresent me.old (store_of store.now) }
+    ensures present { ArePresent me.new (store_of store.now) }
 {
     for _ in 0..200 {
         let call = Frame::Call {
@@ -165,10 +181,8 @@ fn go_on(
     word: &[u8],
     text: &[u8],
 ) -> Result<Option<String>, NoMemory>
-    requires part { me.old.part ≡ 1 }
-    requires own { IsSome (content (store_of store.old) (Object.Text 1)) }
-    ensures part { me.new.part ≡ 1 }
-    ensures own { OnOk result (IsSome (content (store_of store.new) (Object.Text 1))) }
+    requires present { ArePresent me.old (store_of store.old) }
+    ensures present { OnOk result (ArePresent me.new (store_of store.new)) }
 {
     match str_of(word) {
         "turn" => {
@@ -185,9 +199,8 @@ fn go_on(
 
 /// What happens from outside; returns whether it is known.
 fn happen(me: &mut Private, store: &mut Stores, word: &[u8], text: &[u8]) -> bool
-    requires own { IsSome (content (store_of store.old) (Object.Text 1)) }
-    ensures part { me.new.part ≡ me.old.part }
-    ensures own { IsSome (content (store_of store.new) (Object.Text 1)) }
+    requires present { ArePresent me.old (store_of store.old) }
+    ensures present { ArePresent me.new (store_of store.new) }
 {
     match str_of(word) {
         "type" => {
@@ -204,9 +217,9 @@ fn happen(me: &mut Private, store: &mut Stores, word: &[u8], text: &[u8]) -> boo
                 Part::known(2)
             },
         ),
-        "halt" => me.flag_halt(),
-        "reset" => me.flag_reset(),
-        "fill" => fill_stack(me),
+        "halt" => flag_halt(me, store),
+        "reset" => flag_reset(me, store),
+        "fill" => fill_stack(me, store),
         _ => return false,
     }
     true
@@ -219,8 +232,7 @@ fn happen_all(
     store: &mut Stores,
     cells: &mut Cells<'_>,
 ) -> Result<String, Unanswered>
-    requires part { me.old.part ≡ 1 }
-    requires own { IsSome (content (store_of store.old) (Object.Text 1)) }
+    requires present { ArePresent me.old (store_of store.old) }
 {
     let mut last = String::new(alloc);
     for _ in 0..100usize {

@@ -1,7 +1,7 @@
 -- GOTO, IF, ELSE, ERROR and ON, by their rows.
 use Rattle.std.proofs.Common.{◌≡◌, ℕ, ◌+◌, ◌==◌, Bool, true, false, if◌then◌else◌, List, [], ◌∷◌, drop, get_or, Ok, refl, ap, ◌∙◌}
 use Rattle.b2_base.specs.Lexical.{first}
-use Rattle.b2_base.specs.declared.codes.TheConstants.{S15_LINE_NUMBER, S27_LEFT_OUT}
+use Rattle.b2_base.specs.declared.codes.TheConstants.{S15_LINE_NUMBER, D87_FILE_NAME}
 use Rattle.b2_atom.specs.Words.{Text}
 use Rattle.b2_atom.specs.Tokens.Token.{Coded, Plain, Lined}
 use Rattle.b2_atom.specs.Tree.{Trees}
@@ -109,10 +109,10 @@ function_row : row_items row.DEFFN ≡ function_items
 unfolding row_items
 function_row = refl
 
-passed_by : (b : Bool) (x y : Trees) → passed_function (Put (Coded word.DEFFN) (if b then In 1 x Done else In 0 y Done)) ≡ (if b then outcome.Failed S27_LEFT_OUT else outcome.Next)
+passed_by : (b : Bool) (x y : Trees) → passed_function (Put (Coded word.DEFFN) (if b then In 1 x Done else In 0 y Done)) ≡ (if b then outcome.Failed D87_FILE_NAME else outcome.Next)
 passed_by true x y = refl
 passed_by false x y = refl
 
-pub passed_is : (t : Text) → is_part row.DEFFN t ≡ true → passed_function (tree_at row.DEFFN t) ≡ (if first (drop 1 t) == word.GLOBAL_PART then outcome.Failed S27_LEFT_OUT else outcome.Next)
+pub passed_is : (t : Text) → is_part row.DEFFN t ≡ true → passed_function (tree_at row.DEFFN t) ≡ (if first (drop 1 t) == word.GLOBAL_PART then outcome.Failed D87_FILE_NAME else outcome.Next)
 unfolding starts
 passed_is t ok = ap passed_function (stands_of row.DEFFN function_items t function_row ok).1 ∙ passed_by (first (drop 1 t) == word.GLOBAL_PART) (tree_at row.GLOBAL_PART (drop 1 t)) (tree_at row.FUNCTION_BODY (drop 1 t))

@@ -1,5 +1,5 @@
 -- A unit by its row and its tree on its line, and what it does.
-use Rattle.std.proofs.Common.{◌≡◌, ℕ, ◌==◌, ◌||◌, Bool, true, false, if◌then◌else◌, refl, ap, subst, ◌∙◌, arith, Option, Some, None, Result, Ok, Err, IfOk, is_some}
+use Rattle.std.proofs.Common.{◌≡◌, ℕ, ◌==◌, ◌||◌, Bool, true, false, if◌then◌else◌, List, refl, ap, sym, ◌∙◌, arith, Option, Some, None, Result, Ok, Err, IfOk, is_some}
 use Rattle.std.proofs.lemmas.Bool.Decides.{nat_tests}
 use Rattle.b2_atom.specs.Tree.{Trees}
 use Rattle.b2_atom.specs.declared.rows.TheConstants as row
@@ -7,15 +7,15 @@ use Rattle.b2_access.specs.Courses.{Here, permitted}
 use Rattle.b2_access.specs.Lending.{SeenLent}
 use Rattle.b2_access.specs.Placed.{Statement}
 use Rattle.b2_access.specs.Planning.{Ended, Planning, asks, done, stays}
-use Rattle.b2_access.specs.Steering.{steered}
+use Rattle.b2_access.specs.Steering.{Steered, steered, unsteered}
 use Rattle.b2_access.specs.declared.accesses.Access.{Access}
 use Rattle.b2_access.specs.declared.planned.Outcome.{Outcome}
 use Rattle.b2_access.specs.declared.private.Private.{Private}
 use Rattle.b2_access.proofs.Courses.{may_stand}
 use Rattle.b2_stmt.specs.Asked.{asked_of, carried, is_still, still}
 use Rattle.b2_stmt.specs.Clearing.{asked_access, asks_access}
-use Rattle.b2_stmt.specs.Marked.{takes_args}
-use Rattle.b2_stmt.specs.Plan.{around, by_access, does, ended_of, is_refused, stops}
+use Rattle.b2_stmt.specs.Marked.{ends_with_args, takes_args}
+use Rattle.b2_stmt.specs.Plan.{around, by_access, does, ended_of, ends_allowed, is_refused, lent_left, stops}
 
 otherwise : {A : Type 0} (b : Bool) (x y : A) → b ≡ false → (if b then x else y) ≡ y
 otherwise b x y is = ap (λ (c : Bool). if c then x else y) is
@@ -24,17 +24,24 @@ otherwise b x y is = ap (λ (c : Bool). if c then x else y) is
 chosen : {A : Type 0} (b : Bool) (x y : A) → b ≡ true → (if b then x else y) ≡ x
 chosen b x y is = ap (λ (c : Bool). if c then x else y) is
 
-pub still_there : (u : Statement) (h : Here) (me : Private) (s : SeenLent) → is_still u.row ≡ true → steered me (ended_of u h me s) ≡ stays me (still u.row u.tree h (around me s) s.home.lines)
-still_there u h me s is = ap (steered me) (chosen (is_still u.row) _ _ is)
+-- what it is lent and how it ended are chosen alike
+both_by : (b : Bool) (l m : SeenLent) (x y : Steered) (me : Private) → b ≡ true → done (if b then m else l) (steered me (if b then y else x)) ≡ done m (steered me y)
+both_by b l m x y me is = ap (λ (c : Bool). done (if c then m else l) (steered me (if c then y else x))) is
 
-pub taken_there : (u : Statement) (h : Here) (me : Private) (s : SeenLent) → is_still u.row ≡ false → u.row ≡ row.DEFFN_MARKED → steered me (ended_of u h me s) ≡ steered me (takes_args me.args s.home u.tree me)
+pub still_there : (u : Statement) (h : Here) (me : Private) (s : SeenLent) → is_still u.row ≡ true → ends_allowed u h me s ≡ done s (stays me (still u.row u.tree h (around me s) s.home.lines))
+still_there u h me s is = both_by (is_still u.row) _ s _ (unsteered me (still u.row u.tree h (around me s) s.home.lines)) me is
+
+pub taken_there : (u : Statement) (h : Here) (me : Private) (s : SeenLent) → is_still u.row ≡ false → u.row ≡ row.DEFFN_MARKED → ends_allowed u h me s ≡ ends_with_args (takes_args u.tree me s) me s
 taken_there u h me s is same =
     let e : (u.row == row.DEFFN_MARKED) ≡ true = ap (λ (r : ℕ). r == row.DEFFN_MARKED) same in
-    ap (steered me) (otherwise (is_still u.row) _ _ is ∙ chosen (u.row == row.DEFFN_MARKED) _ _ e)
+    ap (λ (l : SeenLent). done l (steered me (ended_of u h me s))) (otherwise (is_still u.row) s _ is ∙ chosen (u.row == row.DEFFN_MARKED) _ s e)
+    ∙ ap (λ (x : Steered). done (record s { globals = (takes_args u.tree me s).work.globals }) (steered me x)) (otherwise (is_still u.row) _ _ is ∙ chosen (u.row == row.DEFFN_MARKED) _ _ e)
 
 pub asked_there : (u : Statement) (h : Here) (me : Private) (s : SeenLent) → is_still u.row ≡ false → (u.row == row.DEFFN_MARKED) ≡ false
-    → steered me (ended_of u h me s) ≡ steered me (carried (asked_of u.row u.tree h (around me s) s.home.lines) h.place me s.own.lines s.home.lines)
-asked_there u h me s is other = ap (steered me) (otherwise (is_still u.row) _ _ is ∙ otherwise (u.row == row.DEFFN_MARKED) _ _ other)
+    → ends_allowed u h me s ≡ done s (steered me (carried (asked_of u.row u.tree h (around me s) s.home.lines) h.place me s.own.lines s.home.lines))
+asked_there u h me s is other =
+    ap (λ (l : SeenLent). done l (steered me (ended_of u h me s))) (otherwise (is_still u.row) s _ is ∙ otherwise (u.row == row.DEFFN_MARKED) _ s other)
+    ∙ ap (λ (x : Steered). done s (steered me x)) (otherwise (is_still u.row) _ _ is ∙ otherwise (u.row == row.DEFFN_MARKED) _ _ other)
 
 -- a statement that asks for no access
 first_no : (a b : Bool) → (a || b) ≡ false → a ≡ false
@@ -45,44 +52,52 @@ second_no : (a b : Bool) → (a || b) ≡ false → b ≡ false
 second_no true b is = cc
 second_no false b is = is
 
-asks_nothing : (r : ℕ) (t : Trees) → asks_access r ≡ false → asked_access r t ≡ None
-asks_nothing r t is = otherwise (r == row.CLEAR) _ _ (first_no _ (r == row.CLEAR_P) is) ∙ otherwise (r == row.CLEAR_P) _ _ (second_no _ (r == row.CLEAR_P) is)
+pub asks_nothing : (r : ℕ) (t : Trees) (declared : Option (List ℕ)) → asks_access r ≡ false → asked_access r t declared ≡ None
+asks_nothing r t declared is =
+    let clear = r == row.CLEAR in
+    let lines = r == row.CLEAR_P in
+    let deffn = r == row.DEFFN in
+    let select = r == row.SELECT_PART in
+    let three : (clear || lines || deffn) ≡ false = first_no (clear || lines || deffn) select is in
+    let two : (clear || lines) ≡ false = first_no (clear || lines) deffn three in
+    otherwise clear _ _ (first_no clear lines two)
+    ∙ otherwise lines _ _ (second_no clear lines two)
+    ∙ otherwise deffn _ _ (second_no (clear || lines) deffn three)
+    ∙ otherwise select _ _ (second_no (clear || lines || deffn) select is)
 
-pub quiet_there : (u : Statement) (h : Here) (me : Private) (s : SeenLent) → asks_access u.row ≡ false → is_refused u.row (is_some h.place.line) ≡ false → permitted is_refused (stops me s) (does me s) u h ≡ done s (steered me (ended_of u h me s))
-quiet_there u h me s quiet allowed =
-    may_stand is_refused (stops me s) (does me s) u h allowed ∙ ap (λ (o : Option Access). by_access o s me (ended_of u h me s)) (asks_nothing u.row u.tree quiet)
+pub none_planned : (u : Statement) (h : Here) (me : Private) (s : SeenLent) → is_refused u.row (is_some h.place.line) ≡ false → asked_access u.row u.tree me.declared ≡ None
+    → permitted is_refused (stops me s) (does me s) u h ≡ ends_allowed u h me s
+none_planned u h me s allowed none =
+    may_stand is_refused (stops me s) (does me s) u h allowed ∙ ap (λ (o : Option Access). by_access o (lent_left u me s) me (ended_of u h me s)) none
 
-none_asked : (b c : Bool) (x y : Access) → (if b then Some x else (if c then Some y else None)) ≡ None → (b || c) ≡ false
-none_asked true c x y is = cc
-none_asked false true x y is = cc
-none_asked false false x y is = refl
+pub quiet_there : (u : Statement) (h : Here) (me : Private) (s : SeenLent) → is_refused u.row (is_some h.place.line) ≡ false → asks_access u.row ≡ false
+    → permitted is_refused (stops me s) (does me s) u h ≡ ends_allowed u h me s
+quiet_there u h me s allowed quiet = none_planned u h me s allowed (asks_nothing u.row u.tree me.declared quiet)
 
-pub asks_none : (r : ℕ) (t : Trees) → asked_access r t ≡ None → asks_access r ≡ false
-asks_none r t is = none_asked (r == row.CLEAR) (r == row.CLEAR_P) _ _ is
+-- one that asks for an access leaves the `@` variables
+asks_alone : (u : Statement) (me : Private) (s : SeenLent) (a : Access) (b : Bool) → (u.row == row.DEFFN_MARKED) ≡ b → asked_access u.row u.tree me.declared ≡ Some a
+    → (if b then record s { globals = (takes_args u.tree me s).work.globals } else s) ≡ s
+asks_alone u me s a false same is = refl
+asks_alone u me s a true same is =
+    let e : u.row ≡ row.DEFFN_MARKED = grind (arith, nat_tests) in
+    absurd (none_is_some a (sym (ap (λ (r : ℕ). asked_access r u.tree me.declared) e) ∙ is))
+  where
+    none_is_some : (a : Access) → ◌≡◌ {A = Option Access} None (Some a) → ⊥
+    none_is_some a h = cc
 
--- CLEAR and CLEAR P may stand anywhere
-some_asked : (b c : Bool) (x y a : Access) (P : Type 0) → (b ≡ true → P) → (c ≡ true → P) → (if b then Some x else (if c then Some y else None)) ≡ Some a → P
-some_asked true c x y a P one other is = one refl
-some_asked false true x y a P one other is = other refl
-some_asked false false x y a P one other is = cc
+lent_by : (still : Bool) (s left : SeenLent) → left ≡ s → (if still then s else left) ≡ s
+lent_by true s left is = refl
+lent_by false s left is = is
 
-clear_anywhere : (program : Bool) → is_refused row.CLEAR program ≡ false
-clear_anywhere true = refl
-clear_anywhere false = refl
+pub lent_stays : (u : Statement) (me : Private) (s : SeenLent) (a : Access) → asked_access u.row u.tree me.declared ≡ Some a → lent_left u me s ≡ s
+lent_stays u me s a is = lent_by (is_still u.row) s _ (asks_alone u me s a (u.row == row.DEFFN_MARKED) refl is)
 
-clear_p_anywhere : (program : Bool) → is_refused row.CLEAR_P program ≡ false
-clear_p_anywhere true = refl
-clear_p_anywhere false = refl
-
-of_row : (r k : ℕ) (program : Bool) → is_refused k program ≡ false → (r == k) ≡ true → is_refused r program ≡ false
-of_row r k program is same = let e : k ≡ r = grind (arith, nat_tests) in subst (λ (n : ℕ). is_refused n program ≡ false) e is
-
-pub access_planned : (u : Statement) (h : Here) (me : Private) (s : SeenLent) (a : Access) → asked_access u.row u.tree ≡ Some a → permitted is_refused (stops me s) (does me s) u h ≡ asks s me a
-access_planned u h me s a is =
-    let program = is_some h.place.line in
-    let allowed : is_refused u.row program ≡ false =
-    some_asked (u.row == row.CLEAR) (u.row == row.CLEAR_P) _ _ a _ (of_row u.row row.CLEAR program (clear_anywhere program)) (of_row u.row row.CLEAR_P program (clear_p_anywhere program)) is in
-    may_stand is_refused (stops me s) (does me s) u h allowed ∙ ap (λ (o : Option Access). by_access o s me (ended_of u h me s)) is
+pub access_planned : (u : Statement) (h : Here) (me : Private) (s : SeenLent) (a : Access) → is_refused u.row (is_some h.place.line) ≡ false → asked_access u.row u.tree me.declared ≡ Some a
+    → permitted is_refused (stops me s) (does me s) u h ≡ asks s me a
+access_planned u h me s a allowed is =
+    may_stand is_refused (stops me s) (does me s) u h allowed
+    ∙ ap (λ (o : Option Access). by_access o (lent_left u me s) me (ended_of u h me s)) is
+    ∙ ap (λ (l : SeenLent). asks l me a) (lent_stays u me s a is)
 
 -- what is asked of the private state is carried out, and the answer of a call says so
 pub ok_to : {A E : Type 0} {X : Type 0} (r : Result A E) (f : A → X) (x y : X) → x ≡ y → IfOk r (λ a. f a ≡ x) → IfOk r (λ a. f a ≡ y)

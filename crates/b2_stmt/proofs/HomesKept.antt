@@ -8,7 +8,7 @@ use Rattle.b2_atom.specs.declared.rows.TheConstants as row
 use Rattle.b2_rows.specs.Following.{past_colon, unit_or_next}
 use Rattle.b2_rows.specs.declared.following.Goal.{Goal}
 use Rattle.b2_rows.specs.declared.following.Goal.TheVariants as goal
-use Rattle.b2_text.specs.Program.{Lines, TextState, line_at, number_after}
+use Rattle.b2_text.specs.Program.{Lines, line_at, number_after}
 use Rattle.b2_text.specs.Spots.{first_opening, is_mark, or_else}
 use Rattle.b2_text.specs.declared.spots.Spot.{Spot}
 use Rattle.b2_dec.specs.Number.{Number}
@@ -31,11 +31,12 @@ use Rattle.b2_access.specs.declared.accesses.Answer.{Answer}
 use Rattle.b2_access.specs.declared.planned.Outcome.{Outcome}
 use Rattle.b2_access.specs.declared.planned.Outcome.TheVariants as outcome
 use Rattle.b2_access.specs.declared.private.Private.{Private}
-use Rattle.b2_expr.specs.Workspace.{work_in}
-use Rattle.b2_access.specs.Partition.{setting_of}
+use Rattle.b2_expr.specs.Workspace.{WorkLeft}
 use Rattle.b2_stmt.specs.Asked.{Asks, Leads, asked_of, asking_rows, asks_choice, asks_loop, asks_mark, asks_nothing, asks_on, body_place, carried, is_still, left_out, line_chosen, place_after, still, still_rows}
 use Rattle.b2_stmt.specs.Arguments.{arguments, operands_of}
-use Rattle.b2_stmt.specs.Marked.{calls_mark, mark_in, mark_place, number_called, parameters_of, place_in, takes_values, takes_args}
+use Rattle.b2_stmt.specs.Marked.{calls_mark, ends_taken, mark_in, mark_place, number_called, place_in, takes_args}
+use Rattle.b2_stmt.specs.Parts.{part_came}
+use Rattle.b2_stmt.proofs.PartsCame.{each_asked, each_part}
 use Rattle.b2_stmt.specs.Branches.{goto_goal, if_goal, passed_function}
 use Rattle.b2_stmt.specs.Calls.{back_from, called_where, forgets, leaves_call}
 use Rattle.b2_stmt.specs.Choices.{calls_a_line, choice_in}
@@ -47,7 +48,7 @@ use Rattle.b2_access.specs.Homes.{FinishesWithin, FrameIn, FramesIn, HomesIn, Is
 use Rattle.b2_stmt.specs.Loops.{loop_begins, loop_element, loop_counts, goes_round, is_over, loop_in, made_loop, next_value, nexts, tested, without_loop}
 use Rattle.b2_access.specs.Courses.{Here, here}
 use Rattle.b2_access.specs.Placed.{Statement}
-use Rattle.b2_stmt.specs.Plan.{around, by_access, does, ended_of, finish, is_refused, plan, stops}
+use Rattle.b2_stmt.specs.Plan.{around, by_access, does, ended_of, finish, is_refused, lent_left, plan, stops}
 use Rattle.b2_access.specs.Planning.{Planning, done, goes_or}
 use Rattle.b2_access.specs.Views.{ClearCame, AllCleared, LinesErased, TextLocked, ClearLater, clear_came}
 use Rattle.b2_access.proofs.Choice.{either}
@@ -163,7 +164,7 @@ module _ (among : ℕ → Bool) where
             goes_in lines h.place (past_colon h.place.unit h.units) k,
             (
               goes_in lines h.place goal.NextLine k,
-              (tt, (tt, (tt, (tt, (passed_in t, (tt, tt)))))),
+              (tt, (tt, (tt, (tt, (passed_in t, (tt, (tt, tt))))))),
             ),
           ),
         ),
@@ -296,11 +297,10 @@ module _ (among : ℕ → Bool) where
       either EndedIn (nat_lt (length me.stack) most_frames) (record { control = record (control_of me) { work = record (work_of me) { args = Some args }; stack = Call back None ∷ me.stack }; outcome = outcome.Jump q }) _
       ((w.kept, ((k, tt), w.frames)), h) (left me w, tt)
 
-  args_in : (o : Option (List Value)) (home : TextState) (t : Trees) (me : Private) → Within me → EndedIn (takes_args o home t me)
+  args_in : (o : Option (List Value)) (r : WorkLeft) (me : Private) → Within me → EndedIn (ends_taken o r me)
   unfolding EndedIn
-  args_in None home t me w = (left me w, tt)
-  args_in (Some xs) home t me w =
-      ((w.kept, w.frames), next_in (takes_values (parameters_of t) xs (work_in (setting_of me) home me.vars)).code)
+  args_in None r me w = (left me w, tt)
+  args_in (Some xs) r me w = ((w.kept, w.frames), next_in r.code)
 
   back_in : (how : Option Place → Outcome) (fs : List Frame) (me : Private) → ((b : Option Place) → PlaceIn among b → OutcomeIn among (how b)) → Within me → FramesIn among fs → EndedIn (back_from how fs me)
   unfolding EndedIn
@@ -362,7 +362,7 @@ module _ (among : ℕ → Bool) where
   unfolding EndedIn
   ended_in u h me s k w =
       either EndedIn (is_still u.row) _ _ (left me w, still_in u.row u.tree h (around me s) s.home.lines k)
-      (either EndedIn (u.row == row.DEFFN_MARKED) _ _ (args_in me.args s.home u.tree me w)
+      (either EndedIn (u.row == row.DEFFN_MARKED) _ _ (args_in me.args (takes_args u.tree me s) me w)
       (carried_in (asked_of u.row u.tree h (around me s) s.home.lines) h.place me s.own.lines s.home.lines k w (asked_in u.row u.tree h (around me s) s.home.lines k)))
 
   PlanningIn : Planning → Type 0
@@ -379,10 +379,11 @@ module _ (among : ℕ → Bool) where
   AccessIn None = Unit {0}
   AccessIn (Some a) = HomesIn among a
 
-  asked_of_in : (r : ℕ) (t : Trees) → AccessIn (asked_access r t)
+  asked_of_in : (r : ℕ) (t : Trees) (declared : Option (List ℕ)) → AccessIn (asked_access r t declared)
   unfolding AccessIn
-  asked_of_in r t =
-      either AccessIn (r == row.CLEAR) _ _ (marks_none among (access.ClearAll None 0) refl) (either AccessIn (r == row.CLEAR_P) _ _ (each_erased (HomesIn among) (λ from to. marks_none among (access.Erase from to 0) refl) t) tt)
+  asked_of_in r t declared =
+      each_asked AccessIn tt (λ name. marks_none among (access.ClearAll name 0) refl) (λ t. each_erased (HomesIn among) (λ from to. marks_none among (access.Erase from to 0) refl) t)
+      (λ name old. marks_none among (access.Declare name old) refl) (λ name. marks_none among (access.FindPart name) refl) r t declared
 
   access_in : (o : Option Access) (s : SeenLent) (me : Private) (e : Steered) → Within me → EndedIn e → AccessIn o → PlanningIn (by_access o s me e)
   unfolding PlanningIn AccessIn
@@ -394,7 +395,7 @@ module _ (among : ℕ → Bool) where
   planned_in me s w =
       each_course is_refused (stops me s) (does me s) me s PlanningIn (w, tt) (w, tt) (λ p is u.
       let k : among p.home ≡ true = subst (λ (o : Option Place). PlaceIn among o) is w.place in
-      access_in (asked_access u.row u.tree) s me (ended_of u (here p me s) me s) w (ended_in u (here p me s) me s k w) (asked_of_in u.row u.tree))
+      access_in (asked_access u.row u.tree me.declared) (lent_left u me s) me (ended_of u (here p me s) me s) w (ended_in u (here p me s) me s k w) (asked_of_in u.row u.tree me.declared))
 
   -- how it finishes
   clears_in : (k : ClearCame) (me : Private) → Within me → EndedIn (clearing_ends k me)
@@ -406,11 +407,13 @@ module _ (among : ℕ → Bool) where
 
   finishes_in : (x : Access) (a : Answer) (me : Private) → Within me → IsWithin among (steered me (edit_finishes x a me)).me × OutcomeIn among (edit_finishes x a me).outcome
   unfolding EndedIn
-  finishes_in x a me w = let h = clears_in (clear_came x a) me w in (put_in me (edit_finishes x a me) w h.0, h.1)
+  finishes_in x a me w =
+      let h = each_part EndedIn me (λ name. (left me w, tt)) (λ name. (left me w, tt)) (part_came x a) (clearing_ends (clear_came x a) me) (λ c. (left me w, tt)) (clears_in (clear_came x a) me w) in
+      (put_in me (edit_finishes x a me) w h.0, h.1)
 
 pub plans_within : PlansWithin plan
 unfolding PlanningIn
 plans_within among me s w = planned_in among me s w
 
 pub finishes_within : FinishesWithin finish
-finishes_within among x a me s w = finishes_in among x a me w
+finishes_within among x a me s leads w = finishes_in among x a me w

@@ -4,7 +4,7 @@ use Rattle.std.proofs.Common.{◌≡◌, ℕ, ◌==◌, ◌&&◌, nat_lt, Bool, 
 use Rattle.std.specs.Prelude.{◌⊎◌}
 use Rattle.b2_atom.specs.Tree.{Trees}
 use Rattle.b2_atom.specs.declared.rows.TheConstants as row
-use Rattle.b2_text.specs.Program.{Lines, TextState, line_at, number_after}
+use Rattle.b2_text.specs.Program.{Lines, line_at, number_after}
 use Rattle.b2_dec.specs.Number.{Number}
 use Rattle.b2_dec.specs.declared.values.Value.{Value}
 use Rattle.b2_flow.specs.Stacks.{from_call, from_loop, has_call, has_loop, most_frames, top_loop}
@@ -43,8 +43,11 @@ use Rattle.b2_stmt.specs.Clearing.{asked_access, clearing_ends, edit_finishes}
 use Rattle.b2_stmt.specs.Course.{continues, runs, runs_from, runs_where}
 use Rattle.b2_stmt.specs.Frames.{with_frame}
 use Rattle.b2_stmt.specs.Loops.{loop_begins, loop_element, loop_counts, goes_round, is_over, made_loop, next_value, nexts, tested, without_loop}
-use Rattle.b2_stmt.specs.Marked.{calls_mark, mark_place, takes_args}
-use Rattle.b2_stmt.specs.Plan.{around, by_access, does, ended_of, finish, is_refused, plan, stops}
+use Rattle.b2_stmt.specs.Marked.{calls_mark, ends_taken, mark_place, takes_args}
+use Rattle.b2_stmt.specs.Parts.{part_came}
+use Rattle.b2_expr.specs.Workspace.{WorkLeft}
+use Rattle.b2_stmt.proofs.PartsCame.{each_asked, each_part}
+use Rattle.b2_stmt.specs.Plan.{around, by_access, does, ended_of, finish, is_refused, lent_left, plan, stops}
 use Rattle.b2_stmt.proofs.Erased.{each_erased}
 use Rattle.b2_stmt.specs.declared.asked.Asked.{Asked}
 use Rattle.b2_stmt.specs.declared.asked.Asked.TheVariants as asked
@@ -103,10 +106,10 @@ mark_called None args back me h = inl h
 mark_called (Some q) args back me h =
     either KeepsNothing (nat_lt (length me.stack) most_frames) (record { control = record (control_of me) { work = record (work_of me) { args = Some args }; stack = Call back None ∷ me.stack }; outcome = outcome.Jump q }) _ (inl h) (inl h)
 
-taken : (o : Option (List Value)) (home : TextState) (t : Trees) (me : Private) → KeepsNoPlace me → KeepsNothing (takes_args o home t me)
+taken : (o : Option (List Value)) (r : WorkLeft) (me : Private) → KeepsNoPlace me → KeepsNothing (ends_taken o r me)
 unfolding KeepsNothing
-taken None home t me h = inl h
-taken (Some xs) home t me h = inl h
+taken None r me h = inl h
+taken (Some xs) r me h = inl h
 
 back : (how : Option Place → Outcome) (fs : List Frame) (me : Private) → KeepsNoPlace me → KeepsNothing (back_from how fs me)
 unfolding KeepsNothing
@@ -163,7 +166,7 @@ ended : (u : Statement) (h : Here) (me : Private) (s : SeenLent) → KeepsNoPlac
 unfolding KeepsNothing
 ended u h me s k =
     either KeepsNothing (is_still u.row) _ _ (inl k)
-    (either KeepsNothing (u.row == row.DEFFN_MARKED) _ _ (taken me.args s.home u.tree me k)
+    (either KeepsNothing (u.row == row.DEFFN_MARKED) _ _ (taken me.args (takes_args u.tree me s) me k)
     (carries (asked_of u.row u.tree h (around me s) s.home.lines) h.place me s.own.lines s.home.lines k))
 
 -- what is planned
@@ -191,13 +194,13 @@ clears ClearLater me h = inl h
 pub plans_keep_none : PlansKeepNone plan
 unfolding PlansNothing
 plans_keep_none me s k =
-    each_course is_refused (stops me s) (does me s) me s PlansNothing (inl k) (inl k) (λ p is u. asking (asked_access u.row u.tree) s me (ended_of u (here p me s) me s) k (ended u (here p me s) me s k))
+    each_course is_refused (stops me s) (does me s) me s PlansNothing (inl k) (inl k) (λ p is u. asking (asked_access u.row u.tree me.declared) (lent_left u me s) me (ended_of u (here p me s) me s) k (ended u (here p me s) me s k))
 
 pub finishes_keep_none : FinishesKeepNone finish
 unfolding KeepsNothing
-finishes_keep_none x a me s k = clears (clear_came x a) me k
+finishes_keep_none x a me s k = each_part KeepsNothing me (λ name. inl k) (λ name. inl k) (part_came x a) (clearing_ends (clear_came x a) me) (λ c. inl k) (clears (clear_came x a) me k)
 
--- by the form of what they change, they leave the place and the terminal; and CLEAR and CLEAR P ask at no terminal
+-- by the form of what they change, they leave the place and the terminal; and what they ask for is at no terminal
 in_place : (o : Option Access) (s : SeenLent) (me : Private) (e : Steered) → (by_access o s me e).me.place ≡ me.place
 in_place None s me e = refl
 in_place (Some a) s me e = refl
@@ -205,11 +208,11 @@ in_place (Some a) s me e = refl
 AtTerminal : Private → Planning → Type 0
 AtTerminal me p = (p.me.term ≡ me.term) × PlannedAt me.term p.planned
 
-asks_here : (term r : ℕ) (t : Trees) → AskedAt term (asked_access r t)
-asks_here term r t =
+asks_here : (term r : ℕ) (t : Trees) (declared : Option (List ℕ)) → AskedAt term (asked_access r t declared)
+asks_here term r t declared =
     let F : Option Access → Type 0 = AskedAt term in
-    either F (r == row.CLEAR) _ _ (names_none term (access.ClearAll None 0) refl)
-    (either F (r == row.CLEAR_P) _ _ (each_erased (λ a. AskedAt term (Some a)) (λ from to. names_none term (access.Erase from to 0) refl) t) tt)
+    each_asked F tt (λ name. names_none term (access.ClearAll name 0) refl) (λ t. each_erased (λ a. AskedAt term (Some a)) (λ from to. names_none term (access.Erase from to 0) refl) t)
+    (λ name old. names_none term (access.Declare name old) refl) (λ name. names_none term (access.FindPart name) refl) r t declared
 
 at_terminal : (o : Option Access) (s : SeenLent) (me : Private) (e : Steered) → AskedAt me.term o → AtTerminal me (by_access o s me e)
 unfolding AtTerminal
@@ -218,12 +221,12 @@ at_terminal (Some a) s me e h = (refl, h)
 
 pub plans_in_place : PlansInPlace plan
 plans_in_place me s =
-    each_course is_refused (stops me s) (does me s) me s (λ (p : Planning). p.me.place ≡ me.place) refl refl (λ p is u. in_place (asked_access u.row u.tree) s me (ended_of u (here p me s) me s))
+    each_course is_refused (stops me s) (does me s) me s (λ (p : Planning). p.me.place ≡ me.place) refl refl (λ p is u. in_place (asked_access u.row u.tree me.declared) (lent_left u me s) me (ended_of u (here p me s) me s))
 
 pub plans_at_terminal : PlansAtTerminal plan
 unfolding AtTerminal
 plans_at_terminal me s =
-    each_course is_refused (stops me s) (does me s) me s (AtTerminal me) (refl, tt) (refl, tt) (λ p is u. at_terminal (asked_access u.row u.tree) s me (ended_of u (here p me s) me s) (asks_here me.term u.row u.tree))
+    each_course is_refused (stops me s) (does me s) me s (AtTerminal me) (refl, tt) (refl, tt) (λ p is u. at_terminal (asked_access u.row u.tree me.declared) (lent_left u me s) me (ended_of u (here p me s) me s) (asks_here me.term u.row u.tree me.declared))
 
 pub finishes_in_place : FinishesInPlace finish
 finishes_in_place x a me s = refl
@@ -239,7 +242,7 @@ shown_by_access (Some a) s me e = inl refl
 pub plans_to_show : PlansToShow plan
 plans_to_show me s =
     let Kept : Planning → Type 0 = λ p. KeepsOrShows me.pending p.me.pending in
-    each_course is_refused (stops me s) (does me s) me s Kept (inl refl) (inl refl) (λ p is u. shown_by_access (asked_access u.row u.tree) s me (ended_of u (here p me s) me s))
+    each_course is_refused (stops me s) (does me s) me s Kept (inl refl) (inl refl) (λ p is u. shown_by_access (asked_access u.row u.tree me.declared) (lent_left u me s) me (ended_of u (here p me s) me s))
 
 pub finishes_to_show : FinishesToShow finish
 finishes_to_show x a me s = keeps_or_shows (edit_finishes x a me).control.work.shows me.pending

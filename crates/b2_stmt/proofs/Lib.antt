@@ -1,10 +1,11 @@
 -- The proofs of statements of control, by what they are about.
 --
 -- GoalUnits: the units that goals name. Framed: frames that are put. BranchRows, LoopRows, CallRows, CourseRows, ChoiceRows,
--- ClearRows, ArgumentRows and MarkRows have what the rows of statements say at their bytes, one fact at a time. Executed: a
+-- ClearRows, ArgumentRows, MarkRows and PartRows have what the rows of statements say at their bytes, one fact at a time. Executed: a
 -- unit by its row and its tree. Erased: what CLEAR P asks for. HomesKept: which partitions a statement names as homes.
 -- KeptPlaces: where it stands, at which terminal, and what it keeps for CONTINUE. Waits: what has to wait.
--- LeftAlone: all of these in one record.
+-- Reached: what becomes of the `@` variables. PartsCame: what came of a name. LeftAlone: all of
+-- these in one record.
 pub mod GoalUnits
 pub mod Framed
 pub mod BranchRows
@@ -15,9 +16,12 @@ pub mod ChoiceRows
 pub mod ClearRows
 pub mod ArgumentRows
 pub mod MarkRows
+pub mod PartRows
+pub mod PartsCame
 pub mod Executed
 pub mod Erased
 pub mod HomesKept
 pub mod KeptPlaces
 pub mod Waits
+pub mod Reached
 pub mod LeftAlone

@@ -30,8 +30,6 @@ use Rattle.b2_rows.proofs.Optional.{maybe_stands, begun_part, begun_tree, left_o
 use Rattle.b2_flow.specs.Stacks.{most_frames}
 use Rattle.b2_flow.specs.declared.frame.Frame.TheVariants.{Call}
 use Rattle.b2_flow.specs.declared.frame.Place.{Place}
-use Rattle.b2_receiver.specs.Assigning.{is_alpha_receiver}
-use Rattle.b2_receiver.specs.Receiving.{given_value}
 use Rattle.b2_expr.specs.Workspace.{WorkState, WorkLeft, then_works, unless_coded}
 use Rattle.b2_receiver.specs.declared.receiver.Receiver.{Receiver}
 use Rattle.b2_receiver.specs.declared.receiver.Receiver.TheVariants as receiver_kind
@@ -106,13 +104,6 @@ not_empty x xs = grind (arith, nat_tests)
 pub last_fits : (xs : List Value) → values_fit [] xs ≡ (length xs == 0)
 last_fits [] = refl
 last_fits (x ∷ xs) = sym (not_empty x xs)
-
--- a value of the other kind than the receiver's
-pub other_kind : (to : Receiver) (x : Value) (w : WorkState) → suits (is_alpha_receiver to) x ≡ false → given_value to x w ≡ record { work = w; code = None }
-other_kind (receiver_kind.Number e) (value.Number x) w is = cc
-other_kind (receiver_kind.Number e) (value.Alpha bytes) w is = refl
-other_kind (receiver_kind.Alpha to) (value.Number x) w is = refl
-other_kind (receiver_kind.Alpha to) (value.Alpha bytes) w is = cc
 
 -- no receivers
 pub no_receivers : (xs : List Value) (w : WorkState) → (length xs == 0) ≡ true → takes_values [] xs w ≡ record { work = w; code = None }

@@ -1,6 +1,6 @@
 -- What a statement asks of the private state, by its row and its tree.
 use Rattle.std.specs.Prelude.{◌≡◌, ℕ, ◌+◌, ◌&&◌, not, Bool, true, false, List, [], ◌∷◌, Option, None, Some, is_some, unwrap_or, Result, Ok, Err, if◌then◌else◌}
-use Rattle.b2_base.specs.declared.codes.TheConstants.{S26_PROGRAM_ONLY, S27_LEFT_OUT}
+use Rattle.b2_base.specs.declared.codes.TheConstants.{D87_FILE_NAME, S26_PROGRAM_ONLY, S27_LEFT_OUT}
 use Rattle.b2_dec.specs.declared.number.Mode.TheVariants.{Round, Cut}
 use Rattle.b2_dec.specs.declared.values.Value.{Value}
 use Rattle.b2_atom.specs.Tree.{Trees}
@@ -77,6 +77,7 @@ still_rows =
     ∷ (row.DATA, λ t h s lines. outcome.Next)
     ∷ (row.DEFFN, λ t h s lines. passed_function t)
     ∷ (row.BREAK, λ t h s lines. outcome.Break)
+    ∷ (row.SELECT_PART, λ t h s lines. outcome.Failed D87_FILE_NAME)
     ∷ []
 
 abbrev pub is_still : ℕ → Bool

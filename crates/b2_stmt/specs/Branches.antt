@@ -1,6 +1,6 @@
 -- Statements that lead elsewhere on their line or in their text and change nothing: GOTO, IF, ELSE, ERROR and ON with GOTO.
 use Rattle.std.specs.Prelude.{ℕ, ◌==◌, List, Result, Ok, Err, if◌then◌else◌}
-use Rattle.b2_base.specs.declared.codes.TheConstants.{S14_STATEMENT, S15_LINE_NUMBER, S27_LEFT_OUT}
+use Rattle.b2_base.specs.declared.codes.TheConstants.{D87_FILE_NAME, S14_STATEMENT, S15_LINE_NUMBER}
 use Rattle.b2_atom.specs.Tree.{Trees}
 use Rattle.b2_atom.specs.Tree.Trees.{Put, In}
 use Rattle.b2_atom.specs.Units.{TreeUnit}
@@ -24,7 +24,7 @@ abbrev pub if_goal : Context → ℕ → List TreeUnit → Trees → Result Goal
 if_goal s k us (Put word (In n c (Put then_ (In m named end)))) = truth s c >>= (λ holds. Ok (if holds then named_goal k m named else after_false k us))
 if_goal s k us t = Err S14_STATEMENT
 
--- DEFFN that is reached in order does nothing; DEFFN @PART is left out so far
+-- DEFFN that is reached in order does nothing; D87 where the name that DEFFN @PART is to declare isn't one
 abbrev pub passed_function : Trees → Outcome
-passed_function (Put word (In n body end)) = if n == 1 then outcome.Failed S27_LEFT_OUT else outcome.Next
+passed_function (Put word (In n body end)) = if n == 1 then outcome.Failed D87_FILE_NAME else outcome.Next
 passed_function t = outcome.Next

@@ -1,5 +1,5 @@
--- CLEAR and CLEAR P: what they ask of the store, and how they finish.
-use Rattle.std.specs.Prelude.{ℕ, ◌==◌, ◌||◌, Bool, true, [], ◌∷◌, ◌++◌, codes, Option, None, Some, unwrap_or, if◌then◌else◌}
+-- CLEAR, CLEAR P, DEFFN @PART and SELECT @PART: what they ask of the store, and how they finish.
+use Rattle.std.specs.Prelude.{ℕ, List, ◌==◌, ◌||◌, Bool, true, [], ◌∷◌, ◌++◌, codes, Option, None, Some, unwrap_or, if◌then◌else◌}
 use Rattle.std.specs.FinMap as map
 use Rattle.b2_base.specs.Byte as byte
 use Rattle.b2_base.specs.declared.codes.TheConstants.{A08_TEXT_BORROWED}
@@ -16,6 +16,7 @@ use Rattle.b2_rows.specs.LineNumbers.{named_lines}
 use Rattle.b2_access.specs.Steering.{Control, Steered, control_of, unsteered}
 use Rattle.b2_access.specs.Views.{ClearCame, AllCleared, LinesErased, TextLocked, ClearLater, clear_came}
 use Rattle.b2_access.specs.Working.{work_of}
+use Rattle.b2_stmt.specs.Parts.{asks_to_declare, asks_to_find, declared_by, part_came, part_ends, selected_by}
 
 -- the lines that are named go: up to the last one of the text, where no second one is named
 abbrev pub erases_lines : ℕ × Option ℕ → Access
@@ -25,17 +26,22 @@ abbrev pub asks_to_erase : Trees → Access
 asks_to_erase (Put word (Put letter lines)) = erases_lines (named_lines lines)
 asks_to_erase t = access.Erase 0 9999 0
 
--- whether a statement asks for an access, and the access that it asks for
+-- whether a statement may ask for an access, and the access that it asks for, where a name is declared or none
 abbrev pub asks_access : ℕ → Bool
-asks_access r = r == row.CLEAR || r == row.CLEAR_P
+asks_access r = r == row.CLEAR || r == row.CLEAR_P || r == row.DEFFN || r == row.SELECT_PART
 
-abbrev pub asked_access : ℕ → Trees → Option Access
-asked_access r t = if r == row.CLEAR then Some (access.ClearAll None 0) else (if r == row.CLEAR_P then Some (asks_to_erase t) else None)
+abbrev pub asked_access : ℕ → Trees → Option (List ℕ) → Option Access
+asked_access r t declared =
+    if r == row.CLEAR then Some (access.ClearAll declared 0)
+    else (if r == row.CLEAR_P then Some (asks_to_erase t)
+    else (if r == row.DEFFN then asks_to_declare declared (declared_by t)
+    else (if r == row.SELECT_PART then asks_to_find (selected_by t)
+    else None)))
 
 -- all is cleared: the text and the `@` variables by the access, and then the variables and the frames; the terminal and the platter with
--- which the partition started are selected again; the devices that it has taken stay so
+-- which the partition started are selected again, no partition is selected, and no name is declared; the devices that it has taken stay so
 abbrev pub cleared : Private → Private
-cleared me = record (without_frames me) { vars = record me.vars { table = map.empty }; print = terminal_address; disk = me.boot_disk }
+cleared me = record (without_frames me) { vars = record me.vars { table = map.empty }; print = terminal_address; disk = me.boot_disk; global = None; declared = None }
 
 -- it is shown to be ready
 abbrev pub ready_after : Private → Control
@@ -53,4 +59,4 @@ clearing_ends TextLocked me = unsteered me (outcome.Failed A08_TEXT_BORROWED)
 clearing_ends ClearLater me = unsteered me outcome.Repeat
 
 abbrev pub edit_finishes : Access → Answer → Private → Steered
-edit_finishes x a me = clearing_ends (clear_came x a) me
+edit_finishes x a me = part_ends (part_came x a) (clearing_ends (clear_came x a) me) me

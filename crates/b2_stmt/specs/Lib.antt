@@ -8,5 +8,6 @@ pub mod Lines
 pub mod Arguments
 pub mod Asked
 pub mod Marked
+pub mod Parts
 pub mod Clearing
 pub mod Plan

@@ -10,9 +10,11 @@ use Rattle.b2_rows.specs.Values.{small_of}
 use Rattle.b2_flow.specs.Stacks.{most_frames}
 use Rattle.b2_flow.specs.declared.frame.Frame.TheVariants.{Call}
 use Rattle.b2_flow.specs.declared.frame.Place.{Place}
-use Rattle.b2_text.specs.Program.{Lines, TextState}
+use Rattle.b2_text.specs.Program.{Lines}
 use Rattle.b2_text.specs.Spots.{first_opening, is_mark, or_else}
 use Rattle.b2_text.specs.declared.spots.Spot.{Spot}
+use Rattle.b2_access.specs.Lending.{SeenLent}
+use Rattle.b2_receiver.specs.Assigning.{is_alpha_receiver}
 use Rattle.b2_receiver.specs.Receivers.{any_receiver}
 use Rattle.b2_expr.specs.Value.{context_of}
 use Rattle.b2_expr.specs.Workspace.{WorkState, WorkLeft, refused, then_works, unchanged, work_in}
@@ -23,8 +25,8 @@ use Rattle.b2_access.specs.declared.planned.Outcome.TheVariants as outcome
 use Rattle.b2_access.specs.declared.private.Private.{Private}
 use Rattle.b2_rows.specs.CommaLists.{all_listed}
 use Rattle.b2_expr.specs.Kinds.{suits}
-use Rattle.b2_access.specs.Planning.{goes_or}
-use Rattle.b2_access.specs.Steering.{Steered, control_of, unsteered}
+use Rattle.b2_access.specs.Planning.{Planning, done, goes_or}
+use Rattle.b2_access.specs.Steering.{Steered, control_of, steered, unsteered}
 use Rattle.b2_access.specs.Working.{work_of}
 
 -- the number that is called
@@ -75,7 +77,7 @@ values_fit ts xs = false
 
 -- a receiver takes a value; it is located among the variables as they then are
 abbrev pub value_to : Result Receiver ℕ → Value → WorkState → WorkLeft
-value_to (Ok to) x w = given_value to x w
+value_to (Ok to) x w = if suits (is_alpha_receiver to) x then given_value to x w else unchanged w
 value_to (Err code) x w = refused code w
 
 abbrev pub takes_value : Trees → Value → WorkState → WorkLeft
@@ -96,6 +98,16 @@ abbrev pub used_up : WorkLeft → Private → Steered
 used_up r me = record { control = record (control_of me) { work = record (work_of me) { vars = r.work.own; args = None } }; outcome = goes_or outcome.Next r.code }
 
 -- DEFFN': where no call waits for it, nothing
-abbrev pub takes_args : Option (List Value) → TextState → Trees → Private → Steered
-takes_args None home t me = unsteered me outcome.Next
-takes_args (Some xs) home t me = used_up (takes_values (parameters_of t) xs (work_in (setting_of me) home me.vars)) me
+abbrev pub args_taken : Option (List Value) → Trees → WorkState → WorkLeft
+args_taken None t w = unchanged w
+args_taken (Some xs) t w = takes_values (parameters_of t) xs w
+
+abbrev pub ends_taken : Option (List Value) → WorkLeft → Private → Steered
+ends_taken None r me = unsteered me outcome.Next
+ends_taken (Some xs) r me = used_up r me
+
+abbrev pub ends_with_args : WorkLeft → Private → SeenLent → Planning
+ends_with_args r me s = done (record s { globals = r.work.globals }) (steered me (ends_taken me.args r me))
+
+abbrev pub takes_args : Trees → Private → SeenLent → WorkLeft
+takes_args t me s = args_taken me.args t (work_in (setting_of me) s.home me.vars s.globals)

@@ -25,7 +25,7 @@ use crate::loops::{Loop, begin_loop, counter_at, loop_at, next_round};
 use crate::marked::{call_mark, number_called};
 use b2_access::{Outcome, Private, failed, failing, place_after, to_found, to_goal, to_line};
 use b2_atom::{Atoms, rows};
-use b2_base::codes::{S26_PROGRAM_ONLY, S27_LEFT_OUT};
+use b2_base::codes::{D87_FILE_NAME, S26_PROGRAM_ONLY, S27_LEFT_OUT};
 use b2_base::{ByteList, NoMemory};
 use b2_dec::{Mode, ValueList};
 use b2_expr::{Workspace, surroundings_of};
@@ -157,6 +157,7 @@ pub fn still(work: &Workspace<'_>, line: &Atoms, place: Place, row: u16, unit: &
         rows::REMARK | rows::IMAGE_LINE | rows::DATA => Outcome::Next,
         rows::DEFFN => passed_function(unit),
         rows::BREAK => Outcome::Break,
+        rows::SELECT_PART => failed(D87_FILE_NAME),
         _ => failed(S27_LEFT_OUT),
     }
 }

@@ -12,7 +12,7 @@ use b2_access::{Outcome, failed, named_at};
 use b2_atom::words::GLOBAL_PART;
 use b2_atom::{Atoms, Cursor};
 use b2_base::Code;
-use b2_base::codes::S27_LEFT_OUT;
+use b2_base::codes::D87_FILE_NAME;
 use b2_base::lexical::rest_after;
 use b2_expr::{Env, condition};
 use b2_rows::{Goal, after_false, is_at, line_at, past_colon, spells_a_line};
@@ -63,14 +63,14 @@ pub fn if_goal(e: &Env<'_>, line: &Atoms, k: usize, unit: &[u8]) -> Result<Goal,
     }
 }
 
-/// DEFFN that is reached in order.
+/// DEFFN that is reached in order and declares no name: D87 where the name that it is to declare isn't one.
 #[tactic(auto, using(crate::proofs::BranchRows::passed_is))]
 pub fn passed_function(unit: &[u8]) -> Outcome
     requires part { is_part row.DEFFN unit.now ≡ true }
     ensures { result ≡ spec.passed_function (tree_at row.DEFFN unit.now) }
 {
     if is_at(GLOBAL_PART, rest_after(unit, 1)) {
-        failed(S27_LEFT_OUT)
+        failed(D87_FILE_NAME)
     } else {
         Outcome::Next
     }

@@ -1,4 +1,4 @@
-// CLEAR and CLEAR P: what they ask of the store, and how they finish.
+// CLEAR, CLEAR P, DEFFN @PART and SELECT @PART: what they ask of the store, and how they finish.
 ghost use Rattle.std.specs.Prelude.{◌≡◌, true, IfOk};
 ghost use Rattle.b2_atom.specs.declared.rows.TheConstants as row;
 ghost use Rattle.b2_rows.specs.Rows.{is_part, tree_at};
@@ -10,11 +10,12 @@ ghost use Rattle.b2_stmt.specs.Clearing as spec;
 ghost use Rattle.b2_stmt.specs.Plan.{finish};
 ghost use Rattle.b2_access.specs.Steering.{steered};
 
+use crate::parts::{ask_to_declare, ask_to_find, declare, declared_by, select_part, selected_by};
 use b2_access::{Access, Answer, Lent, Outcome, Private, drop_frames, failed};
 use b2_atom::rows;
-use b2_base::codes::A08_TEXT_BORROWED;
+use b2_base::codes::{A08_TEXT_BORROWED, X77_NO_PARTITION};
 use b2_base::lexical::rest_after;
-use b2_base::{Addr, ByteList, NoMemory, Slot};
+use b2_base::{Addr, ByteList, Name8, NoMemory, Slot};
 use b2_rows::named_lines;
 use std::alloc::Global;
 
@@ -32,24 +33,26 @@ fn asks_to_erase(unit: &[u8]) -> Access
     }
 }
 
-/// Whether a statement asks for an access.
+/// Whether a statement may ask for an access.
 pub fn asks_access(row: u16) -> bool
     ensures { result ≡ spec.asks_access row }
 {
-    row == rows::CLEAR || row == rows::CLEAR_P
+    row == rows::CLEAR || row == rows::CLEAR_P || row == rows::DEFFN || row == rows::SELECT_PART
 }
 
-/// The access that a statement asks for, where it asks for one.
-pub fn asked_access(row: u16, unit: &[u8]) -> Option<Access>
+/// The access that a statement asks for, where it asks for one, and where a name is declared or none.
+pub fn asked_access(row: u16, unit: &[u8], declared: Option<Name8>) -> Option<Access>
     requires part { is_part row unit.now ≡ true }
-    ensures { result ≡ spec.asked_access row (tree_at row unit.now) }
+    ensures { result ≡ spec.asked_access row (tree_at row unit.now) declared }
 {
     match row {
         rows::CLEAR => Some(Access::ClearAll {
-            name: None,
+            name: declared,
             homes: 0,
         }),
         rows::CLEAR_P => Some(asks_to_erase(unit)),
+        rows::DEFFN => ask_to_declare(declared, declared_by(unit)),
+        rows::SELECT_PART => ask_to_find(selected_by(unit)),
         _ => None,
     }
 }
@@ -71,7 +74,7 @@ fn no_files() -> [Option<Slot>; 16]
 }
 
 /// After all was cleared: the variables go too, no data file is open, and the terminal and the platter with which the partition started
-/// are selected again. The devices that it has taken stay so.
+/// are selected again, no partition is selected, and no name is declared. The devices that it has taken stay so.
 fn clear_all(alloc: Global, me: &mut Private) -> Result<Outcome, NoMemory>
     ensures ended { IfOk result (λ o. record { me = me.new; outcome = o } ≡ steered me.old (spec.clearing_ends AllCleared me.old)) }
     ensures part { me.new.part ≡ me.old.part }
@@ -82,6 +85,8 @@ fn clear_all(alloc: Global, me: &mut Private) -> Result<Outcome, NoMemory>
     me.slots = no_files();
     me.print = Addr::default();
     me.disk = me.boot_disk;
+    me.global = None;
+    me.declared = None;
     me.pending = Some((Addr::default(), ready));
     Ok(outcome)
 }
@@ -106,6 +111,16 @@ fn finish_with(
         Access::Erase { .. } => match answer {
             Answer::Done => Ok(erase_lines(me)),
             Answer::Locked(_) => Ok(failed(A08_TEXT_BORROWED)),
+            _ => unreachable!(),
+        },
+        Access::Declare { name, .. } => match answer {
+            Answer::Done => Ok(declare(me, *name)),
+            Answer::Refused(code) => Ok(Outcome::Failed(*code)),
+            _ => unreachable!(),
+        },
+        Access::FindPart { name } => match answer {
+            Answer::Holder(_) => Ok(select_part(me, *name)),
+            Answer::NoPart => Ok(failed(X77_NO_PARTITION)),
             _ => unreachable!(),
         },
         _ => Ok(Outcome::Repeat),

@@ -20,6 +20,7 @@ mod framing;
 pub mod laws;
 mod loops;
 mod marked;
+mod parts;
 mod planning;
 
 pub use clearing::{asks_access, finish};

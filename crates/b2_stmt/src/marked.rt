@@ -3,13 +3,15 @@ ghost use Rattle.std.specs.Prelude.{◌≡◌, true, IfOk, Some, []};
 ghost use Rattle.b2_atom.specs.declared.rows.TheConstants as row;
 ghost use Rattle.b2_rows.specs.Rows.{is_part, tree_at};
 ghost use Rattle.b2_receiver.specs.Receivers.{IsNamed};
-ghost use Rattle.b2_receiver.specs.Receiving.{given_value};
-ghost use Rattle.b2_expr.specs.Workspace.{workspace};
+ghost use Rattle.b2_expr.specs.Workspace.{SameReferences, workspace};
 ghost use Rattle.b2_stmt.specs.Marked as spec;
 ghost use Rattle.b2_rows.specs.CommaLists.{are_others, past_first, receivers_at};
+ghost use Rattle.b2_access.specs.Found.{seen_found};
+ghost use Rattle.b2_access.specs.Lending.{globals_lent};
 ghost use Rattle.b2_access.specs.Steering.{steered};
+ghost use Rattle.b2_stmt.specs.Marked.{takes_args};
 
-use b2_access::{Outcome, Private, failed, goes_or, setting_of};
+use b2_access::{Found, Lent, Outcome, Planned, Private, failed, goes_or, setting_of};
 use b2_atom::Cursor;
 use b2_base::codes::{P35_ARGUMENTS, P38_NO_DEFFN};
 use b2_base::lexical::{digits_width, rest_after};
@@ -116,15 +118,15 @@ fn values_fit(text: &[u8], args: &[Value]) -> bool
 }
 
 /// Assigns a value to a receiver, where they are of one kind.
-#[tactic(auto, using(b2_receiver::proofs::OneKind::one_kind, crate::proofs::MarkRows::other_kind))]
+#[tactic(auto, using(b2_receiver::proofs::OneKind::one_kind))]
 fn assign_to(
     work: &mut Workspace<'_>,
     to: &Receiver,
     value: &Value,
 ) -> Result<Option<Code>, NoMemory>
     requires named { IsNamed to.now }
-    ensures worked { IfOk result (λ code. record { work = workspace work.new; code = code } ≡ given_value to.now value.now (workspace work.old)) }
-    ensures same_reference { work.new.own.ghost_name ≡ work.old.own.ghost_name }
+    ensures worked { IfOk result (λ code. record { work = workspace work.new; code = code } ≡ spec.value_to (Ok to.now) value.now (workspace work.old)) }
+    ensures same_references { SameReferences work.old work.new }
 {
     if !suits(to.is_alpha(), value) {
         return Ok(None);
@@ -140,7 +142,7 @@ fn take_value(
 ) -> Result<Option<Code>, NoMemory>
     requires part { is_part row.RECEIVER text.now ≡ true }
     ensures worked { IfOk result (λ code. record { work = workspace work.new; code = code } ≡ spec.takes_value (tree_at row.RECEIVER text.now) value.now (workspace work.old)) }
-    ensures same_reference { work.new.own.ghost_name ≡ work.old.own.ghost_name }
+    ensures same_references { SameReferences work.old work.new }
 {
     match any_receiver(&mut Cursor::over(text), &surroundings_of(work)) {
         Ok(to) => assign_to(work, &to, value),
@@ -158,7 +160,7 @@ fn take_each(
     requires part { is_part row.RECEIVER text.now ≡ true }
     requires list { are_others (past_first text.now) ≡ true }
     ensures worked { IfOk result (λ code. record { work = workspace work.new; code = code } ≡ spec.take_each spec.takes_value (receivers_at text.now) args.now (workspace work.old)) }
-    ensures same_reference { work.new.own.ghost_name ≡ work.old.own.ghost_name }
+    ensures same_references { SameReferences work.old work.new }
 {
     let mut left = text;
     let mut values = args;
@@ -184,7 +186,7 @@ fn take_at(work: &mut Workspace<'_>, args: &[Value], text: &[u8]) -> Result<Opti
     requires part { is_part row.RECEIVER text.now ≡ true }
     requires list { are_others (past_first text.now) ≡ true }
     ensures worked { IfOk result (λ code. record { work = workspace work.new; code = code } ≡ spec.takes_values (receivers_at text.now) args.now (workspace work.old)) }
-    ensures same_reference { work.new.own.ghost_name ≡ work.old.own.ghost_name }
+    ensures same_references { SameReferences work.old work.new }
 {
     if values_fit(text, args) {
         take_each(work, args, text)
@@ -214,7 +216,7 @@ fn take_arguments(
 ) -> Result<Option<Code>, NoMemory>
     requires part { is_part row.DEFFN_MARKED unit.now ≡ true }
     ensures worked { IfOk result (λ code. record { work = workspace work.new; code = code } ≡ spec.takes_values (spec.parameters_of (tree_at row.DEFFN_MARKED unit.now)) args.now (workspace work.old)) }
-    ensures same_reference { work.new.own.ghost_name ≡ work.old.own.ghost_name }
+    ensures same_references { SameReferences work.old work.new }
 {
     let number = rest_after(unit, 1);
     let text = rest_after(number, digits_width(number));
@@ -226,9 +228,15 @@ fn take_arguments(
 }
 
 /// DEFFN': it takes what a call passes; where no call waits for it, it does nothing.
-pub fn take_args(me: &mut Private, home: &Text, unit: &[u8]) -> Result<Outcome, NoMemory>
-    requires part { is_part row.DEFFN_MARKED unit.now ≡ true }
-    ensures ended { IfOk result (λ o. record { me = me.new; outcome = o } ≡ steered me.old (spec.takes_args me.old.args home.now (tree_at row.DEFFN_MARKED unit.now) me.old)) }
+pub fn take_args(
+    me: &mut Private,
+    lent: &mut Lent<'_>,
+    found: &Found<'_>,
+) -> Result<Outcome, NoMemory>
+    requires part { is_part row.DEFFN_MARKED found.now.unit.now.bytes.now ≡ true }
+    ensures ended { IfOk result (λ o. record { me = me.new; globals = globals_lent lent.new; planned = Planned.Done o } ≡ spec.ends_with_args (takes_args (tree_at row.DEFFN_MARKED found.now.unit.now.bytes.now) me.old (seen_found found.now (globals_lent lent.old))) me.old (seen_found found.now (globals_lent lent.old))) }
+    ensures same_texts { (lent.new.own ≡ lent.old.own) × (lent.new.home ≡ lent.old.home) }
+    ensures same_reference { lent.new.globals.ghost_name ≡ lent.old.globals.ghost_name }
     ensures part { me.new.part ≡ me.old.part }
 {
     let setting = setting_of(me);
@@ -237,9 +245,13 @@ pub fn take_args(me: &mut Private, home: &Text, unit: &[u8]) -> Result<Outcome, 
     };
     let mut work = Workspace {
         own: &mut me.vars,
+        globals: lent.globals,
+        found: lent.found,
+        reached: lent.reached,
         setting,
-        home,
+        home: found.home,
     };
-    let code = take_arguments(&mut work, args.values(), unit)?;
+    let code = take_arguments(&mut work, args.values(), found.unit.bytes)?;
+    lent.reached = work.reached;
     Ok(goes_or(Outcome::Next, code))
 }

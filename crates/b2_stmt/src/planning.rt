@@ -1,18 +1,14 @@
 // What the statement at a partition's place plans.
-ghost use Rattle.std.specs.Prelude.{◌≡◌, false, IfOk, Option, Some};
+ghost use Rattle.std.specs.Prelude.{◌≡◌, false, IfOk, Some};
 ghost use Rattle.b2_rows.specs.Following.{tree_units};
-ghost use Rattle.b2_vars.specs.Tables.{VarsState};
 ghost use Rattle.b2_access.specs.Courses.{course_at, permitted};
 ghost use Rattle.b2_access.specs.Found.{IsRead, here_found, seen_found, statement_found};
 ghost use Rattle.b2_access.specs.Lending.{globals_lent, seen_lent};
-ghost use Rattle.b2_access.specs.Partition.{setting_of};
 ghost use Rattle.b2_access.specs.Placed.{statement_on as named_on};
-ghost use Rattle.b2_access.specs.Planning.{done};
-ghost use Rattle.b2_expr.specs.Value.{context_of};
-ghost use Rattle.b2_expr.specs.Workspace.{work_in};
-ghost use Rattle.b2_stmt.specs.Asked.{asked_of, carried, is_still};
+ghost use Rattle.b2_stmt.specs.Asked.{asked_of, carried, is_still, still as still_of};
 ghost use Rattle.b2_stmt.specs.Clearing.{asks_access};
 ghost use Rattle.b2_stmt.specs.Plan as spec;
+ghost use Rattle.b2_stmt.specs.Plan.{around};
 ghost use Rattle.b2_access.specs.Steering.{steered};
 
 use crate::asked::{ask, do_asked, still};
@@ -45,6 +41,7 @@ fn is_still(row: u16) -> bool
             | rows::DATA
             | rows::DEFFN
             | rows::BREAK
+            | rows::SELECT_PART
     )
 }
 
@@ -98,14 +95,25 @@ fn is_refused(row: u16, program: bool) -> bool
 }
 
 /// Executes a statement that asks the private state for something.
-fn execute_asked(alloc: Global, me: &mut Private, found: &Found<'_>) -> Result<Outcome, NoMemory>
+fn execute_asked(
+    alloc: Global,
+    me: &mut Private,
+    lent: &mut Lent<'_>,
+    found: &Found<'_>,
+) -> Result<Outcome, NoMemory>
     requires read { IsRead found.now }
-    ensures ended { IfOk result (λ o. record { me = me.new; outcome = o } ≡ steered me.old (carried (asked_of found.now.unit.now.row (statement_found found.now).tree (here_found found.now) (context_of (work_in (setting_of me.old) found.now.home.now me.old.vars)) found.now.home.now.lines) found.now.place me.old found.now.own.now.lines found.now.home.now.lines)) }
+    ensures ended { IfOk result (λ o. record { me = me.new; outcome = o } ≡ steered me.old (carried (asked_of found.now.unit.now.row (statement_found found.now).tree (here_found found.now) (around me.old (seen_found found.now (globals_lent lent.old))) found.now.home.now.lines) found.now.place me.old found.now.own.now.lines found.now.home.now.lines)) }
+    ensures same { globals_lent lent.new ≡ globals_lent lent.old }
+    ensures same_texts { (lent.new.own ≡ lent.old.own) × (lent.new.home ≡ lent.old.home) }
+    ensures same_reference { lent.new.globals.ghost_name ≡ lent.old.globals.ghost_name }
     ensures part { me.new.part ≡ me.old.part }
 {
     let setting = setting_of(me);
     let work = Workspace {
         own: &mut me.vars,
+        globals: lent.globals,
+        found: lent.found,
+        reached: lent.reached,
         setting,
         home: found.home,
     };
@@ -113,55 +121,99 @@ fn execute_asked(alloc: Global, me: &mut Private, found: &Found<'_>) -> Result<O
     do_asked(me, found.own, found.home, found.place, asked)
 }
 
-/// Executes a statement that may stand where it does and asks for no access.
-#[tactic(auto, using(crate::proofs::Executed::taken_there, crate::proofs::Executed::asked_there))]
-fn execute_allowed(alloc: Global, me: &mut Private, found: &Found<'_>) -> Result<Outcome, NoMemory>
+/// How a statement ends that changes nothing.
+fn execute_still(me: &mut Private, lent: &mut Lent<'_>, found: &Found<'_>) -> Outcome
     requires read { IsRead found.now }
-    ensures ended { (globals : Option VarsState) → IfOk result (λ o. record { me = me.new; outcome = o } ≡ steered me.old (spec.ended_of (statement_found found.now) (here_found found.now) me.old (seen_found found.now globals))) }
+    ensures ended { result ≡ still_of found.now.unit.now.row (statement_found found.now).tree (here_found found.now) (around me.old (seen_found found.now (globals_lent lent.old))) found.now.home.now.lines }
+    ensures me { me.new ≡ me.old }
+    ensures same { globals_lent lent.new ≡ globals_lent lent.old }
+    ensures same_texts { (lent.new.own ≡ lent.old.own) × (lent.new.home ≡ lent.old.home) }
+    ensures same_reference { lent.new.globals.ghost_name ≡ lent.old.globals.ghost_name }
+{
+    let setting = setting_of(me);
+    let work = Workspace {
+        own: &mut me.vars,
+        globals: lent.globals,
+        found: lent.found,
+        reached: lent.reached,
+        setting,
+        home: found.home,
+    };
+    still(
+        &work,
+        found.line,
+        found.place,
+        found.unit.row,
+        found.unit.bytes,
+    )
+}
+
+/// Executes a statement that may stand where it does and asks for no access.
+#[tactic(auto, using(crate::proofs::Executed::still_there, crate::proofs::Executed::taken_there, crate::proofs::Executed::asked_there))]
+fn execute_allowed(
+    alloc: Global,
+    me: &mut Private,
+    lent: &mut Lent<'_>,
+    found: &Found<'_>,
+) -> Result<Outcome, NoMemory>
+    requires read { IsRead found.now }
+    ensures ended { IfOk result (λ o. record { me = me.new; globals = globals_lent lent.new; planned = Planned.Done o } ≡ spec.ends_allowed (statement_found found.now) (here_found found.now) me.old (seen_found found.now (globals_lent lent.old))) }
+    ensures same_texts { (lent.new.own ≡ lent.old.own) × (lent.new.home ≡ lent.old.home) }
+    ensures same_reference { lent.new.globals.ghost_name ≡ lent.old.globals.ghost_name }
     ensures part { me.new.part ≡ me.old.part }
 {
     let row = found.unit.row;
-    let bytes = found.unit.bytes;
     if is_still(row) {
-        let setting = setting_of(me);
-        let work = Workspace {
-            own: &mut me.vars,
-            setting,
-            home: found.home,
-        };
-        return Ok(still(&work, found.line, found.place, row, bytes));
+        return Ok(execute_still(me, lent, found));
     }
     if row == rows::DEFFN_MARKED {
-        return take_args(me, found.home, bytes);
+        return take_args(me, lent, found);
     }
-    execute_asked(alloc, me, found)
+    execute_asked(alloc, me, lent, found)
 }
 
 /// Executes a statement that its caller has found, where it asks for no access.
-#[tactic(auto, using(b2_access::proofs::Courses::may_not_stand))]
-pub fn execute(alloc: Global, me: &mut Private, found: &Found<'_>) -> Result<Outcome, NoMemory>
+#[tactic(auto, using(b2_access::proofs::Courses::may_not_stand, crate::proofs::Executed::quiet_there))]
+pub fn execute(
+    alloc: Global,
+    me: &mut Private,
+    lent: &mut Lent<'_>,
+    found: &Found<'_>,
+) -> Result<Outcome, NoMemory>
     requires quiet { asks_access found.now.unit.now.row ≡ false }
     requires read { IsRead found.now }
-    ensures ended { (globals : Option VarsState) → IfOk result (λ o. done (seen_found found.now globals) (record { me = me.new; outcome = o }) ≡ permitted spec.is_refused (spec.stops me.old (seen_found found.now globals)) (spec.does me.old (seen_found found.now globals)) (statement_found found.now) (here_found found.now)) }
+    ensures ended { IfOk result (λ o. record { me = me.new; globals = globals_lent lent.new; planned = Planned.Done o } ≡ permitted spec.is_refused (spec.stops me.old (seen_found found.now (globals_lent lent.old))) (spec.does me.old (seen_found found.now (globals_lent lent.old))) (statement_found found.now) (here_found found.now)) }
+    ensures same_texts { (lent.new.own ≡ lent.old.own) × (lent.new.home ≡ lent.old.home) }
+    ensures same_reference { lent.new.globals.ghost_name ≡ lent.old.globals.ghost_name }
     ensures part { me.new.part ≡ me.old.part }
 {
     if is_refused(found.unit.row, found.place.line.is_some()) {
         return Ok(failed(S26_PROGRAM_ONLY));
     }
-    execute_allowed(alloc, me, found)
+    execute_allowed(alloc, me, lent, found)
 }
 
 /// What a statement plans that was found on a line.
-#[tactic(auto, using(crate::proofs::Executed::access_planned, crate::proofs::Executed::asks_none))]
-fn plan_unit(alloc: Global, me: &mut Private, found: &Found<'_>) -> Result<Planned, NoMemory>
+#[tactic(auto, using(b2_access::proofs::Courses::may_not_stand, crate::proofs::Executed::access_planned, crate::proofs::Executed::none_planned))]
+fn plan_unit(
+    alloc: Global,
+    me: &mut Private,
+    lent: &mut Lent<'_>,
+    found: &Found<'_>,
+) -> Result<Planned, NoMemory>
     requires read { IsRead found.now }
-    ensures planned { (globals : Option VarsState) → IfOk result (λ p. record { me = me.new; globals = globals; planned = p } ≡ permitted spec.is_refused (spec.stops me.old (seen_found found.now globals)) (spec.does me.old (seen_found found.now globals)) (statement_found found.now) (here_found found.now)) }
+    ensures planned { IfOk result (λ p. record { me = me.new; globals = globals_lent lent.new; planned = p } ≡ permitted spec.is_refused (spec.stops me.old (seen_found found.now (globals_lent lent.old))) (spec.does me.old (seen_found found.now (globals_lent lent.old))) (statement_found found.now) (here_found found.now)) }
+    ensures same_texts { (lent.new.own ≡ lent.old.own) × (lent.new.home ≡ lent.old.home) }
+    ensures same_reference { lent.new.globals.ghost_name ≡ lent.old.globals.ghost_name }
     ensures part { me.new.part ≡ me.old.part }
 {
-    if let Some(access) = asked_access(found.unit.row, found.unit.bytes) {
+    if is_refused(found.unit.row, found.place.line.is_some()) {
+        return Ok(Planned::Done(failed(S26_PROGRAM_ONLY)));
+    }
+    if let Some(access) = asked_access(found.unit.row, found.unit.bytes, me.declared) {
         return Ok(Planned::Ask(access));
     }
-    let outcome = execute(alloc, me, found)?;
+    let outcome = execute_allowed(alloc, me, lent, found)?;
     Ok(Planned::Done(outcome))
 }
 
@@ -169,24 +221,25 @@ fn plan_unit(alloc: Global, me: &mut Private, found: &Found<'_>) -> Result<Plann
 fn plan_on(
     alloc: Global,
     me: &mut Private,
-    own: &Text,
-    home: &Text,
+    lent: &mut Lent<'_>,
     line: &Atoms,
     place: Place,
 ) -> Result<Planned, NoMemory>
-    ensures planned { (globals : Option VarsState) → IfOk result (λ p. record { me = me.new; globals = globals; planned = p } ≡ course_at spec.is_refused (spec.stops me.old (record { own = own.now; home = home.now; globals = globals })) (spec.does me.old (record { own = own.now; home = home.now; globals = globals })) (named_on (Some line.now) place.unit) (record { place = place; units = tree_units line.now })) }
+    ensures planned { IfOk result (λ p. record { me = me.new; globals = globals_lent lent.new; planned = p } ≡ course_at spec.is_refused (spec.stops me.old (seen_lent lent.old)) (spec.does me.old (seen_lent lent.old)) (named_on (Some line.now) place.unit) (record { place = place; units = tree_units line.now })) }
+    ensures same_texts { (lent.new.own ≡ lent.old.own) × (lent.new.home ≡ lent.old.home) }
+    ensures same_reference { lent.new.globals.ghost_name ≡ lent.old.globals.ghost_name }
     ensures part { me.new.part ≡ me.old.part }
 {
     match statement_on(line, usize::from(place.unit)) {
         Some(unit) => {
             let found = Found {
-                own,
-                home,
+                own: lent.own,
+                home: lent.home,
                 line,
                 unit: &unit,
                 place,
             };
-            plan_unit(alloc, me, &found)
+            plan_unit(alloc, me, lent, &found)
         }
         None => Ok(Planned::Done(Outcome::Ready)),
     }
@@ -211,7 +264,6 @@ pub fn plan(
 ) -> Result<Planned, NoMemory>
     ensures planned { IfOk result (λ p. record { me = me.new; globals = globals_lent lent.new; planned = p } ≡ spec.plan me.old (seen_lent lent.old)) }
     ensures same_texts { (lent.new.own ≡ lent.old.own) × (lent.new.home ≡ lent.old.home) }
-    ensures same_globals { lent.new.globals.now ≡ lent.old.globals.now }
     ensures same_reference { lent.new.globals.ghost_name ≡ lent.old.globals.ghost_name }
     ensures part { me.new.part ≡ me.old.part }
 {
@@ -220,11 +272,11 @@ pub fn plan(
     };
     match place.line {
         Some(n) => match lent.home.line(n) {
-            Some(line) => plan_on(alloc, me, lent.own, lent.home, line.atoms, place),
+            Some(line) => plan_on(alloc, me, lent, line.atoms, place),
             None => Ok(Planned::Done(Outcome::Ready)),
         },
         None => match copy_of_line(alloc, &me.immediate)? {
-            Some(line) => plan_on(alloc, me, lent.own, lent.home, &line, place),
+            Some(line) => plan_on(alloc, me, lent, &line, place),
             None => Ok(Planned::Done(Outcome::Ready)),
         },
     }

@@ -8,6 +8,7 @@ pub mod Planned
 pub mod HomesKept
 pub mod KeptPlaces
 pub mod Waits
+pub mod Reached
 pub mod HeldLists
 pub mod HeldOnce
 pub mod LeftAlone

@@ -15,7 +15,7 @@ use Rattle.b2_stmt_device.specs.Plan.{ends, finish, plan, works}
 pub plans_before_changes : (devices : List Device) → PlansBeforeChanges (plan devices)
 plans_before_changes devices = form.plans_before_changes (works devices)
 
-still_held : (x : Access) (a : Answer) (held : List (List ℕ)) → delays a ≡ true → held_after x a held ≡ held
+pub still_held : (x : Access) (a : Answer) (held : List (List ℕ)) → delays a ≡ true → held_after x a held ≡ held
 still_held (access.OpenDevices addrs) answer.Done held h = cc
 still_held (access.CloseDevices addrs) answer.Done held h = cc
 still_held x a held h = refl

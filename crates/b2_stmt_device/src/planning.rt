@@ -25,6 +25,7 @@ pub fn is_built(row: u16) -> bool
 }
 
 /// What the statement at the place of a partition plans, over the devices that there are. Where no unit is there it is ready.
+#[tactic(auto, using(crate::proofs::Reached::selected_plans))]
 pub fn plan(
     alloc: Global,
     me: &mut Private,

@@ -1,5 +1,5 @@
 -- What the rows of these statements say at their bytes: LimitsRows, ScratchRows, ListRows and MoveRows. Planned has what holds of each statement as it plans and as it finishes; from there follow the laws of
--- LeftAlone, Listed and Legal, by way of HomesKept, KeptPlaces and Waits.
+-- LeftAlone, Listed and Legal, by way of HomesKept, KeptPlaces, Waits and Reached.
 pub mod LimitsRows
 pub mod ScratchRows
 pub mod ListRows
@@ -8,6 +8,7 @@ pub mod Planned
 pub mod HomesKept
 pub mod KeptPlaces
 pub mod Waits
+pub mod Reached
 pub mod LeftAlone
 pub mod Listed
 pub mod Legal

@@ -126,7 +126,7 @@ module _ (devices : List Device) (me : Private) (s : SeenLent) (F : Planned → 
   unfolding Each
   each_statement u =
       either Each (u.row == row.SELECT_DISK) _ _ (each_selected (selects (drives_of devices me) u.tree))
-      (each_asked F (drives_of devices me) failed asks (context_of (work_in (setting_of me) s.home me.vars)) u.row u.tree)
+      (each_asked F (drives_of devices me) failed asks (context_of (work_in (setting_of me) s.home me.vars s.globals)) u.row u.tree)
 
   pub each_planned : F (planned_of (works devices me s))
   unfolding Each

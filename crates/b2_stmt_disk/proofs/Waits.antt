@@ -29,7 +29,7 @@ after_statement u x a me s h =
     (ap (λ (o : Option (List ℕ)). (listing_ends o me).work) (listing_delayed x a h))
     refl u
 
-after_place : (x : Access) (a : Answer) (me : Private) (s : SeenLent) → delays a ≡ true → (ends x a me s).work ≡ work_of me
+pub after_place : (x : Access) (a : Answer) (me : Private) (s : SeenLent) → delays a ≡ true → (ends x a me s).work ≡ work_of me
 after_place x a me s h =
     let F : Worked → Type 0 = λ w. w.work ≡ work_of me in
     each_course is_refused (repeats me) (finishes x a me s) me s F refl refl (λ p is u. after_statement u x a me s h)

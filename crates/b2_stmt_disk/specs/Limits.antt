@@ -8,7 +8,7 @@ use Rattle.b2_atom.specs.Tree.{Trees}
 use Rattle.b2_atom.specs.Tree.Trees.{Done, Put, In}
 use Rattle.b2_expr.specs.Answers.{Answer, ◌>>=◌}
 use Rattle.b2_expr.specs.Scope.{Context}
-use Rattle.b2_expr.specs.Workspace.{WorkState, WorkLeft, own_of, refused, then_works, unchanged, work_in}
+use Rattle.b2_expr.specs.Workspace.{WorkState, WorkLeft, changed_by, refused, then_works, unchanged, work_in}
 use Rattle.b2_receiver.specs.Receiving.{assign_number_at}
 use Rattle.b2_access.specs.Disks.{FourNumbers}
 use Rattle.b2_access.specs.Lending.{SeenLent}
@@ -79,4 +79,4 @@ gives_limits n t w = refused S20_VARIABLE w
 -- how LIMITS finishes: the numbers that were told are given, or it is asked for again
 abbrev pub limits_end : Option FourNumbers → Trees → Private → SeenLent → Worked
 limits_end None t me s = leaves me outcome.Repeat
-limits_end (Some n) t me s = with_variables (own_of (gives_limits n t (work_in (setting_of me) s.home me.vars))) outcome.Next (work_of me)
+limits_end (Some n) t me s = with_variables (changed_by (gives_limits n t (work_in (setting_of me) s.home me.vars s.globals))) outcome.Next (work_of me)

@@ -45,7 +45,7 @@ asked_of d e r t =
 abbrev pub course_of : List Device → Statement → Private → SeenLent → Working
 course_of devices u me s =
     if u.row == row.SELECT_DISK then Ends (selected (selects (drives_of devices me) u.tree) me)
-    else Plans (asks_or_fails (asked_of (drives_of devices me) (context_of (work_in (setting_of me) s.home me.vars)) u.row u.tree))
+    else Plans (asks_or_fails (asked_of (drives_of devices me) (context_of (work_in (setting_of me) s.home me.vars s.globals)) u.row u.tree))
 
 abbrev pub does : List Device → Private → SeenLent → Statement → Here → Working
 does devices me s u h = course_of devices u me s

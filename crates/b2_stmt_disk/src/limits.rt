@@ -6,7 +6,7 @@ ghost use Rattle.b2_atom.specs.declared.rows.TheConstants as row;
 ghost use Rattle.b2_rows.specs.Rows.{is_part, tree_at};
 ghost use Rattle.b2_expr.specs.Scope.{surroundings};
 ghost use Rattle.b2_expr.specs.Value.{in_statement};
-ghost use Rattle.b2_expr.specs.Workspace.{workspace};
+ghost use Rattle.b2_expr.specs.Workspace.{SameReferences, workspace};
 ghost use Rattle.b2_drive.specs.Drives.{drives_seen};
 ghost use Rattle.b2_stmt_disk.specs.Limits as spec;
 ghost use Rattle.b2_stmt_disk.specs.Receivers.{AreReceivers, is_fourth_after, receivers_at};
@@ -70,7 +70,7 @@ fn give_each(
 ) -> Result<Option<Code>, NoMemory>
     requires stand { AreReceivers (length numbers.now) text.now }
     ensures worked { IfOk result (λ code. record { work = workspace work.new; code = code } ≡ spec.gives_each numbers.now (receivers_at (length numbers.now) text.now) (workspace work.old)) }
-    ensures same_reference { work.new.own.ghost_name ≡ work.old.own.ghost_name }
+    ensures same_references { SameReferences work.old work.new }
 {
     let mut left = text;
     for n in numbers {
@@ -105,7 +105,7 @@ fn is_absent(told: Told) -> bool
 fn give_file(work: &mut Workspace<'_>, told: Told, text: &[u8]) -> Result<Option<Code>, NoMemory>
     requires part { is_part row.FILE_LIMITS text.now ≡ true }
     ensures worked { IfOk result (λ code. record { work = workspace work.new; code = code } ≡ spec.gives_file (spec.numbers_told told) (spec.receivers_in (spec.after_name (tree_at row.FILE_LIMITS text.now))) (workspace work.old)) }
-    ensures same_reference { work.new.own.ghost_name ≡ work.old.own.ghost_name }
+    ensures same_references { SameReferences work.old work.new }
 {
     let receivers = rest_after(past_alpha(text), 1);
     let numbers = [told.first, told.second, told.third, told.fourth];
@@ -122,7 +122,7 @@ fn give_file(work: &mut Workspace<'_>, told: Told, text: &[u8]) -> Result<Option
 fn give_disk(work: &mut Workspace<'_>, told: Told, text: &[u8]) -> Result<Option<Code>, NoMemory>
     requires part { is_part row.DISK_LIMITS text.now ≡ true }
     ensures worked { IfOk result (λ code. record { work = workspace work.new; code = code } ≡ spec.gives_each (spec.numbers_of (spec.numbers_told told)) (spec.receivers_in (tree_at row.DISK_LIMITS text.now)) (workspace work.old)) }
-    ensures same_reference { work.new.own.ghost_name ≡ work.old.own.ghost_name }
+    ensures same_references { SameReferences work.old work.new }
 {
     give_each(work, &[told.first, told.second, told.third], text)
 }
@@ -136,7 +136,7 @@ pub fn give_limits(
 ) -> Result<Option<Code>, NoMemory>
     requires part { is_part row.LIMITS unit.now ≡ true }
     ensures worked { IfOk result (λ code. record { work = workspace work.new; code = code } ≡ spec.gives_limits (spec.numbers_told told) (tree_at row.LIMITS unit.now) (workspace work.old)) }
-    ensures same_reference { work.new.own.ghost_name ≡ work.old.own.ghost_name }
+    ensures same_references { SameReferences work.old work.new }
 {
     let operands = past_drive(rest_after(unit, 1));
     if is_alpha_at(operands) {

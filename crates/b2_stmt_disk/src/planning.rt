@@ -63,6 +63,7 @@ fn ask(d: &Drives<'_>, e: &Env<'_>, unit: &RowUnit<'_>) -> Result<Access, Code>
 }
 
 /// What the statement at the place of a partition plans, over the devices that there are. Where no unit is there it is ready.
+#[tactic(auto, using(crate::proofs::Reached::selected_plans))]
 pub fn plan(
     alloc: Global,
     me: &mut Private,
@@ -71,7 +72,6 @@ pub fn plan(
 ) -> Result<Planned, NoMemory>
     ensures planned { IfOk result (λ p. record { me = me.new; globals = globals_lent lent.new; planned = p } ≡ spec.plan devices.now me.old (seen_lent lent.old)) }
     ensures same_texts { (lent.new.own ≡ lent.old.own) × (lent.new.home ≡ lent.old.home) }
-    ensures same_globals { lent.new.globals.now ≡ lent.old.globals.now }
     ensures same_reference { lent.new.globals.ghost_name ≡ lent.old.globals.ghost_name }
     ensures part { me.new.part ≡ me.old.part }
 {
@@ -97,6 +97,9 @@ pub fn plan(
     }
     let work = Workspace {
         own: &mut me.vars,
+        globals: lent.globals,
+        found: lent.found,
+        reached: lent.reached,
         setting,
         home: lent.home,
     };
@@ -106,6 +109,7 @@ pub fn plan(
 
 /// How the statement at the place of a partition finishes, by the access that it asked for and its answer, which is one that the
 /// access can have.
+#[tactic(auto, using(crate::proofs::Reached::listing_finishes))]
 pub fn finish(
     alloc: Global,
     me: &mut Private,
@@ -115,7 +119,6 @@ pub fn finish(
 ) -> Result<Outcome, NoMemory>
     requires possible { can_answer access.now answer.now ≡ true }
     ensures finished { IfOk result (λ o. record { me = me.new; globals = globals_lent lent.new; outcome = o } ≡ spec.finish access.now answer.now me.old (seen_lent lent.old)) }
-    ensures same_globals { lent.new.globals.now ≡ lent.old.globals.now }
     ensures same_reference { lent.new.globals.ghost_name ≡ lent.old.globals.ghost_name }
     ensures part { me.new.part ≡ me.old.part }
 {
@@ -123,7 +126,8 @@ pub fn finish(
         return Ok(Outcome::Repeat);
     };
     let setting = setting_of(me);
-    let Some(unit) = statement_placed(place, &me.immediate, lent.home) else {
+    let home = lent.home;
+    let Some(unit) = statement_placed(place, &me.immediate, home) else {
         return Ok(Outcome::Repeat);
     };
     if is_refused(unit.row, place.line.is_some()) {
@@ -136,10 +140,14 @@ pub fn finish(
             };
             let mut work = Workspace {
                 own: &mut me.vars,
+                globals: lent.globals,
+                found: lent.found,
+                reached: lent.reached,
                 setting,
-                home: lent.home,
+                home,
             };
             let code = give_limits(&mut work, told, unit.bytes)?;
+            lent.reached = work.reached;
             Ok(goes_or(Outcome::Next, code))
         }
         rows::SCRATCH | rows::SCRATCH_DISK | rows::MOVE => Ok(after_change(access, answer)),

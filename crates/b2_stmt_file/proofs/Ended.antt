@@ -2,6 +2,7 @@
 use Rattle.std.proofs.Common.{◌≡◌, ◌∙◌, ◌==◌, Bool, true, false, if◌then◌else◌, List, Option, Some, None, Result, Ok, Err, IfOk, refl, sym, ap}
 use Rattle.b2_flow.specs.declared.frame.Place.{Place}
 use Rattle.b2_atom.specs.declared.rows.TheConstants as row
+use Rattle.b2_vars.specs.Globals.{Globals}
 use Rattle.b2_access.specs.Courses.{course, course_at, here}
 use Rattle.b2_access.specs.Lending.{SeenLent}
 use Rattle.b2_access.specs.Placed.{Statement, statement_placed}
@@ -54,11 +55,12 @@ asked_planned : (devices : List Device) (me : Private) (s : SeenLent) (x : Optio
 asked_planned devices me s None = refl
 asked_planned devices me s (Some u) = refl
 
-pub planned_as : {E : Type 0} (devices : List Device) (me new : Private) (s : SeenLent) (x : Option Statement) (r : Result Planned E) → new ≡ me → IfOk r (λ q. q ≡ planned_of (asking devices me s x)) → works devices me s ≡ asking devices me s x
-    → IfOk r (λ q. ◌≡◌ {A = Planning} (record { me = new; globals = s.globals; planned = q }) (plan devices me s))
-planned_as devices me new s x (Ok q) same is there =
-    ap (λ (m : Private). record { me = m; globals = s.globals; planned = q }) same
+pub planned_as : {E : Type 0} (devices : List Device) (me new : Private) (s : SeenLent) (g : Globals) (x : Option Statement) (r : Result Planned E) → new ≡ me → g ≡ s.globals → IfOk r (λ q. q ≡ planned_of (asking devices me s x)) → works devices me s ≡ asking devices me s x
+    → IfOk r (λ q. ◌≡◌ {A = Planning} (record { me = new; globals = g; planned = q }) (plan devices me s))
+planned_as devices me new s g x (Ok q) same lent is there =
+    ap (λ (m : Private). record { me = m; globals = g; planned = q }) same
+    ∙ ap (λ (v : Globals). record { me = me; globals = v; planned = q }) lent
     ∙ ap (λ (y : Planned). record { me = me; globals = s.globals; planned = y }) is
     ∙ asked_planned devices me s x
     ∙ ap (as_planned me s) (sym there)
-planned_as devices me new s x (Err e) same is there = is
+planned_as devices me new s g x (Err e) same lent is there = is

@@ -18,9 +18,13 @@ use Rattle.b2_rows.specs.Optional.{after_maybe, maybe_part}
 use Rattle.b2_rows.specs.Rows.{is_part, tree_at, after_part, is_list}
 use Rattle.b2_expr.specs.Answers.{◌>>=◌}
 use Rattle.b2_rows.proofs.RowsRead.{stands_of}
+use Rattle.b2_dec.specs.declared.values.Value.{Value}
 use Rattle.b2_expr.specs.Scope.{Context}
+use Rattle.b2_expr.specs.Workspace.{work_in}
 use Rattle.b2_access.specs.Lending.{SeenLent}
+use Rattle.b2_access.specs.Partition.{setting_of}
 use Rattle.b2_access.specs.Views.{loading_came, opening_came}
+use Rattle.b2_access.specs.Working.{lent_after}
 use Rattle.b2_access.specs.declared.accesses.Access.{Access}
 use Rattle.b2_access.specs.declared.accesses.Access.TheVariants as access
 use Rattle.b2_access.specs.declared.private.Private.{Private}
@@ -28,8 +32,10 @@ use Rattle.b2_access.specs.declared.accesses.Answer.{Answer}
 use Rattle.b2_drive.specs.Drives.{DrivesSeen}
 use Rattle.b2_stmt_file.specs.Coming.{by_loading, by_opening, file_ends, values_in}
 use Rattle.b2_stmt_file.specs.LoadedValues.{all_kinds, items_at}
-use Rattle.b2_stmt_file.specs.Loading.{asks_to_load, items_loaded, load_ends, loading_ends, loads_in, operands_text, slot_loaded}
+use Rattle.b2_stmt_file.specs.Loading.{asks_to_load, items_loaded, load_ends, loading_ends, loads_in, operands_text, slot_loaded, takes_by}
 use Rattle.b2_stmt_file.specs.Opening.{asks_for_old, slot_opened}
+use Rattle.b2_stmt_file.specs.declared.coming.Came.{Came}
+use Rattle.b2_stmt_file.specs.declared.coming.Came.TheVariants as came
 use Rattle.b2_stmt_file.specs.Slots.{file_used, number_sign, slot_in, slot_tree}
 use Rattle.b2_stmt_file.proofs.OpenRows.{taken}
 use Rattle.b2_stmt_file.proofs.SaveRows.{open_starts}
@@ -72,6 +78,14 @@ ends_of_old x a t me s ok is = ap (λ (u : Trees). loading_ends x a u me s) (loa
 pub ends_of_values : (x : Access) (a : Answer) (t : Text) (me : Private) (s : SeenLent) → is_part row.DATALOAD t ≡ true → (first (operands_text t) == word.OPEN) ≡ false
     → loading_ends x a (tree_at row.DATALOAD t) me s ≡ load_ends (by_loading (loading_came x a)) (values_in (loading_came x a)) (tree_at row.LOADED_VALUES (operands_text t)) me s
 ends_of_values x a t me s ok is = ap (λ (u : Trees). loading_ends x a u me s) (load_tree t false ok is)
+
+-- what it leaves of what is lent
+pub loaded_lent : (c : Came) (values : List Value) (operands : Trees) (me : Private) (s : SeenLent)
+    → lent_after (load_ends c values operands me s).work.work s ≡ record s { globals = (takes_by c values (items_loaded operands) (work_in (setting_of me) s.home me.vars s.globals)).work.globals }
+loaded_lent (came.File file) values operands me s = refl
+loaded_lent (came.Refused code) values operands me s = refl
+loaded_lent came.Ended values operands me s = refl
+loaded_lent came.Later values operands me s = refl
 
 -- the slot and the receivers
 abbrev after_items : List Item

@@ -22,16 +22,18 @@ use Rattle.b2_rows.specs.Rows.{is_part, tree_at, after_part, is_list}
 use Rattle.b2_rows.proofs.Choices.{either_first, either_second}
 use Rattle.b2_rows.proofs.CommaLists.{IsComma, Other, item_shorter, items_of_other, no_items_left, other}
 use Rattle.b2_vars.specs.declared.shape.Shape.{Shape}
+use Rattle.b2_vars.specs.Shapes.{cells}
+use Rattle.b2_vars.specs.Tables.{VarsState, shape_at}
 use Rattle.b2_expr.specs.Answers.{◌>>=◌}
 use Rattle.b2_expr.specs.Scope.{Context, Surroundings}
 use Rattle.b2_expr.specs.Value.{context_of}
-use Rattle.b2_expr.specs.Workspace.{WorkState}
+use Rattle.b2_expr.specs.Workspace.{WorkState, surroundings_of}
 use Rattle.b2_receiver.specs.Receivers.{any_receiver, whole_array}
 use Rattle.b2_receiver.specs.declared.receiver.Array.{Array}
 use Rattle.b2_stmt_file.specs.declared.loaded_values.Item.{Item}
 use Rattle.b2_stmt_file.specs.declared.loaded_values.Item.TheVariants as item
-use Rattle.b2_stmt_file.specs.Elements.{receiver_of}
-use Rattle.b2_stmt_file.specs.LoadedValues.{Taken, all_kinds, array_kinds, each_takes, elements_take, item_kinds, item_located, item_takes, items_at, one_kind, other_items, receiver_kind, takes_at, takes_next, takes_to, then_takes, unless_ended}
+use Rattle.b2_stmt_file.specs.Elements.{array_variables, receiver_of}
+use Rattle.b2_stmt_file.specs.LoadedValues.{Taken, all_kinds, array_kinds, array_takes, each_takes, elements_take, item_kinds, item_located, item_takes, items_at, none_taken, one_kind, other_items, receiver_kind, takes_at, shaped_takes, takes_next, takes_to, then_takes, unless_ended}
 use Rattle.b2_stmt_file.specs.SavedValues.{values_before}
 use Rattle.b2_stmt_file.proofs.SavedRows.{put_then, refused_then}
 
@@ -161,6 +163,17 @@ element_coded a s values k (suc n) old new from to code c some is coded = taken_
 
 pub no_element : (a : Array) (s : Shape) (values : List Value) (k left : ℕ) (w : WorkState) (i : ℕ) → nat_lt 0 left ≡ false → elements_take a s values k left w i ≡ record { work = w; next = i; code = None }
 no_element a s values k left w i none = subst (λ (m : ℕ). elements_take a s values k m w i ≡ record { work = w; next = i; code = None }) (none_left left none) refl
+
+-- an array, by the variables where it is
+by_shape : (s : Surroundings) (a : Array) (values : List Value) (w : WorkState) (i : ℕ) (r : Result VarsState ℕ) → s ≡ surroundings_of w → array_variables s a ≡ r → array_takes a values w i ≡ shaped_takes r a values w i
+by_shape s a values w i r same is = ap (λ (e : Surroundings). shaped_takes (array_variables e a) a values w i) (sym same) ∙ ap (λ (x : Result VarsState ℕ). shaped_takes x a values w i) is
+
+pub elements_found : (s : Surroundings) (a : Array) (values : List Value) (w : WorkState) (i : ℕ) (vars : VarsState) → s ≡ surroundings_of w → array_variables s a ≡ Ok vars
+    → elements_take a (shape_at a.var vars.table) values 0 (cells (shape_at a.var vars.table)) w i ≡ array_takes a values w i
+elements_found s a values w i vars same is = sym (by_shape s a values w i (Ok vars) same is)
+
+pub elements_missing : (s : Surroundings) (a : Array) (values : List Value) (w : WorkState) (i : ℕ) (code : ℕ) → s ≡ surroundings_of w → array_variables s a ≡ Err code → array_takes a values w i ≡ none_taken code w i
+elements_missing s a values w i code same is = by_shape s a values w i (Err code) same is
 
 -- items
 pub item_took : (values : List Value) (t : Text) (it : Item) (old new : WorkState) (from to : ℕ) (code : Option ℕ) → item_located (context_of old) (tree_at row.LOADED t) ≡ Ok it

@@ -218,7 +218,7 @@ module _ (devices : List Device) (me : Private) (s : SeenLent) (F : Planned → 
   unfolding Each
   each_statement p is u =
       either Each (u.row == row.IF_END) _ _ (leads p (end_goal me.at_end p.unit (here p me s).units u.tree) is)
-      (each_asked F (drives_of devices me) failed asks me.slots (context_of (work_in (setting_of me) s.home me.vars)) u.row u.tree)
+      (each_asked F (drives_of devices me) failed asks me.slots (context_of (work_in (setting_of me) s.home me.vars s.globals)) u.row u.tree)
 
   pub each_planned : F (planned_of (works devices me s))
   unfolding Each

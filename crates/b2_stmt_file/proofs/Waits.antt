@@ -69,7 +69,7 @@ after_statement u x a me s h =
     each_ended (λ w. w.work ≡ file_work_of me) x a me s (λ t. later_leaves (save.slot_of t) (save.came_of x a t) me (save_later x a t h)) (λ t. load_leaves x a t me s h)
     (λ t. later_leaves _ (by_place (place_came x a)) me (place_later x a h)) refl u
 
-after_place : (x : Access) (a : Answer) (me : Private) (s : SeenLent) → delays a ≡ true → (ends x a me s).work ≡ file_work_of me
+pub after_place : (x : Access) (a : Answer) (me : Private) (s : SeenLent) → delays a ≡ true → (ends x a me s).work ≡ file_work_of me
 after_place x a me s h =
     let F : FileWorked → Type 0 = λ w. w.work ≡ file_work_of me in
     each_course is_refused (repeats me) (finishes x a me s) me s F refl refl (λ p is u. after_statement u x a me s h)

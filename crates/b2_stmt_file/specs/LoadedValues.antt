@@ -19,7 +19,7 @@ use Rattle.b2_expr.specs.Answers.{◌>>=◌}
 use Rattle.b2_expr.specs.Kinds.{suits}
 use Rattle.b2_expr.specs.Scope.{Context, Surroundings}
 use Rattle.b2_expr.specs.Value.{context_of}
-use Rattle.b2_expr.specs.Workspace.{WorkLeft, WorkState}
+use Rattle.b2_expr.specs.Workspace.{WorkLeft, WorkState, surroundings_of}
 use Rattle.b2_receiver.specs.Assigning.{is_alpha_receiver}
 use Rattle.b2_receiver.specs.Receivers.{IsArray, IsNamed, any_receiver, whole_array}
 use Rattle.b2_receiver.specs.Receiving.{given_value}
@@ -95,8 +95,13 @@ abbrev pub item_located : Context → Trees → Result Item ℕ
 item_located e (In n t end) = if n == 1 then (whole_array e.around t >>= (λ a. Ok (item.Whole a))) else (any_receiver e t >>= (λ to. Ok (item.One to)))
 item_located e t = Err S20_VARIABLE
 
+-- the elements of an array take the next values, by its shape among the variables where it is
+abbrev pub shaped_takes : Result VarsState ℕ → Array → List Value → WorkState → ℕ → Taken
+shaped_takes (Ok vars) a values w i = elements_take a (shape_at a.var vars.table) values 0 (cells (shape_at a.var vars.table)) w i
+shaped_takes (Err code) a values w i = none_taken code w i
+
 abbrev pub array_takes : Array → List Value → WorkState → ℕ → Taken
-array_takes a values w i = elements_take a (shape_at a.var w.own.table) values 0 (cells (shape_at a.var w.own.table)) w i
+array_takes a values w i = shaped_takes (array_variables (surroundings_of w) a) a values w i
 
 abbrev pub takes_at : Item → List Value → WorkState → ℕ → Taken
 takes_at (item.Whole a) values w i = array_takes a values w i

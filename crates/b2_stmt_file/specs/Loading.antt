@@ -1,5 +1,5 @@
 -- DATALOAD DC: a data file is opened, or values are loaded from the place in an open one.
-use Rattle.std.specs.Prelude.{ℕ, ◌==◌, List, drop, Option, Result, Ok, Err, if◌then◌else◌}
+use Rattle.std.specs.Prelude.{ℕ, ◌==◌, List, drop, Option, Some, None, Result, Ok, Err, if◌then◌else◌}
 use Rattle.b2_base.specs.declared.codes.TheConstants.{S20_VARIABLE}
 use Rattle.b2_base.specs.declared.files.Slot.{Slot}
 use Rattle.b2_dec.specs.declared.values.Value.{Value}
@@ -7,6 +7,7 @@ use Rattle.b2_atom.specs.Tree.{Trees}
 use Rattle.b2_atom.specs.Tree.Trees.{Done, Put, In}
 use Rattle.b2_atom.specs.Words.{Text}
 use Rattle.b2_rows.specs.CommaLists.{all_listed}
+use Rattle.b2_vars.specs.Globals.{Globals}
 use Rattle.b2_expr.specs.Answers.{◌>>=◌}
 use Rattle.b2_expr.specs.Scope.{Context}
 use Rattle.b2_expr.specs.Workspace.{WorkLeft, WorkState, unchanged, work_in}
@@ -54,16 +55,21 @@ abbrev pub takes_by : Came → List Value → List Trees → WorkState → WorkL
 takes_by (came.File s) values ts w = all_take values ts w
 takes_by c values ts w = unchanged w
 
+-- of the `@` variables it tells something where a receiver may have been reached
+abbrev pub globals_told : Came → Globals → Option Globals
+globals_told (came.File s) g = Some g
+globals_told c g = None
+
 -- How it finishes: the place in the file moves, and the flag of IF END changes, before a receiver takes a value; and both stay so
 -- where one then fails.
 abbrev pub loaded : ℕ → Came → WorkLeft → Private → FileWorked
 loaded n c r me = record {
-  work = record { work = record (work_of me) { vars = r.work.own; at_end = end_after c me.at_end }; slots = slots_after n c me.slots };
+  work = record { work = record (work_of me) { vars = r.work.own; at_end = end_after c me.at_end; globals = globals_told c r.work.globals }; slots = slots_after n c me.slots };
   outcome = goes_or (outcome_of c) r.code;
 }
 
 abbrev pub load_ends : Came → List Value → Trees → Private → SeenLent → FileWorked
-load_ends c values operands me s = loaded (slot_loaded operands) c (takes_by c values (items_loaded operands) (work_in (setting_of me) s.home me.vars)) me
+load_ends c values operands me s = loaded (slot_loaded operands) c (takes_by c values (items_loaded operands) (work_in (setting_of me) s.home me.vars s.globals)) me
 
 abbrev pub loading_ends : Access → Answer → Trees → Private → SeenLent → FileWorked
 loading_ends x a (Put word (Put dc (In k operands end))) me s =

@@ -44,7 +44,7 @@ asked_of d slots e r t =
 
 -- what a statement asks for at a place, where one stands there
 abbrev pub asks_for : List Device → Statement → Private → SeenLent → Working
-asks_for devices u me s = Plans (asks_or_fails (asked_of (drives_of devices me) me.slots (context_of (work_in (setting_of me) s.home me.vars)) u.row u.tree))
+asks_for devices u me s = Plans (asks_or_fails (asked_of (drives_of devices me) me.slots (context_of (work_in (setting_of me) s.home me.vars s.globals)) u.row u.tree))
 
 abbrev pub asking : List Device → Private → SeenLent → Option Statement → Working
 asking devices me s None = stops outcome.Ready

@@ -6,7 +6,7 @@ ghost use Rattle.b2_rows.specs.Rows.{after_part, is_list, is_part, tree_at};
 ghost use Rattle.b2_vars.specs.Shapes.{cells};
 ghost use Rattle.b2_expr.specs.Scope.{surroundings};
 ghost use Rattle.b2_expr.specs.Value.{in_statement};
-ghost use Rattle.b2_expr.specs.Workspace.{workspace};
+ghost use Rattle.b2_expr.specs.Workspace.{SameReferences, workspace};
 ghost use Rattle.b2_receiver.specs.Receivers.{IsArray, IsNamed};
 ghost use Rattle.b2_stmt_file.specs.LoadedValues as spec;
 ghost use Rattle.b2_stmt_file.specs.LoadedValues.{IsItem};
@@ -145,7 +145,7 @@ fn take_next(
 ) -> Result<Option<Code>, NoMemory>
     requires named { IsNamed to.now }
     ensures worked { IfOk result (λ code. record { work = workspace work.new; next = next.new; code = code } ≡ spec.takes_next to.now values.now (workspace work.old) next.old) }
-    ensures same_reference { work.new.own.ghost_name ≡ work.old.own.ghost_name }
+    ensures same_references { SameReferences work.old work.new }
 {
     let Some(value) = values.get(*next) else {
         return Ok(Some(Code::known(X70_TOO_LITTLE)));
@@ -170,14 +170,14 @@ fn take_element(
     requires named { IsArray array.now.var }
     requires within { k < cells shape }
     ensures worked { IfOk result (λ code. record { work = workspace work.new; next = next.new; code = code } ≡ spec.element_takes array.now shape k values.now (workspace work.old) next.old) }
-    ensures same_reference { work.new.own.ghost_name ≡ work.old.own.ghost_name }
+    ensures same_references { SameReferences work.old work.new }
 {
     let to = receiver_of(array, shape, k);
     take_next(work, &to, values, next)
 }
 
 /// Gives the next values to the elements of an array, along rows. The code with which that ended, or none.
-#[tactic(auto, using(crate::proofs::LoadedRows::element_took, crate::proofs::LoadedRows::element_coded, crate::proofs::LoadedRows::no_element))]
+#[tactic(auto, using(crate::proofs::LoadedRows::elements_found, crate::proofs::LoadedRows::elements_missing, crate::proofs::LoadedRows::element_took, crate::proofs::LoadedRows::element_coded, crate::proofs::LoadedRows::no_element))]
 fn take_elements(
     work: &mut Workspace<'_>,
     array: &Array,
@@ -186,9 +186,12 @@ fn take_elements(
 ) -> Result<Option<Code>, NoMemory>
     requires named { IsArray array.now.var }
     ensures worked { IfOk result (λ code. record { work = workspace work.new; next = next.new; code = code } ≡ spec.array_takes array.now values.now (workspace work.old) next.old) }
-    ensures same_reference { work.new.own.ghost_name ≡ work.old.own.ghost_name }
+    ensures same_references { SameReferences work.old work.new }
 {
-    let shape = shape_of(work.own, array.var);
+    let shape = match array_variables(&surroundings_of(work), array) {
+        Ok(vars) => shape_of(vars, array.var),
+        Err(code) => return Ok(Some(code)),
+    };
     let mut left = count_of(shape);
     let mut k = 0usize;
     while left > 0 {
@@ -231,7 +234,7 @@ fn take_at(
 ) -> Result<Option<Code>, NoMemory>
     requires named { IsItem item.now }
     ensures worked { IfOk result (λ code. record { work = workspace work.new; next = next.new; code = code } ≡ spec.takes_at item.now values.now (workspace work.old) next.old) }
-    ensures same_reference { work.new.own.ghost_name ≡ work.old.own.ghost_name }
+    ensures same_references { SameReferences work.old work.new }
 {
     match item {
         Item::Whole(array) => take_elements(work, array, values, next),
@@ -249,7 +252,7 @@ pub fn take_values(
     requires part { is_part row.LOADED text.now ≡ true }
     requires list { is_list commas row.COMMA_LOADED (after_part row.LOADED text.now) ≡ true }
     ensures worked { IfOk result (λ code. record { work = workspace work.new; code = code } ≡ spec.all_take values.now (spec.items_at text.now) (workspace work.old)) }
-    ensures same_reference { work.new.own.ghost_name ≡ work.old.own.ghost_name }
+    ensures same_references { SameReferences work.old work.new }
 {
     let mut next = 0usize;
     let mut left = text;

@@ -1,5 +1,5 @@
 // What the statement at a partition's place plans, and how it finishes.
-ghost use Rattle.std.specs.Prelude.{◌≡◌, ◌≤◌, true, Option, IfOk};
+ghost use Rattle.std.specs.Prelude.{◌≡◌, ◌≤◌, true, IfOk};
 ghost use Rattle.b2_access.specs.Answering.{can_answer};
 ghost use Rattle.b2_access.specs.Lending.{globals_lent, seen_lent};
 ghost use Rattle.b2_rows.specs.Laws.{IsRow};
@@ -7,8 +7,6 @@ ghost use Rattle.b2_rows.specs.Rows.{tree_at};
 ghost use Rattle.b2_access.specs.Courses.{units_on};
 ghost use Rattle.b2_access.specs.Placed.{line_named, statement_placed};
 ghost use Rattle.b2_access.specs.Working.{planned_of};
-ghost use Rattle.b2_text.specs.Program.{TextState};
-ghost use Rattle.b2_vars.specs.Tables.{VarsState};
 ghost use Rattle.b2_expr.specs.Scope.{surroundings};
 ghost use Rattle.b2_expr.specs.Value.{in_statement};
 ghost use Rattle.b2_drive.specs.Drives.{drives_seen};
@@ -95,22 +93,28 @@ fn ended_there<'a>(
 fn plan_access(
     alloc: Global,
     me: &mut Private,
-    home: &Text,
+    lent: &mut Lent<'_>,
     devices: &DeviceTable,
     place: &Place,
 ) -> Result<Planned, NoMemory>
-    ensures planned { (own : TextState) (globals : Option VarsState) → IfOk result (λ p. p ≡ planned_of (spec.asking devices.now me.old (record { own = own; home = home.now; globals = globals }) (statement_placed place.now me.old.immediate home.now.lines))) }
+    ensures planned { IfOk result (λ p. p ≡ planned_of (spec.asking devices.now me.old (seen_lent lent.old) (statement_placed place.now me.old.immediate lent.old.home.now.lines))) }
     ensures same { me.new ≡ me.old }
+    ensures same_texts { (lent.new.own ≡ lent.old.own) × (lent.new.home ≡ lent.old.home) }
+    ensures same_globals { globals_lent lent.new ≡ globals_lent lent.old }
+    ensures same_reference { lent.new.globals.ghost_name ≡ lent.old.globals.ghost_name }
 {
     let d = drives_for(devices, me);
     let setting = setting_of(me);
-    let Some(unit) = statement_placed(*place, &me.immediate, home) else {
+    let Some(unit) = statement_placed(*place, &me.immediate, lent.home) else {
         return Ok(Planned::Done(Outcome::Ready));
     };
     let work = Workspace {
         own: &mut me.vars,
+        globals: lent.globals,
+        found: lent.found,
+        reached: lent.reached,
         setting,
-        home,
+        home: lent.home,
     };
     let e = surroundings_of(&work);
     match ask(alloc, &d, &me.slots, &e, unit.row, unit.bytes) {
@@ -129,7 +133,6 @@ pub fn plan(
 ) -> Result<Planned, NoMemory>
     ensures planned { IfOk result (λ p. record { me = me.new; globals = globals_lent lent.new; planned = p } ≡ spec.plan devices.now me.old (seen_lent lent.old)) }
     ensures same_texts { (lent.new.own ≡ lent.old.own) × (lent.new.home ≡ lent.old.home) }
-    ensures same_globals { lent.new.globals.now ≡ lent.old.globals.now }
     ensures same_reference { lent.new.globals.ghost_name ≡ lent.old.globals.ghost_name }
     ensures part { me.new.part ≡ me.old.part }
 {
@@ -139,12 +142,12 @@ pub fn plan(
     if let Some(outcome) = ended_there(&me.immediate, lent.home, &place, me.at_end) {
         return Ok(Planned::Done(outcome));
     }
-    plan_access(alloc, me, lent.home, devices, &place)
+    plan_access(alloc, me, lent, devices, &place)
 }
 
 /// How the statement at the place of a partition finishes, by the access that it asked for and its answer, which is one that the
 /// access can have.
-#[tactic(auto, using(crate::proofs::LoadRows::old_here, crate::proofs::LoadRows::loaded_here, crate::proofs::LoadRows::ends_of_old, crate::proofs::LoadRows::ends_of_values))]
+#[tactic(auto, using(crate::proofs::LoadRows::old_here, crate::proofs::LoadRows::loaded_here, crate::proofs::LoadRows::ends_of_old, crate::proofs::LoadRows::ends_of_values, crate::proofs::LoadRows::loaded_lent))]
 pub fn finish(
     alloc: Global,
     me: &mut Private,
@@ -154,7 +157,6 @@ pub fn finish(
 ) -> Result<Outcome, NoMemory>
     requires possible { can_answer access.now answer.now ≡ true }
     ensures finished { IfOk result (λ o. record { me = me.new; globals = globals_lent lent.new; outcome = o } ≡ spec.finish access.now answer.now me.old (seen_lent lent.old)) }
-    ensures same_globals { lent.new.globals.now ≡ lent.old.globals.now }
     ensures same_reference { lent.new.globals.ghost_name ≡ lent.old.globals.ghost_name }
     ensures part { me.new.part ≡ me.old.part }
 {
@@ -162,7 +164,8 @@ pub fn finish(
         return Ok(Outcome::Repeat);
     };
     let setting = setting_of(me);
-    let Some(unit) = statement_placed(place, &me.immediate, lent.home) else {
+    let home = lent.home;
+    let Some(unit) = statement_placed(place, &me.immediate, home) else {
         return Ok(Outcome::Repeat);
     };
     match unit.row {
@@ -183,10 +186,14 @@ pub fn finish(
             me.at_end = end_after(&came, me.at_end);
             let mut work = Workspace {
                 own: &mut me.vars,
+                globals: lent.globals,
+                found: lent.found,
+                reached: lent.reached,
                 setting,
-                home: lent.home,
+                home,
             };
             let code = take_loaded(&mut work, &came, values_loaded(access, answer), text)?;
+            lent.reached = work.reached;
             Ok(goes_or(outcome_of(&came), code))
         }
         rows::DSKIP => {

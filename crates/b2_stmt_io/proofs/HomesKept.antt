@@ -3,9 +3,9 @@ use Rattle.std.proofs.Common.{◌≡◌, ℕ, ◌==◌, refl, subst, Bool, true,
 use Rattle.b2_atom.specs.Tree.{Trees}
 use Rattle.b2_atom.specs.Tree.Trees.{Done, Put, In}
 use Rattle.b2_flow.specs.declared.frame.Place.{Place}
-use Rattle.b2_text.specs.Program.{Lines, TextState, line_at}
+use Rattle.b2_text.specs.Program.{Lines, line_at}
 use Rattle.b2_vars.specs.Tables.{VarsState}
-use Rattle.b2_vars.specs.Assigned.{Assigned}
+use Rattle.b2_vars.specs.Assigned.{Changed}
 use Rattle.b2_access.specs.Going.{where_there}
 use Rattle.b2_access.specs.Homes.{FinishesWithin, OutcomeIn, PlaceIn, PlannedIn, PlansWithin}
 use Rattle.b2_access.specs.Lending.{SeenLent}
@@ -28,7 +28,7 @@ use Rattle.b2_access.proofs.Homes.{marks_none}
 use Rattle.b2_access.proofs.OwnTerminal.{at_terminal_marks_none}
 use Rattle.b2_access.proofs.Shown.{shown_or_printed_leads}
 use Rattle.b2_access.proofs.Working as form
-use Rattle.b2_stmt_io.specs.Keys.{first_named, key_goes, key_leads, key_taken_by, lines_of, other_named, waits}
+use Rattle.b2_stmt_io.specs.Keys.{first_named, key_byte, key_goes, key_leads, key_taken_by, lines_of, other_named, waits, with_key}
 use Rattle.b2_stmt_io.specs.LineReading.{line_answered_by, types}
 use Rattle.b2_stmt_io.specs.Plan.{ended_of, ends, finish, finishes, is_refused, plan, repeats, works}
 use Rattle.b2_stmt_io.proofs.Planned.{each_ended, each_planned}
@@ -64,9 +64,13 @@ module _ (among : ℕ → Bool) where
   goes_in NoKey lines p t k = waits_in (lines_of t)
   goes_in KeyLater lines p t k = tt
 
-  keyed_in : (k : KeyCame) (home : TextState) (p : Place) (t : Trees) (me : Private) → among p.home ≡ true → Leads (key_taken_by k home p t me)
+  with_key_in : (key : Option ℕ) (goes : Outcome) (t : Trees) (me : Private) (s : SeenLent) → OutcomeIn among goes → Leads (with_key key goes t me s)
   unfolding Leads
-  keyed_in c home p t me k = code_in (key_goes c home.lines p t) _ (goes_in c home.lines p t k)
+  with_key_in None goes t me s k = k
+  with_key_in (Some key) goes t me s k = code_in goes _ k
+
+  keyed_in : (k : KeyCame) (p : Place) (t : Trees) (me : Private) (s : SeenLent) → among p.home ≡ true → Leads (key_taken_by k p t me s)
+  keyed_in c p t me s k = with_key_in (key_byte c) (key_goes c s.home.lines p t) t me s (goes_in c s.home.lines p t k)
 
   -- INPUT and LINPUT
   types_in : (o : Option (List ℕ)) (me : Private) → Leads (types o me)
@@ -74,7 +78,7 @@ module _ (among : ℕ → Bool) where
   types_in None me = tt
   types_in (Some text) me = tt
 
-  line_in : (takes : List ℕ → VarsState → Assigned) (l : LineCame) (own : Lines) (me : Private) → Leads (line_answered_by takes l own me)
+  line_in : (takes : List ℕ → VarsState → Changed) (l : LineCame) (own : Lines) (me : Private) → Leads (line_answered_by takes l own me)
   unfolding Leads
   line_in takes (PromptShown column) own me = tt
   line_in takes (LineEntered line) own me = code_in outcome.Next _ tt
@@ -85,7 +89,8 @@ module _ (among : ℕ → Bool) where
   statement_in : (u : Statement) (p : Place) (x : Access) (a : Answer) (me : Private) (s : SeenLent) → among p.home ≡ true → Leads (ended_of u p x a me s)
   unfolding Leads
   statement_in u p x a me s k =
-      each_ended Leads x a me s (shown_or_printed_leads among (column_shown x a) (column_printed x a) me) (λ takes. line_in takes (line_came x a) s.own.lines me) tt tt u p (keyed_in (key_came x a) s.home p u.tree me k)
+      each_ended Leads x a me s (shown_or_printed_leads among (column_shown x a) (column_printed x a) me) tt tt u p (keyed_in (key_came x a) p u.tree me s k)
+      (λ r. line_in _ (line_came x a) s.own.lines me)
 
   place_in : (x : Access) (a : Answer) (me : Private) (s : SeenLent) → PlaceIn among me.place → Leads (ends x a me s)
   unfolding Leads

@@ -1,4 +1,4 @@
--- What statements at the terminal leave alone, whatever they are: one record of what HomesKept, KeptPlaces and Waits have.
+-- What statements at the terminal leave alone, whatever they are: one record of what HomesKept, KeptPlaces, Waits and Reached have.
 use Rattle.std.specs.Prelude.{List}
 use Rattle.b2_access.specs.LeftAlone.{LeaveTheRest}
 use Rattle.b2_access.specs.declared.devices.Device.{Device}
@@ -18,6 +18,7 @@ use Rattle.b2_stmt_io.proofs.KeptPlaces.{
   plans_keep_none,
   plans_to_show,
 }
+use Rattle.b2_stmt_io.proofs.Reached.{finishes_reach, plans_reach, printing_reaches}
 use Rattle.b2_stmt_io.proofs.Waits.{finishes_unchanged, plans_before_changes}
 
 reading_leaves_the_rest : (devices : List Device) → LeaveTheRest (plan devices) finish
@@ -34,6 +35,8 @@ reading_leaves_the_rest devices = record {
   finishes_to_show = finishes_to_show;
   plans_before_changes = plans_before_changes devices;
   finishes_unchanged = finishes_unchanged;
+  plans_reach = plans_reach devices;
+  finishes_reach = finishes_reach;
 }
 
 printing_leaves_the_rest : (devices : List Device) → LeaveTheRest (plan devices) finish_printing
@@ -50,6 +53,8 @@ printing_leaves_the_rest devices = record {
   finishes_to_show = form.finishes_to_show printing_ends;
   plans_before_changes = plans_before_changes devices;
   finishes_unchanged = form.finishes_unchanged printing_ends (λ x a me s h. after_shown_or_printed x a me h);
+  plans_reach = plans_reach devices;
+  finishes_reach = printing_reaches;
 }
 
 pub leave_the_rest : StatementsLeaveTheRest

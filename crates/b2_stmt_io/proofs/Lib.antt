@@ -14,6 +14,7 @@ pub mod Planned
 pub mod HomesKept
 pub mod KeptPlaces
 pub mod Waits
+pub mod Reached
 pub mod LeftAlone
 pub mod Listed
 pub mod Legal

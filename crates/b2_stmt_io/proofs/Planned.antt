@@ -7,11 +7,9 @@ use Rattle.b2_base.specs.declared.codes.TheConstants.{P48_DEVICE, S26_PROGRAM_ON
 use Rattle.b2_atom.specs.Tree.{Trees}
 use Rattle.b2_atom.specs.declared.rows.TheConstants as row
 use Rattle.b2_flow.specs.declared.frame.Place.{Place}
-use Rattle.b2_vars.specs.Assigned.{Assigned}
-use Rattle.b2_vars.specs.Tables.{VarsState}
 use Rattle.b2_expr.specs.Scope.{Context}
 use Rattle.b2_expr.specs.Value.{context_of}
-use Rattle.b2_expr.specs.Workspace.{own_of, work_in}
+use Rattle.b2_expr.specs.Workspace.{work_in}
 use Rattle.b2_access.specs.Devices.{is_printer_for}
 use Rattle.b2_access.specs.Lending.{SeenLent}
 use Rattle.b2_access.specs.OwnTerminal.{IsAtTerminal}
@@ -35,9 +33,8 @@ use Rattle.b2_access.proofs.Tables.{each_row}
 use Rattle.b2_print.specs.Columns.{column_after}
 use Rattle.b2_stmt_io.specs.Converting.{converts}
 use Rattle.b2_stmt_io.specs.Imaging.{prints_using}
-use Rattle.b2_stmt_io.specs.Inputs.{takes_typed}
 use Rattle.b2_stmt_io.specs.Keys.{key_taken}
-use Rattle.b2_stmt_io.specs.LineReading.{asks_line, line_answered, prompt_of}
+use Rattle.b2_stmt_io.specs.LineReading.{asks_line, prompt_of}
 use Rattle.b2_stmt_io.specs.Outlets.{column_of, outlet_of, shows_to, width_of}
 use Rattle.b2_stmt_io.specs.Plan.{Asks, Finishes, asked_of, asking_rows, course_of, does, ended_of, finishing_rows, is_refused, left_out, nothing_asked, takes_line, works}
 use Rattle.b2_stmt_io.specs.Printing.{prints}
@@ -112,8 +109,8 @@ module _ (devices : List Device) (me : Private) (s : SeenLent) (F : Planned → 
   each_statement : (u : Statement) → Each (course_of devices u me s)
   unfolding Each
   each_statement u =
-      let e = context_of (work_in (setting_of me) s.home me.vars) in
-      either Each (u.row == row.CONVERT) _ _ (each_code (converts u.tree (work_in (setting_of me) s.home me.vars)).code)
+      let e = context_of (work_in (setting_of me) s.home me.vars s.globals) in
+      either Each (u.row == row.CONVERT) _ _ (each_code (converts u.tree (work_in (setting_of me) s.home me.vars s.globals)).code)
       (each_asked devices me.part F e failed asks prints_to u.row u.tree (outlet_of devices me) me.term_column me.prompted (shows_where_it_may devices me))
 
   pub each_planned : F (planned_of (works devices me s))
@@ -122,10 +119,8 @@ module _ (devices : List Device) (me : Private) (s : SeenLent) (F : Planned → 
 
 -- and of how a statement finishes: something was shown or printed, a key or a line was asked for, or nothing changes and it goes on or is
 -- repeated
-module _ (F : Worked → Type 0) (x : Access) (a : Answer) (me : Private) (s : SeenLent) (shows : F (shown_or_printed x a me)) (lines : (takes : List ℕ → VarsState → Assigned) → F (line_answered takes x a s.own.lines me))
-    (goes : F (leaves me outcome.Next)) (repeats : F (leaves me outcome.Repeat)) where
-  pub each_ended : (u : Statement) (p : Place) → F (key_taken x a s.home p u.tree me) → F (ended_of u p x a me s)
-  each_ended u p keys =
-      let typed : (r : ℕ) → F (takes_line r u.tree p x a me s) = λ r. lines (λ line vars. own_of (takes_typed r line u.tree (work_in (setting_of me) s.home vars))) in
+module _ (F : Worked → Type 0) (x : Access) (a : Answer) (me : Private) (s : SeenLent) (shows : F (shown_or_printed x a me)) (goes : F (leaves me outcome.Next)) (repeats : F (leaves me outcome.Repeat)) where
+  pub each_ended : (u : Statement) (p : Place) → F (key_taken x a p u.tree me s) → ((r : ℕ) → F (takes_line r u.tree p x a me s)) → F (ended_of u p x a me s)
+  each_ended u p keys typed =
       let Holds : Finishes → Type 0 = λ finishes. F (finishes u.tree p x a me s) in
       each_row Holds finishing_rows nothing_asked u.row (shows, (shows, (keys, (typed row.LINPUT, (typed row.INPUT, tt))))) repeats

@@ -1,10 +1,10 @@
 -- KEYIN: one key, and where it leads.
-use Rattle.std.specs.Prelude.{ℕ, ◌==◌, Bool, true, false, [], ◌∷◌, Ok, if◌then◌else◌}
+use Rattle.std.specs.Prelude.{ℕ, ◌==◌, Option, None, Some, Bool, true, false, [], ◌∷◌, Ok, if◌then◌else◌}
 use Rattle.b2_base.specs.declared.codes.TheConstants.{S20_VARIABLE}
 use Rattle.b2_atom.specs.Tree.{Trees}
 use Rattle.b2_atom.specs.Tree.Trees.{Done, Put, In}
 use Rattle.b2_flow.specs.declared.frame.Place.{Place}
-use Rattle.b2_text.specs.Program.{Lines, TextState}
+use Rattle.b2_text.specs.Program.{Lines}
 use Rattle.b2_access.specs.declared.accesses.Access.{Access}
 use Rattle.b2_access.specs.declared.accesses.Answer.{Answer}
 use Rattle.b2_access.specs.declared.planned.Outcome.{Outcome}
@@ -14,9 +14,10 @@ use Rattle.b2_access.specs.Partition.{setting_of}
 use Rattle.b2_rows.specs.LineNumbers.{line_in}
 use Rattle.b2_access.specs.Going.{to_line}
 use Rattle.b2_access.specs.Views.{KeyCame, ByteTyped, KeyPressed, NoKey, KeyLater, key_came}
-use Rattle.b2_access.specs.Working.{Worked, with_variables, work_of}
+use Rattle.b2_access.specs.Lending.{SeenLent}
+use Rattle.b2_access.specs.Working.{Worked, leaves, with_variables, work_of}
 use Rattle.b2_receiver.specs.Receiving.{assign_bytes_at}
-use Rattle.b2_expr.specs.Workspace.{WorkLeft, WorkState, own_of, refused, unchanged, work_in}
+use Rattle.b2_expr.specs.Workspace.{WorkLeft, WorkState, changed_by, refused, work_in}
 
 -- the two lines that may be named
 abbrev pub first_named : Trees → ℕ
@@ -53,14 +54,18 @@ abbrev pub assigns_key : ℕ → Trees → WorkState → WorkLeft
 assigns_key key (Put word (In n receiver lines)) w = assign_bytes_at (Ok (key ∷ [])) receiver w
 assigns_key key t w = refused S20_VARIABLE w
 
-abbrev pub takes_key : KeyCame → Trees → WorkState → WorkLeft
-takes_key (ByteTyped key) t w = assigns_key key t w
-takes_key (KeyPressed n) t w = assigns_key n t w
-takes_key k t w = unchanged w
+abbrev pub key_byte : KeyCame → Option ℕ
+key_byte (ByteTyped key) = Some key
+key_byte (KeyPressed n) = Some n
+key_byte k = None
 
 -- how KEYIN finishes: the key is assigned, and then it goes on
-abbrev pub key_taken_by : KeyCame → TextState → Place → Trees → Private → Worked
-key_taken_by k home p t me = with_variables (own_of (takes_key k t (work_in (setting_of me) home me.vars))) (key_goes k home.lines p t) (work_of me)
+abbrev pub with_key : Option ℕ → Outcome → Trees → Private → SeenLent → Worked
+with_key None goes t me s = leaves me goes
+with_key (Some key) goes t me s = with_variables (changed_by (assigns_key key t (work_in (setting_of me) s.home me.vars s.globals))) goes (work_of me)
 
-abbrev pub key_taken : Access → Answer → TextState → Place → Trees → Private → Worked
-key_taken x a home p t me = key_taken_by (key_came x a) home p t me
+abbrev pub key_taken_by : KeyCame → Place → Trees → Private → SeenLent → Worked
+key_taken_by k p t me s = with_key (key_byte k) (key_goes k s.home.lines p t) t me s
+
+abbrev pub key_taken : Access → Answer → Place → Trees → Private → SeenLent → Worked
+key_taken x a p t me s = key_taken_by (key_came x a) p t me s

@@ -6,7 +6,7 @@ use Rattle.b2_atom.specs.Tree.Trees.{Done, Put, In}
 use Rattle.b2_rows.specs.Values.{literal_of}
 use Rattle.b2_text.specs.Program.{Lines}
 use Rattle.b2_vars.specs.Tables.{VarsState}
-use Rattle.b2_vars.specs.Assigned.{Assigned}
+use Rattle.b2_vars.specs.Assigned.{Changed}
 use Rattle.b2_access.specs.declared.accesses.Access.{Access}
 use Rattle.b2_access.specs.declared.accesses.Access.TheVariants as access
 use Rattle.b2_access.specs.declared.accesses.Answer.{Answer}
@@ -71,9 +71,9 @@ unread (LineLeft n) own me = types (typed_by_mark n own) me
 unread c own me = leaves me outcome.Repeat
 
 -- and with a line, which is taken
-abbrev pub line_answered_by : (List ℕ → VarsState → Assigned) → LineCame → Lines → Private → Worked
+abbrev pub line_answered_by : (List ℕ → VarsState → Changed) → LineCame → Lines → Private → Worked
 line_answered_by takes (LineEntered line) own me = with_variables (takes line me.vars) outcome.Next (record (work_of me) { term_column = 0 })
 line_answered_by takes c own me = unread c own me
 
-abbrev pub line_answered : (List ℕ → VarsState → Assigned) → Access → Answer → Lines → Private → Worked
+abbrev pub line_answered : (List ℕ → VarsState → Changed) → Access → Answer → Lines → Private → Worked
 line_answered takes x a own me = line_answered_by takes (line_came x a) own me

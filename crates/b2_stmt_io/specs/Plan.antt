@@ -16,7 +16,7 @@ use Rattle.b2_access.specs.declared.planned.Planned.TheVariants as planned
 use Rattle.b2_access.specs.declared.private.Private.{Private}
 use Rattle.b2_access.specs.Lending.{SeenLent}
 use Rattle.b2_expr.specs.Value.{context_of}
-use Rattle.b2_expr.specs.Workspace.{own_of, work_in}
+use Rattle.b2_expr.specs.Workspace.{changed_by, work_in}
 use Rattle.b2_access.specs.Partition.{setting_of}
 use Rattle.b2_access.specs.Showing.{shown_or_printed}
 use Rattle.b2_stmt_io.specs.Converting.{converts}
@@ -63,8 +63,8 @@ asked_of r = at_row asking_rows left_out r
 
 abbrev pub course_of : List Device → Statement → Private → SeenLent → Working
 course_of devices u me s =
-    if u.row == row.CONVERT then Ends (with_variables (own_of (converts u.tree (work_in (setting_of me) s.home me.vars))) outcome.Next (work_of me))
-    else Plans (asked_of u.row u.tree (context_of (work_in (setting_of me) s.home me.vars)) (outlet_of devices me) me.term_column me.prompted)
+    if u.row == row.CONVERT then Ends (with_variables (changed_by (converts u.tree (work_in (setting_of me) s.home me.vars s.globals))) outcome.Next (work_of me))
+    else Plans (asked_of u.row u.tree (context_of (work_in (setting_of me) s.home me.vars s.globals)) (outlet_of devices me) me.term_column me.prompted)
 
 abbrev pub does : List Device → Private → SeenLent → Statement → Here → Working
 does devices me s u h = course_of devices u me s
@@ -81,13 +81,13 @@ abbrev pub Finishes : Type 0
 Finishes = Trees → Place → Access → Answer → Private → SeenLent → Worked
 
 abbrev pub takes_line : ℕ → Finishes
-takes_line r t p x a me s = line_answered (λ line vars. own_of (takes_typed r line t (work_in (setting_of me) s.home vars))) x a s.own.lines me
+takes_line r t p x a me s = line_answered (λ line vars. changed_by (takes_typed r line t (work_in (setting_of me) s.home vars s.globals))) x a s.own.lines me
 
 abbrev pub finishing_rows : List (ℕ × Finishes)
 finishing_rows =
     (row.PRINT, λ t p x a me s. shown_or_printed x a me)
     ∷ (row.PRINTUSING, λ t p x a me s. shown_or_printed x a me)
-    ∷ (row.KEYIN, λ t p x a me s. key_taken x a s.home p t me)
+    ∷ (row.KEYIN, λ t p x a me s. key_taken x a p t me s)
     ∷ (row.LINPUT, λ t p x a me s. takes_line row.LINPUT t p x a me s)
     ∷ (row.INPUT, λ t p x a me s. takes_line row.INPUT t p x a me s)
     ∷ []

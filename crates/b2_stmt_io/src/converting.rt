@@ -6,7 +6,7 @@ ghost use Rattle.b2_print.specs.Imaged.{converted};
 ghost use Rattle.b2_rows.specs.Leaves.{is_leaf, leaf_bytes};
 ghost use Rattle.b2_rows.specs.Rows.{is_part, tree_at, after_part};
 ghost use Rattle.b2_rows.specs.Values.{image_of};
-ghost use Rattle.b2_expr.specs.Workspace.{workspace};
+ghost use Rattle.b2_expr.specs.Workspace.{SameReferences, workspace};
 ghost use Rattle.b2_stmt_io.specs.Converting as spec;
 ghost use Rattle.b2_receiver.specs.Receiving.{assign_bytes_at as assigns_bytes};
 
@@ -25,7 +25,7 @@ use b2_rows::{image_at, is_alpha_at};
 fn convert_bytes(work: &mut Workspace<'_>, text: &[u8]) -> Result<Option<Code>, NoMemory>
     requires part { is_part row.CONVERT_ALPHA text.now ≡ true }
     ensures worked { IfOk result (λ code. record { work = workspace work.new; code = code } ≡ spec.converts_bytes (tree_at row.CONVERT_ALPHA text.now) (workspace work.old)) }
-    ensures same_reference { work.new.own.ghost_name ≡ work.old.own.ghost_name }
+    ensures same_references { SameReferences work.old work.new }
 {
     let mut c = Cursor::over(text);
     let mut bytes = Bytes::new();
@@ -46,7 +46,7 @@ fn image_to(
     requires part { is_part row.ALPHA_RECEIVER text.now ≡ true }
     requires short { length image.now ≤ 255 }
     ensures worked { IfOk result (λ code. record { work = workspace work.new; code = code } ≡ assigns_bytes (converted image.now x) (tree_at row.ALPHA_RECEIVER text.now) (workspace work.old)) }
-    ensures same_reference { work.new.own.ghost_name ≡ work.old.own.ghost_name }
+    ensures same_references { SameReferences work.old work.new }
 {
     let to = match alpha_receiver(&mut Cursor::over(text), &surroundings_of(work)) {
         Ok(to) => to,
@@ -73,7 +73,7 @@ fn image_after(text: &[u8]) -> &[u8]
 fn convert_number(work: &mut Workspace<'_>, text: &[u8]) -> Result<Option<Code>, NoMemory>
     requires part { is_part row.CONVERT_NUMBER text.now ≡ true }
     ensures worked { IfOk result (λ code. record { work = workspace work.new; code = code } ≡ spec.converts_number (tree_at row.CONVERT_NUMBER text.now) (workspace work.old)) }
-    ensures same_reference { work.new.own.ghost_name ≡ work.old.own.ghost_name }
+    ensures same_references { SameReferences work.old work.new }
 {
     let mut c = Cursor::over(text);
     let x = match number(&mut c, &surroundings_of(work)) {
@@ -89,7 +89,7 @@ fn convert_number(work: &mut Workspace<'_>, text: &[u8]) -> Result<Option<Code>,
 pub fn convert_unit(work: &mut Workspace<'_>, unit: &[u8]) -> Result<Option<Code>, NoMemory>
     requires part { is_part row.CONVERT unit.now ≡ true }
     ensures worked { IfOk result (λ code. record { work = workspace work.new; code = code } ≡ spec.converts (tree_at row.CONVERT unit.now) (workspace work.old)) }
-    ensures same_reference { work.new.own.ghost_name ≡ work.old.own.ghost_name }
+    ensures same_references { SameReferences work.old work.new }
 {
     let text = rest_after(unit, 1);
     if is_alpha_at(text) {

@@ -6,7 +6,7 @@ ghost use Rattle.b2_rows.specs.Rows.{is_part, tree_at};
 ghost use Rattle.b2_access.specs.Answering.{can_answer};
 ghost use Rattle.b2_access.specs.Views.{line_came};
 ghost use Rattle.b2_access.specs.Working.{ended};
-ghost use Rattle.b2_expr.specs.Workspace.{workspace};
+ghost use Rattle.b2_expr.specs.Workspace.{SameReferences, workspace};
 ghost use Rattle.b2_stmt_io.specs.Inputs as spec;
 ghost use Rattle.b2_stmt_io.specs.LineReading.{asks_line, entered, prompt_of, unread};
 ghost use Rattle.b2_rows.specs.CommaLists.{are_others, past_first, receivers_at};
@@ -38,7 +38,7 @@ fn item_value(bytes: &[u8]) -> &[u8]
 fn some_to(work: &mut Workspace<'_>, part: &[u8], text: &[u8]) -> Result<Option<Code>, NoMemory>
     requires part { is_part row.RECEIVER text.now ≡ true }
     ensures worked { IfOk result (λ code. record { work = workspace work.new; code = code } ≡ spec.takes_some part.now (tree_at row.RECEIVER text.now) (workspace work.old)) }
-    ensures same_reference { work.new.own.ghost_name ≡ work.old.own.ghost_name }
+    ensures same_references { SameReferences work.old work.new }
 {
     if is_alpha_at(text) {
         assign_bytes_at(work, item_value(skip_blanks(part)), text)
@@ -51,7 +51,7 @@ fn some_to(work: &mut Workspace<'_>, part: &[u8], text: &[u8]) -> Result<Option<
 fn part_to(work: &mut Workspace<'_>, part: &[u8], text: &[u8]) -> Result<Option<Code>, NoMemory>
     requires part { is_part row.RECEIVER text.now ≡ true }
     ensures worked { IfOk result (λ code. record { work = workspace work.new; code = code } ≡ spec.takes_part (tree_at row.RECEIVER text.now) part.now (workspace work.old)) }
-    ensures same_reference { work.new.own.ghost_name ≡ work.old.own.ghost_name }
+    ensures same_references { SameReferences work.old work.new }
 {
     if skip_blanks(part).is_empty() {
         return Ok(None);
@@ -65,7 +65,7 @@ fn parts_to(work: &mut Workspace<'_>, line: &[u8], text: &[u8]) -> Result<Option
     requires part { is_part row.RECEIVER text.now ≡ true }
     requires list { are_others (past_first text.now) ≡ true }
     ensures worked { IfOk result (λ code. record { work = workspace work.new; code = code } ≡ spec.take_parts spec.takes_part (receivers_at text.now) (typed_parts line.now) (workspace work.old)) }
-    ensures same_reference { work.new.own.ghost_name ≡ work.old.own.ghost_name }
+    ensures same_references { SameReferences work.old work.new }
 {
     let mut left = text;
     let mut typed = line;
@@ -93,7 +93,7 @@ fn parts_to(work: &mut Workspace<'_>, line: &[u8], text: &[u8]) -> Result<Option
 fn take_parts(work: &mut Workspace<'_>, line: &[u8], unit: &[u8]) -> Result<Option<Code>, NoMemory>
     requires part { is_part row.INPUT unit.now ≡ true }
     ensures worked { IfOk result (λ code. record { work = workspace work.new; code = code } ≡ spec.takes_parts line.now (tree_at row.INPUT unit.now) (workspace work.old)) }
-    ensures same_reference { work.new.own.ghost_name ≡ work.old.own.ghost_name }
+    ensures same_references { SameReferences work.old work.new }
 {
     parts_to(work, line, past_prompt(rest_after(unit, 1)))
 }
@@ -123,7 +123,7 @@ pub fn take_typed(
     requires part { is_part kind unit.now ≡ true }
     requires reads { (kind == row.LINPUT || kind == row.INPUT) ≡ true }
     ensures worked { IfOk result (λ code. record { work = workspace work.new; code = code } ≡ spec.takes_typed kind line.now (tree_at kind unit.now) (workspace work.old)) }
-    ensures same_reference { work.new.own.ghost_name ≡ work.old.own.ghost_name }
+    ensures same_references { SameReferences work.old work.new }
 {
     if kind == rows::LINPUT {
         assign_line(work, line, unit)

@@ -7,7 +7,7 @@ ghost use Rattle.b2_atom.specs.declared.rows.TheConstants as row;
 ghost use Rattle.b2_atom.specs.declared.forms.Start.TheVariants as start;
 ghost use Rattle.b2_rows.specs.Rows.{is_part, tree_at};
 ghost use Rattle.b2_rows.specs.Optional.{maybe_part, maybe_tree};
-ghost use Rattle.b2_expr.specs.Workspace.{workspace};
+ghost use Rattle.b2_expr.specs.Workspace.{SameReferences, workspace};
 ghost use Rattle.b2_stmt_io.specs.Keys as spec;
 
 use b2_access::{Access, Answer, Outcome, to_line};
@@ -44,33 +44,26 @@ fn key_leads(special: bool, home: &Text, place: Place, text: &[u8]) -> Outcome
 
 /// Assigns a key to the receiver of KEYIN. The code with which that ended, or none.
 #[tactic(auto, using(crate::proofs::KeyRows::key_receiver, crate::proofs::KeyRows::assigns_key_is))]
-fn assign_key(work: &mut Workspace<'_>, key: u8, unit: &[u8]) -> Result<Option<Code>, NoMemory>
+pub fn assign_key(work: &mut Workspace<'_>, key: u8, unit: &[u8]) -> Result<Option<Code>, NoMemory>
     requires part { is_part row.KEYIN unit.now ≡ true }
     ensures worked { IfOk result (λ code. record { work = workspace work.new; code = code } ≡ spec.assigns_key key (tree_at row.KEYIN unit.now) (workspace work.old)) }
-    ensures same_reference { work.new.own.ghost_name ≡ work.old.own.ghost_name }
+    ensures same_references { SameReferences work.old work.new }
 {
     assign_bytes_at(work, &[key], rest_after(unit, 1))
 }
 
-/// Assigns the key that came, where one did. The code with which that ended, or none.
-pub fn take_key(
-    work: &mut Workspace<'_>,
-    access: &Access,
-    answer: &Answer,
-    unit: &[u8],
-) -> Result<Option<Code>, NoMemory>
-    requires part { is_part row.KEYIN unit.now ≡ true }
+/// The key that came as one byte, a special function key by its number; none where none came.
+pub fn key_byte(access: &Access, answer: &Answer) -> Option<u8>
     requires possible { can_answer access.now answer.now ≡ true }
-    ensures worked { IfOk result (λ code. record { work = workspace work.new; code = code } ≡ spec.takes_key (key_came access.now answer.now) (tree_at row.KEYIN unit.now) (workspace work.old)) }
-    ensures same_reference { work.new.own.ghost_name ≡ work.old.own.ghost_name }
+    ensures { result ≡ spec.key_byte (key_came access.now answer.now) }
 {
     let Access::Key { .. } = access else {
-        return Ok(None);
+        return None;
     };
     match answer {
-        Answer::Key(key) => assign_key(work, *key, unit),
-        Answer::Special(n) => assign_key(work, *n, unit),
-        Answer::NoKeys | Answer::Wait(_) => Ok(None),
+        Answer::Key(key) => Some(*key),
+        Answer::Special(n) => Some(*n),
+        Answer::NoKeys | Answer::Wait(_) => None,
         _ => unreachable!(),
     }
 }

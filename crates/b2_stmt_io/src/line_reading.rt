@@ -5,7 +5,7 @@ ghost use Rattle.b2_atom.specs.declared.rows.TheConstants as row;
 ghost use Rattle.b2_atom.specs.declared.forms.Start.TheVariants as start;
 ghost use Rattle.b2_rows.specs.Rows.{is_part, tree_at};
 ghost use Rattle.b2_rows.specs.Optional.{maybe_part, maybe_tree, after_maybe};
-ghost use Rattle.b2_expr.specs.Workspace.{workspace};
+ghost use Rattle.b2_expr.specs.Workspace.{SameReferences, workspace};
 ghost use Rattle.b2_stmt_io.specs.LineReading as spec;
 ghost use Rattle.b2_access.specs.Marks.{typed_by_mark};
 ghost use Rattle.b2_access.specs.Working.{ended};
@@ -91,7 +91,7 @@ pub fn assign_line(
 ) -> Result<Option<Code>, NoMemory>
     requires part { is_part row.LINPUT unit.now ≡ true }
     ensures worked { IfOk result (λ code. record { work = workspace work.new; code = code } ≡ spec.takes_line line.now (tree_at row.LINPUT unit.now) (workspace work.old)) }
-    ensures same_reference { work.new.own.ghost_name ≡ work.old.own.ghost_name }
+    ensures same_references { SameReferences work.old work.new }
 {
     assign_bytes_at(work, line, past_prompt(rest_after(unit, 1)))
 }

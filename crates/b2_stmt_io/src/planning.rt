@@ -1,11 +1,9 @@
 // What the statement at a partition's place plans, and how it finishes.
-ghost use Rattle.std.specs.Prelude.{◌≡◌, true, IfOk, Option};
+ghost use Rattle.std.specs.Prelude.{◌≡◌, true, IfOk};
 ghost use Rattle.b2_access.specs.Answering.{can_answer};
 ghost use Rattle.b2_rows.specs.Laws.{IsRow};
 ghost use Rattle.b2_rows.specs.Rows.{tree_at};
 ghost use Rattle.b2_access.specs.Lending.{SeenLent, globals_lent, seen_lent};
-ghost use Rattle.b2_vars.specs.Tables.{VarsState};
-ghost use Rattle.b2_text.specs.Program.{TextState};
 ghost use Rattle.b2_expr.specs.Scope.{surroundings};
 ghost use Rattle.b2_expr.specs.Value.{in_statement};
 ghost use Rattle.b2_access.specs.Working.{plans_by};
@@ -13,7 +11,7 @@ ghost use Rattle.b2_stmt_io.specs.Plan as spec;
 
 use crate::converting::convert_unit;
 use crate::inputs::{ask_input, line_entered, take_typed, without_line};
-use crate::keys::{after_key, take_key};
+use crate::keys::{after_key, assign_key, key_byte};
 use crate::line_reading::ask_linput;
 use crate::outlets::{Outlet, outlet_of};
 use crate::showing::{ask_print, ask_using};
@@ -26,7 +24,6 @@ use b2_base::codes::{S26_PROGRAM_ONLY, S27_LEFT_OUT};
 use b2_base::{Code, NoMemory};
 use b2_expr::{Env, Workspace, surroundings_of};
 use b2_rows::RowUnit;
-use b2_text::Text;
 use std::alloc::Global;
 
 /// Whether this crate builds a row.
@@ -80,23 +77,29 @@ fn ask(
 pub fn plan_found(
     alloc: Global,
     me: &mut Private,
-    home: &Text,
+    lent: &mut Lent<'_>,
     devices: &DeviceTable,
     unit: &RowUnit<'_>,
 ) -> Result<Planned, NoMemory>
     requires read { IsRow unit.now.row unit.now.bytes.now (tree_at unit.now.row unit.now.bytes.now) }
-    ensures planned { (own : TextState) (globals : Option VarsState) → IfOk result (λ p. record { me = me.new; globals = globals; planned = p } ≡ plans_by (spec.course_of devices.now (record { row = unit.now.row; tree = tree_at unit.now.row unit.now.bytes.now })) me.old (record { own = own; home = home.now; globals = globals })) }
+    ensures planned { IfOk result (λ p. record { me = me.new; globals = globals_lent lent.new; planned = p } ≡ plans_by (spec.course_of devices.now (record { row = unit.now.row; tree = tree_at unit.now.row unit.now.bytes.now })) me.old (seen_lent lent.old)) }
+    ensures same_texts { (lent.new.own ≡ lent.old.own) × (lent.new.home ≡ lent.old.home) }
+    ensures same_reference { lent.new.globals.ghost_name ≡ lent.old.globals.ghost_name }
     ensures part { me.new.part ≡ me.old.part }
 {
     let outlet = outlet_of(devices, me);
     let setting = setting_of(me);
     let mut work = Workspace {
         own: &mut me.vars,
+        globals: lent.globals,
+        found: lent.found,
+        reached: lent.reached,
         setting,
-        home,
+        home: lent.home,
     };
     if unit.row == rows::CONVERT {
         let code = convert_unit(&mut work, unit.bytes)?;
+        lent.reached = work.reached;
         return Ok(Planned::Done(goes_or(Outcome::Next, code)));
     }
     let e = surroundings_of(&work);
@@ -112,7 +115,6 @@ pub fn plan(
 ) -> Result<Planned, NoMemory>
     ensures planned { IfOk result (λ p. record { me = me.new; globals = globals_lent lent.new; planned = p } ≡ spec.plan devices.now me.old (seen_lent lent.old)) }
     ensures same_texts { (lent.new.own ≡ lent.old.own) × (lent.new.home ≡ lent.old.home) }
-    ensures same_globals { lent.new.globals.now ≡ lent.old.globals.now }
     ensures same_reference { lent.new.globals.ghost_name ≡ lent.old.globals.ghost_name }
     ensures part { me.new.part ≡ me.old.part }
 {
@@ -121,7 +123,8 @@ pub fn plan(
     };
     let outlet = outlet_of(devices, me);
     let setting = setting_of(me);
-    let Some(unit) = statement_placed(place, &me.immediate, lent.home) else {
+    let home = lent.home;
+    let Some(unit) = statement_placed(place, &me.immediate, home) else {
         return Ok(Planned::Done(Outcome::Ready));
     };
     if is_refused(unit.row, place.line.is_some()) {
@@ -129,11 +132,15 @@ pub fn plan(
     }
     let mut work = Workspace {
         own: &mut me.vars,
+        globals: lent.globals,
+        found: lent.found,
+        reached: lent.reached,
         setting,
-        home: lent.home,
+        home,
     };
     if unit.row == rows::CONVERT {
         let code = convert_unit(&mut work, unit.bytes)?;
+        lent.reached = work.reached;
         return Ok(Planned::Done(goes_or(Outcome::Next, code)));
     }
     let e = surroundings_of(&work);
@@ -148,6 +155,7 @@ pub fn is_printing(row: u16) -> bool
 }
 
 /// How a statement finishes of such a row, by the access that it asked for and its answer, which is one that the access can have.
+#[tactic(auto, using(crate::proofs::Entered::shown_is))]
 pub fn finish_printing(me: &mut Private, access: &Access, answer: &Answer) -> Outcome
     requires possible { can_answer access.now answer.now ≡ true }
     ensures finished { (s : SeenLent) → record { me = me.new; globals = s.globals; outcome = result } ≡ spec.finish_printing access.now answer.now me.old s }
@@ -158,7 +166,7 @@ pub fn finish_printing(me: &mut Private, access: &Access, answer: &Answer) -> Ou
 
 /// How the statement at the place of a partition finishes, by the access that it asked for and its answer, which is one that the
 /// access can have.
-#[tactic(auto, using(crate::proofs::Entered::unread_is))]
+#[tactic(auto, using(crate::proofs::Entered::unread_is, crate::proofs::Entered::shown_is))]
 pub fn finish(
     alloc: Global,
     me: &mut Private,
@@ -168,7 +176,6 @@ pub fn finish(
 ) -> Result<Outcome, NoMemory>
     requires possible { can_answer access.now answer.now ≡ true }
     ensures finished { IfOk result (λ o. record { me = me.new; globals = globals_lent lent.new; outcome = o } ≡ spec.finish access.now answer.now me.old (seen_lent lent.old)) }
-    ensures same_globals { lent.new.globals.now ≡ lent.old.globals.now }
     ensures same_reference { lent.new.globals.ghost_name ≡ lent.old.globals.ghost_name }
     ensures part { me.new.part ≡ me.old.part }
 {
@@ -176,7 +183,8 @@ pub fn finish(
         return Ok(Outcome::Repeat);
     };
     let setting = setting_of(me);
-    let Some(unit) = statement_placed(place, &me.immediate, lent.home) else {
+    let home = lent.home;
+    let Some(unit) = statement_placed(place, &me.immediate, home) else {
         return Ok(Outcome::Repeat);
     };
     if is_refused(unit.row, place.line.is_some()) {
@@ -185,13 +193,20 @@ pub fn finish(
     match unit.row {
         rows::PRINT | rows::PRINTUSING => Ok(after_show_or_print(me, access, answer)),
         rows::KEYIN => {
+            let goes = after_key(home, place, access, answer, unit.bytes);
+            let Some(key) = key_byte(access, answer) else {
+                return Ok(goes);
+            };
             let mut work = Workspace {
                 own: &mut me.vars,
+                globals: lent.globals,
+                found: lent.found,
+                reached: lent.reached,
                 setting,
-                home: lent.home,
+                home,
             };
-            let code = take_key(&mut work, access, answer, unit.bytes)?;
-            let goes = after_key(lent.home, place, access, answer, unit.bytes);
+            let code = assign_key(&mut work, key, unit.bytes)?;
+            lent.reached = work.reached;
             Ok(goes_or(goes, code))
         }
         rows::LINPUT | rows::INPUT => {
@@ -200,10 +215,14 @@ pub fn finish(
             };
             let mut work = Workspace {
                 own: &mut me.vars,
+                globals: lent.globals,
+                found: lent.found,
+                reached: lent.reached,
                 setting,
-                home: lent.home,
+                home,
             };
             let code = take_typed(&mut work, unit.row, line, unit.bytes)?;
+            lent.reached = work.reached;
             me.term_column = 0;
             Ok(goes_or(Outcome::Next, code))
         }

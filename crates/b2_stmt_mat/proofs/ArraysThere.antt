@@ -4,7 +4,7 @@ use Rattle.std.specs.Prelude.{IsSome, IfSome, ◌==◌}
 use Rattle.std.specs.FinMap as map
 use Rattle.std.proofs.lemmas.List.{length-take}
 use Rattle.std.proofs.lemmas.Bool.Decides.{nat_tests}
-use Rattle.std.specs.Option.{option_map}
+use Rattle.std.specs.Option.{option_map, unwrap_or}
 use Rattle.b2_base.specs.declared.codes.TheConstants.{P57_SUBSCRIPT, P59_NO_ARRAY, X77_NO_PARTITION}
 use Rattle.b2_dec.specs.Number.{zero_number}
 use Rattle.b2_vars.specs.Answers.{code_if, first_of}
@@ -21,7 +21,7 @@ use Rattle.b2_expr.specs.Named.{variable_of}
 use Rattle.b2_expr.specs.Scope.{Surroundings}
 use Rattle.b2_receiver.specs.Receivers.{IsArray, array_there}
 use Rattle.b2_receiver.specs.declared.receiver.Array.{Array}
-use Rattle.b2_stmt_mat.specs.Arrays.{IsArrayOf}
+use Rattle.b2_stmt_mat.specs.Arrays.{IsArrayIn, families, vars_of}
 
 -- an array that was found by its name is there
 record Found (v : Var) (t : Table) (made a : Array) : Type 0 where
@@ -32,19 +32,18 @@ found_by : (v : Var) (t : Table) (made a : Array) (o : Option VariableState) →
 found_by v t made a (Some x) is got = record { some = ap is_some is; same = cc }
 found_by v t made a None is got = cc
 
-found_among : (g : Bool) (o : Option VarsState) (own : VarsState) (v : Var) (made a : Array) → o ≡ None
-    → ((if g then or_code X77_NO_PARTITION o else Ok own) >>= (λ vars. unless (missing_code v vars.table) made)) ≡ Ok a → Found v own.table made a
-found_among true None own v made a none got = cc
-found_among true (Some x) own v made a none got = cc
-found_among false o own v made a none got = found_by v own.table made a (map.get own.table v) refl got
+-- among the variables that its name says
+abbrev Stands : VarsState → VarsState → Array → Type 0
+Stands own lent a = IsSome (map.get (vars_of a.global (record { own = own; lent = lent })).table a.var)
 
-found : (e : Surroundings) (name : Name) (a : Array) → e.globals ≡ None → array_there e name ≡ Ok a → IsSome (map.get e.own.table a.var)
-found e name a none got =
-    let f = found_among name.global e.globals e.own (variable_of name true) (record { global = name.global; var = variable_of name true }) a none got in
-    subst (λ (v : Var). IsSome (map.get e.own.table v)) (ap (λ (x : Array). x.var) f.same) f.some
+found_among : (g : Bool) (o : Option VarsState) (own : VarsState) (v : Var) (a : Array)
+    → ((if g then or_code X77_NO_PARTITION o else Ok own) >>= (λ vars. unless (missing_code v vars.table) (record { global = g; var = v }))) ≡ Ok a → Stands own (unwrap_or o own) a
+found_among true None own v a got = cc
+found_among true (Some x) own v a got = let f = found_by v x.table (record { global = true; var = v }) a (map.get x.table v) refl got in subst (Stands own x) f.same f.some
+found_among false o own v a got = let f = found_by v own.table (record { global = false; var = v }) a (map.get own.table v) refl got in subst (Stands own (unwrap_or o own)) f.same f.some
 
-pub array_there_so : (alpha : Bool) (e : Surroundings) (name : Name) (a : Array) → e.globals ≡ None → array_there e name ≡ Ok a → IsArray a.var × (a.var.alpha ≡ alpha) → IsArrayOf alpha a.var e.own.table
-array_there_so alpha e name a none got is = record { named = is.0.0; kind = is.1; array = is.0.1; there = found e name a none got }
+pub array_there_so : (alpha : Bool) (e : Surroundings) (name : Name) (a : Array) → array_there e name ≡ Ok a → IsArray a.var × (a.var.alpha ≡ alpha) → IsArrayIn alpha a (families e)
+array_there_so alpha e name a got is = record { named = is.0.0; kind = is.1; array = is.0.1; there = found_among name.global e.globals e.own (variable_of name true) a got }
 
 -- what stands under its name
 pub stands : (t : Table) (v : Var) → IsSome (map.get t v) → map.get t v ≡ Some (variable_at v t)

@@ -23,7 +23,7 @@ use Rattle.b2_rows.proofs.Choices.{either_first, either_second}
 use Rattle.b2_rows.proofs.ChainRows.{sign_is}
 use Rattle.b2_rows.proofs.Links.{OneSign, one_sign}
 use Rattle.b2_rows.proofs.RowsRead.{stands_of}
-use Rattle.b2_vars.specs.declared.name.Var.{Var}
+use Rattle.b2_receiver.specs.declared.receiver.Array.{Array}
 use Rattle.b2_dims.specs.Dimensions.{dimensions_in}
 use Rattle.b2_expr.specs.Answers.{◌>>=◌}
 use Rattle.b2_expr.specs.Scope.{Context}
@@ -148,13 +148,13 @@ times_sign : (t : Text) → is_part row.TIMES t ≡ true → OneSign row.TIMES t
 unfolding row_items
 times_sign t ok = one_sign row.TIMES byte.asterisk S22_WORD t refl refl ok
 
-abbrev second_of : Context → Var → ℕ → Text → Result Formula ℕ
+abbrev second_of : Context → Array → ℕ → Text → Result Formula ℕ
 second_of s b sign u = array_of s.around false (name_at u) >>= (λ c. Ok (formula.Combined (op_of sign) b c))
 
 -- its name stands after the sign, whichever that is
 record Second (a : Trees) (t : Text) : Type 0 where
   name : is_leaf leaf.Name (drop 1 t) ≡ true
-  is : (s : Context) (b : Var) → second_in s b a ≡ second_of s b (first t) (drop 1 t)
+  is : (s : Context) (b : Array) → second_in s b a ≡ second_of s b (first t) (drop 1 t)
 
 after_sign : (n k : ℕ) (t : Text) → OneSign n t → is_leaf leaf.Name (after_part n t) ≡ true → Second (In k (tree_at n t) (Put (Plain leaf.Name (name_at (after_part n t))) Done)) t
 after_sign n k t one ok = record {
@@ -174,7 +174,7 @@ second t ok = second_by (starts Atoms (start.Code byte.asterisk) t) t (tree_at r
 pub second_name : (t : Text) → is_part row.SECOND_MATRIX t ≡ true → is_leaf leaf.Name (drop 1 t) ≡ true
 second_name t ok = (second t ok).name
 
-pub second_is : (s : Context) (b : Var) (t : Text) → is_part row.SECOND_MATRIX t ≡ true → second_in s b (tree_at row.SECOND_MATRIX t) ≡ (array_of s.around false (name_at (drop 1 t)) >>= (λ c. Ok (formula.Combined (op_of (first t)) b c)))
+pub second_is : (s : Context) (b : Array) (t : Text) → is_part row.SECOND_MATRIX t ≡ true → second_in s b (tree_at row.SECOND_MATRIX t) ≡ (array_of s.around false (name_at (drop 1 t)) >>= (λ c. Ok (formula.Combined (op_of (first t)) b c)))
 second_is s b t ok = (second t ok).is s b
 
 -- one array, or two
@@ -215,8 +215,8 @@ one_is s t ok is = ap (matrices_in s) (matrices_tree_is t false ok is)
 
 refused_by : (x : Bool) (s : Context) (t : Text) (code : ℕ) → array_of s.around false (name_at t) ≡ Err code → matrices_in s (matrices_tree t x) ≡ Err code
 unfolding matrices_in
-refused_by true s t code is = ap (λ (r : Result Var ℕ). r >>= (λ b. second_in s b (tree_at row.SECOND_MATRIX (past_name t)))) is
-refused_by false s t code is = ap (λ (r : Result Var ℕ). r >>= (λ b. Ok (formula.Copied b))) is
+refused_by true s t code is = ap (λ (r : Result Array ℕ). r >>= (λ b. second_in s b (tree_at row.SECOND_MATRIX (past_name t)))) is
+refused_by false s t code is = ap (λ (r : Result Array ℕ). r >>= (λ b. Ok (formula.Copied b))) is
 
 pub first_refused : (s : Context) (t : Text) (code : ℕ) → is_part row.MATRICES t ≡ true → array_of s.around false (name_at t) ≡ Err code → matrices_in s (tree_at row.MATRICES t) ≡ Err code
 first_refused s t code ok is = ap (matrices_in s) (matrices_tree_is t (has_second (past_name t)) ok refl) ∙ refused_by (has_second (past_name t)) s t code is
@@ -313,8 +313,8 @@ no_multiple_is s t ok is = ap (assignment_in s) (tree_is t false ok is)
 
 result_by : (x : Bool) (s : Context) (t : Text) (code : ℕ) → array_of s.around false (name_at (drop 1 t)) ≡ Err code → assignment_in s (tree_by t x) ≡ Err code
 unfolding assignment_in
-result_by true s t code is = ap (λ (r : Result Var ℕ). r >>= (λ v. scaled_in s (tree_at row.SCALED (right_text t)) >>= (λ f. Ok (record { to = v; made_of = f })))) is
-result_by false s t code is = ap (λ (r : Result Var ℕ). r >>= (λ v. but_scaled_in s (tree_at row.MATRIX_BUT_SCALED (right_text t)) >>= (λ f. Ok (record { to = v; made_of = f })))) is
+result_by true s t code is = ap (λ (r : Result Array ℕ). r >>= (λ v. scaled_in s (tree_at row.SCALED (right_text t)) >>= (λ f. Ok (record { to = v; made_of = f })))) is
+result_by false s t code is = ap (λ (r : Result Array ℕ). r >>= (λ v. but_scaled_in s (tree_at row.MATRIX_BUT_SCALED (right_text t)) >>= (λ f. Ok (record { to = v; made_of = f })))) is
 
 pub result_refused : (s : Context) (t : Text) (code : ℕ) → is_part row.MAT t ≡ true → array_of s.around false (name_at (drop 1 t)) ≡ Err code → assignment_in s (tree_at row.MAT t) ≡ Err code
 result_refused s t code ok is = ap (assignment_in s) (tree_is t (first (right_text t) == byte.opening) ok refl) ∙ result_by (first (right_text t) == byte.opening) s t code is

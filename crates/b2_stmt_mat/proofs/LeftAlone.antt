@@ -1,4 +1,4 @@
--- What statements on arrays leave alone, whatever they are: one record of what HomesKept, KeptPlaces and Waits have.
+-- What statements on arrays leave alone, whatever they are: one record of what HomesKept, KeptPlaces, Waits and Reached have.
 use Rattle.b2_access.specs.LeftAlone.{LeaveTheRest}
 use Rattle.b2_stmt_mat.specs.Plan.{finish, plan}
 use Rattle.b2_stmt_mat.proofs.HomesKept.{finishes_within, plans_within}
@@ -12,6 +12,7 @@ use Rattle.b2_stmt_mat.proofs.KeptPlaces.{
   plans_keep_none,
   plans_to_show,
 }
+use Rattle.b2_stmt_mat.proofs.Reached.{finishes_reach, plans_reach}
 use Rattle.b2_stmt_mat.proofs.Waits.{finishes_unchanged, plans_before_changes}
 
 pub leave_the_rest : LeaveTheRest plan finish
@@ -28,4 +29,6 @@ leave_the_rest = record {
   finishes_to_show = finishes_to_show;
   plans_before_changes = plans_before_changes;
   finishes_unchanged = finishes_unchanged;
+  plans_reach = plans_reach;
+  finishes_reach = finishes_reach;
 }

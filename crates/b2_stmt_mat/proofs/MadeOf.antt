@@ -7,7 +7,7 @@ use Rattle.std.proofs.Math.Nat.{mul_comm}
 use Rattle.std.proofs.lemmas.Bool.Decides.{nat_tests}
 use Rattle.std.specs.Prelude.{nat_lt}
 use Rattle.b2_vars.specs.Shapes.{cells, has_dimensions}
-use Rattle.b2_vars.specs.Tables.{IsVariable, Table, shape_at}
+use Rattle.b2_vars.specs.Tables.{IsVariable}
 use Rattle.b2_vars.specs.declared.shape.Shape.{Shape}
 use Rattle.b2_vars.specs.Variables.{VariableState}
 use Rattle.b2_vars.specs.declared.name.Var.{Var}
@@ -17,6 +17,8 @@ use Rattle.b2_matrix.specs.declared.array.Mat.{Mat}
 use Rattle.b2_matrix.specs.declared.combining.MatOp.{MatOp}
 use Rattle.b2_expr.specs.Answers.{◌>>=◌}
 use Rattle.b2_dims.specs.declared.dimensions.Dimensions.{Dimensions}
+use Rattle.b2_receiver.specs.declared.receiver.Array.{Array}
+use Rattle.b2_stmt_mat.specs.Arrays.{Families, shape_in, vars_of}
 use Rattle.b2_stmt_mat.specs.Matrices.{HasRoom, all_made, differs, dimensions_made, is_own_operand, refusal, shape_with}
 use Rattle.b2_stmt_mat.specs.declared.formulas.Formula.{Formula}
 use Rattle.b2_stmt_mat.specs.declared.formulas.MatrixAssignment.{MatrixAssignment}
@@ -49,7 +51,7 @@ whole_array v x number array is =
     number_count v x number is ∙ ap (λ (n : ℕ). n * max 1 x.shape.cols) (let e : max 1 x.shape.rows ≡ x.shape.rows = omega (arith, some) in e)
 
 -- a result has as many numbers as its shape has cells
-pub as_large : (f g : Formula) (v : Var) (t : Table) (s : Shape) (n : ℕ) → s ≡ shape_with (dimensions_made f v t) → f ≡ g → n ≡ cells (shape_with (dimensions_made g v t)) → n ≡ cells s
+pub as_large : (f g : Formula) (v : Array) (t : Families) (s : Shape) (n : ℕ) → s ≡ shape_with (dimensions_made f v t) → f ≡ g → n ≡ cells (shape_with (dimensions_made g v t)) → n ≡ cells s
 as_large f g v t s n shape same is = is ∙ ap (λ (h : Formula). cells (shape_with (dimensions_made h v t))) (sym same) ∙ ap (λ (x : Shape). cells x) (sym shape)
 
 pub turned_cells : (rows cols : ℕ) → max 1 rows * max 1 cols ≡ max 1 (max 1 cols) * max 1 rows
@@ -65,12 +67,12 @@ unrefused false false true false w x y z is = (refl, refl)
 not_below : (m n : ℕ) → nat_lt m n ≡ false → n ≤ m
 not_below m n is = grind (arith, nat_tests)
 
-pub has_room : (a : MatrixAssignment) (t : Table) (d : Dimensions) (numbers : List Number) → d ≡ dimensions_made a.made_of a.to t → refusal a.made_of a.to t ≡ None → length numbers ≡ cells (shape_with d)
-    → HasRoom a.to (record { dimensions = d; numbers = numbers }) t
+pub has_room : (a : MatrixAssignment) (t : Families) (d : Dimensions) (numbers : List Number) → d ≡ dimensions_made a.made_of a.to t → refusal a.made_of a.to t ≡ None → length numbers ≡ cells (shape_with d)
+    → HasRoom a.to.var (record { dimensions = d; numbers = numbers }) (vars_of a.to.global t).table
 has_room a t d numbers is none whole =
-    let ok = unrefused (is_own_operand a.made_of a.to) (differs a.made_of t) (has_dimensions a.to (shape_with (dimensions_made a.made_of a.to t))) (nat_lt (cells (shape_at a.to t)) (cells (shape_with (dimensions_made a.made_of a.to t)))) _ _ _ _ none in
+    let ok = unrefused (is_own_operand a.made_of a.to) (differs a.made_of t) (has_dimensions a.to.var (shape_with (dimensions_made a.made_of a.to t))) (nat_lt (cells (shape_in a.to t)) (cells (shape_with (dimensions_made a.made_of a.to t)))) _ _ _ _ none in
     record {
-      allowed = ap (λ (x : Dimensions). has_dimensions a.to (shape_with x)) is ∙ ok.0;
-      fits = subst (λ (x : Dimensions). cells (shape_with x) ≤ cells (shape_at a.to t)) (sym is) (not_below (cells (shape_at a.to t)) (cells (shape_with (dimensions_made a.made_of a.to t))) ok.1);
+      allowed = ap (λ (x : Dimensions). has_dimensions a.to.var (shape_with x)) is ∙ ok.0;
+      fits = subst (λ (x : Dimensions). cells (shape_with x) ≤ cells (shape_in a.to t)) (sym is) (not_below (cells (shape_in a.to t)) (cells (shape_with (dimensions_made a.made_of a.to t))) ok.1);
       whole = whole;
     }

@@ -28,7 +28,7 @@ use Rattle.b2_vars.specs.Variables.{VariableState, fresh, overwritten, with_byte
 use Rattle.b2_vars.specs.declared.name.Var.{Var}
 use Rattle.b2_vars.proofs.EntriesAsMap.{get_other}
 use Rattle.b2_vars.proofs.Overwriting.{overwritten-within}
-use Rattle.b2_stmt_mat.specs.Arrays.{bytes_of, named_bytes}
+use Rattle.b2_stmt_mat.specs.Arrays.{bytes_of, named_bytes, only, own_array}
 use Rattle.b2_stmt_mat.specs.ByteArrays.{all_or_refused, has_no_room, moved_by, refusal_of, with_all}
 use Rattle.b2_stmt_mat.specs.Laws.{MovedInOrder, SortedAreMoved, move_by_locators, sort_by_locators}
 use Rattle.b2_stmt_mat.specs.declared.byte_arrays.ArraySort.{ArraySort}
@@ -190,13 +190,13 @@ moved_so a l b s x y into is_a is_b is_l same some room fits =
     let of : List ℕ = named_bytes x.bytes in
     let len : ℕ = x.shape.len in
     let places : List ℕ = sorted_places of len in
-    let wanted : moved_by (record { of = a; locators = l; to = b }) s.table ≡ places =
+    let wanted : moved_by (record { of = own_array a; locators = own_array l; to = own_array b }) (only s) ≡ places =
     ap (λ (z : VariableState). wanted_places (bytes_of l s.table) z.shape.len z.bytes) is_b
     ∙ ap (λ (n : ℕ). wanted_places (bytes_of l s.table) n y.bytes) same
     ∙ all_wanted of len (bytes_of l s.table) into y.bytes len is_l room fits in
-    let made : List ℕ = after_move (named_bytes (bytes_of a s.table)) (shape_at a s.table).len (moved_by (record { of = a; locators = l; to = b }) s.table) (shape_at b s.table).len (bytes_of b s.table) in
+    let made : List ℕ = after_move (named_bytes (bytes_of a s.table)) (shape_at a s.table).len (moved_by (record { of = own_array a; locators = own_array l; to = own_array b }) (only s)) (shape_at b s.table).len (bytes_of b s.table) in
     let made_is : made ≡ after_move of len places len y.bytes =
-    ap (λ (z : VariableState). after_move (named_bytes z.bytes) z.shape.len (moved_by (record { of = a; locators = l; to = b }) s.table) (shape_at b s.table).len (bytes_of b s.table)) is_a
+    ap (λ (z : VariableState). after_move (named_bytes z.bytes) z.shape.len (moved_by (record { of = own_array a; locators = own_array l; to = own_array b }) (only s)) (shape_at b s.table).len (bytes_of b s.table)) is_a
     ∙ ap (λ (ps : List ℕ). after_move of len ps (shape_at b s.table).len (bytes_of b s.table)) wanted
     ∙ ap (λ (z : VariableState). after_move of len places z.shape.len z.bytes) is_b
     ∙ ap (λ (n : ℕ). after_move of len places n y.bytes) same in
@@ -207,7 +207,7 @@ moved_so a l b s x y into is_a is_b is_l same some room fits =
     ∙ all_over (after_move of len places len y.bytes) y.bytes (moved_fits of len y.bytes fits) in
     record {
       code =
-          ap (λ (z : VariableState). refusal_of (move_answer (named_bytes z.bytes) z.shape.len (moved_by (record { of = a; locators = l; to = b }) s.table))) is_a
+          ap (λ (z : VariableState). refusal_of (move_answer (named_bytes z.bytes) z.shape.len (moved_by (record { of = own_array a; locators = own_array l; to = own_array b }) (only s)))) is_a
           ∙ ap (λ (ps : List ℕ). refusal_of (move_answer of len ps)) wanted
           ∙ ap (λ (r : Result ℕ ℕ). refusal_of r) (none_past of len);
       order = record {
@@ -225,9 +225,9 @@ sorted_are_moved a l b old there variable apart other same long is =
     let of : List ℕ = named_bytes x.bytes in
     let len : ℕ = x.shape.len in
     let into : List ℕ = bytes_of l t in
-    let asked : ArraySort = record { of = a; to = l } in
+    let asked : ArraySort = record { of = own_array a; to = own_array l } in
     let some : 0 < len = some_length a x.shape there.kind variable.value_length in
-    let roomy : has_no_room asked t ≡ false = had_room l (has_no_room asked t) (received (sorted_places of len) into) old is in
+    let roomy : has_no_room asked (only old) ≡ false = had_room l (has_no_room asked (only old)) (received (sorted_places of len) into) old is in
     let room : 2 * element_count len of ≤ length into = enough of into len (second_false (not ((shape_at l t).len == 2)) (is_too_short of len into) roomy) in
     let after : VarsState = with_all l (received (sorted_places of len) into) old in
     let sorts : (sort_by_locators a l old).vars ≡ after = ap (λ (b : Bool). (all_or_refused l (if b then Err P43_SHAPES else Ok (received (sorted_places of len) into)) old).vars) roomy in

@@ -14,7 +14,7 @@ use Rattle.b2_expr.specs.Answers.{TextAnswer}
 use Rattle.b2_alpha.specs.Values.{padded}
 use Rattle.b2_receiver.specs.Assigning.{reached_by, receiver_code, unless_refused, with_portion}
 use Rattle.b2_receiver.specs.declared.receiver.AlphaReceiver.{AlphaReceiver}
-use Rattle.b2_stmt_mat.specs.Arrays.{matrix_of, with_numbers}
+use Rattle.b2_stmt_mat.specs.Arrays.{matrix_of, only, own_array, with_numbers}
 use Rattle.b2_stmt_mat.specs.ByteArrays.{all_or_refused, sorted_bytes}
 use Rattle.b2_stmt_mat.specs.Laws.{ChangeOneArray, CopiesAreEqual, TransposingIsUndone, transposed}
 use Rattle.b2_stmt_mat.specs.Searching.{found, given}
@@ -33,7 +33,7 @@ made_there v (Some code) m old is = cc
 pub copies_are_equal : CopiesAreEqual
 copies_are_equal a b mode old is =
     let m : Made = record { dimensions = record { rows = (matrix_of b old.table).rows; cols = (matrix_of b old.table).cols }; numbers = (variable_at b old.table).numbers } in
-    let there = made_there a (refusal (formula.Copied b) a old.table) m old is in
+    let there = made_there a (refusal (formula.Copied (own_array b)) (own_array a) (only old)) m old is in
     record { numbers = ap (λ (x : VariableState). x.numbers) there; rows = ap (λ (x : VariableState). x.shape.rows) there; cols = ap (λ (x : VariableState). x.shape.cols) there }
 
 -- other variables
@@ -71,12 +71,12 @@ given_elsewhere to other (Err code) old apart = refl
 
 pub change_one_array : ChangeOneArray
 change_one_array = record {
-  assignments = λ a mode old other apart. made_elsewhere a.to other (made_of a mode old.table) old apart;
-  redimensions = λ r old other apart. kept_elsewhere r.var other (redim_code r.var r.shape old.table) (reshaped r.var r.shape) old apart;
-  moves = λ m old other apart. put_elsewhere m.to other _ old.table apart;
-  sorts = λ m old other apart. all_elsewhere m.to other (sorted_bytes m old.table) old apart;
-  copies = λ m old other apart. put_elsewhere m.to other _ old.table apart;
-  searches = λ a old other apart. given_elsewhere a.to other (found a old) old apart;
+  assignments = λ a mode f old other apart. made_elsewhere a.to.var other (made_of a mode f) old apart;
+  redimensions = λ r old other apart. kept_elsewhere r.array.var other (redim_code r.array.var r.shape old.table) (reshaped r.array.var r.shape) old apart;
+  moves = λ m f old other apart. put_elsewhere m.to.var other _ old.table apart;
+  sorts = λ m f old other apart. all_elsewhere m.to.var other (sorted_bytes m f) old apart;
+  copies = λ m f old other apart. put_elsewhere m.to.var other _ old.table apart;
+  searches = λ a f old other apart. given_elsewhere a.to other (found a f) old apart;
 }
 
 -- an array transposed twice
@@ -98,7 +98,7 @@ turned_of a t = record { dimensions = record { rows = column_count (matrix_of a 
 
 pub transposing_is_undone : TransposingIsUndone
 transposing_is_undone a b c mode old is variable first second =
-    let there = made_there b (refusal (formula.Transposed a) b old.table) (turned_of a old.table) old first in
-    let again = made_there c (refusal (formula.Transposed b) c (transposed b a mode old).vars.table) (turned_of b (transposed b a mode old).vars.table) (transposed b a mode old).vars second in
+    let there = made_there b (refusal (formula.Transposed (own_array a)) (own_array b) (only old)) (turned_of a old.table) old first in
+    let again = made_there c (refusal (formula.Transposed (own_array b)) (own_array c) (only (transposed b a mode old).vars)) (turned_of b (transposed b a mode old).vars.table) (transposed b a mode old).vars second in
     ap (λ (x : VariableState). x.numbers) again
     ∙ back_again a (variable_at a old.table) (variable_at b (transposed b a mode old).vars.table) variable is.kind is.array (ap (λ (x : VariableState). x.shape.rows) there) (ap (λ (x : VariableState). x.shape.cols) there) (ap (λ (x : VariableState). x.numbers) there)

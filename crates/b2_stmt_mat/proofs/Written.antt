@@ -1,5 +1,5 @@
 -- What several changes of one array come to, and what a call leaves that refuses or changes.
-use Rattle.std.proofs.Common.{◌≡◌, ◌<◌, ℕ, zero, suc, ◌+◌, ◌-◌, Bool, true, false, true≢false, cond, Ordering, Less, Equal, Greater, is_eq, is_some, List, [], ◌∷◌, ◌++◌, length, take, drop, get_or, replicate, Option, Some, None, Result, Ok, Err, refl, sym, ap, subst, ◌∙◌, arith}
+use Rattle.std.proofs.Common.{◌≡◌, ◌<◌, ℕ, zero, suc, ◌+◌, ◌-◌, ◌||◌, Bool, true, false, true≢false, cond, Ordering, Less, Equal, Greater, is_eq, is_some, List, [], ◌∷◌, ◌++◌, length, take, drop, get_or, replicate, Option, Some, None, Result, Ok, Err, refl, sym, ap, subst, ◌∙◌, arith}
 use Rattle.std.proofs.Math.Seq.{take-length}
 use Rattle.std.specs.FinMap as map
 use Rattle.std.specs.FinMap.{get-insert, same_map}
@@ -19,7 +19,9 @@ use Rattle.b2_vars.specs.declared.name.Var.{Var}
 use Rattle.b2_vars.proofs.Cells.{variable_at-Some}
 use Rattle.b2_vars.proofs.EntriesAsMap.{get_put}
 use Rattle.b2_vars.proofs.NamesAsKeys.{names_exact, names_total}
-use Rattle.b2_expr.specs.Workspace.{WorkState, on_own}
+use Rattle.b2_expr.specs.Workspace.{WorkState, counts_as_reached, on_globals, on_own}
+use Rattle.b2_receiver.proofs.Ended.{lent_by}
+use Rattle.b2_vars.specs.Assigned.{Assigned}
 use Rattle.b2_receiver.specs.Assigning.{unless_refused}
 use Rattle.b2_stmt_mat.specs.Arrays.{IsArrayOf, with_numbers}
 use Rattle.b2_stmt_mat.proofs.ArraysThere.{stands}
@@ -134,6 +136,24 @@ kept_work o w after new (Err c) code ok coded err ends =
     ap (λ (v : VarsState). record { work = record w { own = v }; code = code }) err
     ∙ ap (λ (c : Option ℕ). record { work = w; code = c }) ends
     ∙ sym (ap (λ (c : Option ℕ). on_own (unless_refused c w.own (record { vars = after; code = None })) w) coded)
+
+-- so also among the `@` variables, with whether a receiver was reached
+kept_so : (o : Option ℕ) (old after new : VarsState) (r : Result (Unit {0}) ℕ) (code : Option ℕ) → OnOk r (new ≡ after) → Answers o r → OnErr r (new ≡ old) → code ≡ code_in r
+    → ◌≡◌ {A = Assigned} (record { vars = new; code = code }) (unless_refused o old (record { vars = after; code = None }))
+kept_so o old after new (Ok done) code ok coded err ends =
+    ap (λ (v : VarsState). record { vars = v; code = code }) ok
+    ∙ ap (λ (c : Option ℕ). record { vars = after; code = c }) ends
+    ∙ sym (ap (λ (c : Option ℕ). unless_refused c old (record { vars = after; code = None })) coded)
+kept_so o old after new (Err c) code ok coded err ends =
+    ap (λ (v : VarsState). record { vars = v; code = code }) err
+    ∙ ap (λ (c : Option ℕ). record { vars = old; code = c }) ends
+    ∙ sym (ap (λ (c : Option ℕ). unless_refused c old (record { vars = after; code = None })) coded)
+
+pub kept_lent : (o : Option ℕ) (w : WorkState) (old after new : VarsState) (reached : Bool) (r : Result (Unit {0}) ℕ) (code : Option ℕ) → OnOk r (new ≡ after) → Answers o r → OnErr r (new ≡ old) → code ≡ code_in r
+    → reached ≡ (w.globals.reached || counts_as_reached code)
+    → record { work = record w { globals = record { vars = Some new; reached = reached } }; code = code } ≡ on_globals (unless_refused o old (record { vars = after; code = None })) w
+kept_lent o w old after new reached r code ok coded err ends marks =
+    lent_by (unless_refused o old (record { vars = after; code = None })) (record { vars = new; code = code }) w reached marks (kept_so o old after new r code ok coded err ends)
 
 -- the array stays there in its shape
 pub there_after : (alpha : Bool) (v : Var) (x : VariableState) (t : Table) → IsArrayOf alpha v t → IsArrayOf alpha v (map.insert t v x)

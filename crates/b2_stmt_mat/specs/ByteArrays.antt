@@ -7,7 +7,7 @@ use Rattle.b2_atom.specs.Tree.{Trees}
 use Rattle.b2_atom.specs.Tree.Trees.{Put, In}
 use Rattle.b2_vars.specs.Assigned.{Assigned}
 use Rattle.b2_vars.specs.Calls.{with_bytes_of}
-use Rattle.b2_vars.specs.Tables.{Table, VarsState, shape_at}
+use Rattle.b2_vars.specs.Tables.{VarsState}
 use Rattle.b2_vars.specs.declared.name.Var.{Var}
 use Rattle.b2_matalpha.specs.Locators.{received}
 use Rattle.b2_matalpha.specs.Moves.{after_move, move_answer, wanted_places}
@@ -15,17 +15,18 @@ use Rattle.b2_matalpha.specs.Sorts.{is_too_short, sorted_places}
 use Rattle.b2_expr.specs.Answers.{TextAnswer, ◌>>=◌}
 use Rattle.b2_expr.specs.Scope.{Context}
 use Rattle.b2_expr.specs.Value.{context_of}
-use Rattle.b2_expr.specs.Workspace.{WorkState, WorkLeft, on_own, refused}
+use Rattle.b2_expr.specs.Workspace.{WorkState, WorkLeft, among, refused, surroundings_of}
 use Rattle.b2_receiver.specs.Assigning.{unassigned}
 use Rattle.b2_receiver.specs.Receivers.{array_receiver}
-use Rattle.b2_stmt_mat.specs.Arrays.{bytes_of, named_bytes}
+use Rattle.b2_receiver.specs.declared.receiver.Array.{Array}
+use Rattle.b2_stmt_mat.specs.Arrays.{Families, all_bytes, families, named_bytes, shape_in}
 use Rattle.b2_stmt_mat.specs.declared.byte_arrays.ArrayCopy.{ArrayCopy}
 use Rattle.b2_stmt_mat.specs.declared.byte_arrays.ArrayMove.{ArrayMove}
 use Rattle.b2_stmt_mat.specs.declared.byte_arrays.ArraySort.{ArraySort}
 
 -- a whole array, with empty parentheses after its name: P59 where it isn't there
-unfoldable pub bytes_in : Context → Trees → Result Var ℕ
-bytes_in s t = array_receiver s.around true t >>= (λ array. Ok array.var)
+unfoldable pub bytes_in : Context → Trees → Result Array ℕ
+bytes_in s t = array_receiver s.around true t
 
 -- the arrays from left to right. The work array of MAT SORT has to be there and isn't used.
 unfoldable pub move_in : Context → Trees → Result ArrayMove ℕ
@@ -51,47 +52,61 @@ refusal_of (Ok x) = None
 refusal_of (Err code) = Some code
 
 -- the locators that a move looks at
-abbrev pub moved_by : ArrayMove → Table → List ℕ
-moved_by m t = wanted_places (bytes_of m.locators t) (shape_at m.to t).len (bytes_of m.to t)
+abbrev pub moved_by : ArrayMove → Families → List ℕ
+moved_by m t = wanted_places (all_bytes m.locators t) (shape_in m.to t).len (all_bytes m.to t)
 
--- after X76 the elements before the locator that is past the array stay moved
-abbrev pub moved : ArrayMove → VarsState → Assigned
-moved m old = record {
-  vars = with_all m.to (after_move (named_bytes (bytes_of m.of old.table)) (shape_at m.of old.table).len (moved_by m old.table) (shape_at m.to old.table).len (bytes_of m.to old.table)) old;
-  code = refusal_of (move_answer (named_bytes (bytes_of m.of old.table)) (shape_at m.of old.table).len (moved_by m old.table));
-}
+-- After X76 the elements before the locator that is past the array stay moved
+abbrev pub bytes_moved : ArrayMove → Families → List ℕ
+bytes_moved m f = after_move (named_bytes (all_bytes m.of f)) (shape_in m.of f).len (moved_by m f) (shape_in m.to f).len (all_bytes m.to f)
+
+abbrev pub move_code : ArrayMove → Families → Option ℕ
+move_code m f = refusal_of (move_answer (named_bytes (all_bytes m.of f)) (shape_in m.of f).len (moved_by m f))
+
+abbrev pub moved : ArrayMove → Families → VarsState → Assigned
+moved m f old = record { vars = with_all m.to.var (bytes_moved m f) old; code = move_code m f }
 
 -- P43 where the receiver's values aren't two bytes long, or there is no room for each locator; else the locators at the front of its bytes
-abbrev pub has_no_room : ArraySort → Table → Bool
-has_no_room m t = not ((shape_at m.to t).len == 2) || is_too_short (named_bytes (bytes_of m.of t)) (shape_at m.of t).len (bytes_of m.to t)
+abbrev pub has_no_room : ArraySort → Families → Bool
+has_no_room m t = not ((shape_in m.to t).len == 2) || is_too_short (named_bytes (all_bytes m.of t)) (shape_in m.of t).len (all_bytes m.to t)
 
-abbrev pub sorted_bytes : ArraySort → Table → TextAnswer
+abbrev pub sorted_bytes : ArraySort → Families → TextAnswer
 sorted_bytes m t =
-    if has_no_room m t then Err P43_SHAPES else Ok (received (sorted_places (named_bytes (bytes_of m.of t)) (shape_at m.of t).len) (bytes_of m.to t))
+    if has_no_room m t then Err P43_SHAPES else Ok (received (sorted_places (named_bytes (all_bytes m.of t)) (shape_in m.of t).len) (all_bytes m.to t))
 
 abbrev pub all_or_refused : Var → TextAnswer → VarsState → Assigned
 all_or_refused v (Ok bytes) old = record { vars = with_all v bytes old; code = None }
 all_or_refused v (Err code) old = unassigned code old
 
-abbrev pub sorted : ArraySort → VarsState → Assigned
-sorted m old = all_or_refused m.to (sorted_bytes m old.table) old
+abbrev pub sorted : ArraySort → Families → VarsState → Assigned
+sorted m f old = all_or_refused m.to.var (sorted_bytes m f) old
 
 -- as one alpha assignment
-abbrev pub copied : ArrayCopy → VarsState → Assigned
-copied m old = record { vars = with_all m.to (padded (length (bytes_of m.to old.table)) (bytes_of m.of old.table)) old; code = None }
+abbrev pub bytes_copied : ArrayCopy → Families → List ℕ
+bytes_copied m f = padded (length (all_bytes m.to f)) (all_bytes m.of f)
 
-abbrev pub works_found : {A : Type 0} → (A → VarsState → Assigned) → Result A ℕ → WorkState → WorkLeft
-works_found does (Ok asked) w = on_own (does asked w.own) w
-works_found does (Err code) w = refused code w
+abbrev pub copied : ArrayCopy → Families → VarsState → Assigned
+copied m f old = record { vars = with_all m.to.var (bytes_copied m f) old; code = None }
+
+abbrev pub moves_found : Result ArrayMove ℕ → WorkState → WorkLeft
+moves_found (Ok m) w = among m.to.global (moved m (families (surroundings_of w))) w
+moves_found (Err code) w = refused code w
+
+abbrev pub sorts_found : Result ArraySort ℕ → WorkState → WorkLeft
+sorts_found (Ok m) w = among m.to.global (sorted m (families (surroundings_of w))) w
+sorts_found (Err code) w = refused code w
+
+abbrev pub copies_found : Result ArrayCopy ℕ → WorkState → WorkLeft
+copies_found (Ok m) w = among m.to.global (copied m (families (surroundings_of w))) w
+copies_found (Err code) w = refused code w
 
 abbrev pub moves : Trees → WorkState → WorkLeft
-moves t w = works_found moved (move_in (context_of w) t) w
+moves t w = moves_found (move_in (context_of w) t) w
 
 abbrev pub sorts : Trees → WorkState → WorkLeft
-sorts t w = works_found sorted (sort_in (context_of w) t) w
+sorts t w = sorts_found (sort_in (context_of w) t) w
 
 abbrev pub copies : Trees → WorkState → WorkLeft
-copies t w = works_found copied (copy_in (context_of w) t) w
+copies t w = copies_found (copy_in (context_of w) t) w
 
 -- the bytes in a `Vec`
 abbrev pub byte_items : Vec ℕ → List ℕ

@@ -9,8 +9,6 @@ use Rattle.b2_atom.specs.Tree.{Trees}
 use Rattle.b2_atom.specs.Tree.Trees.{Put, In}
 use Rattle.b2_atom.specs.declared.words.TheConstants as word
 use Rattle.b2_rows.specs.Links.{first_code, token_code}
-use Rattle.b2_vars.specs.declared.name.Var.{Var}
-use Rattle.b2_vars.specs.Tables.{Table}
 use Rattle.b2_matrix.specs.declared.array.Fill.{Fill}
 use Rattle.b2_matrix.specs.declared.array.Fill.TheVariants as filled_with
 use Rattle.b2_matrix.specs.declared.combining.MatOp.{MatOp}
@@ -21,13 +19,14 @@ use Rattle.b2_expr.specs.Answers.{◌>>=◌}
 use Rattle.b2_expr.specs.Scope.{Context}
 use Rattle.b2_expr.specs.Value.{token_text, value}
 use Rattle.b2_expr.specs.declared.operators.Level.TheVariants as level
-use Rattle.b2_stmt_mat.specs.Arrays.{IsArrayOf, array_of}
+use Rattle.b2_receiver.specs.declared.receiver.Array.{Array}
+use Rattle.b2_stmt_mat.specs.Arrays.{Families, IsArrayIn, array_of}
 use Rattle.b2_stmt_mat.specs.declared.formulas.Formula.{Formula}
 use Rattle.b2_stmt_mat.specs.declared.formulas.Formula.TheVariants as formula
 use Rattle.b2_stmt_mat.specs.declared.formulas.MatrixAssignment.{MatrixAssignment}
 
 -- the array of numbers of a name
-abbrev pub matrix_named : Context → Token → Result Var ℕ
+abbrev pub matrix_named : Context → Token → Result Array ℕ
 matrix_named s name = array_of s.around false (token_text name)
 
 -- a multiple: the number, and then the array
@@ -55,7 +54,7 @@ filled_in s t = Err S20_VARIABLE
 abbrev pub op_of : ℕ → MatOp
 op_of c = if c == byte.asterisk then op.Mul else (if c == byte.plus then op.Add else op.Sub)
 
-abbrev pub second_in : Context → Var → Trees → Result Formula ℕ
+abbrev pub second_in : Context → Array → Trees → Result Formula ℕ
 second_in s b (In n sign (Put name end)) = matrix_named s name >>= (λ c. Ok (formula.Combined (op_of (first_code sign)) b c))
 second_in s b t = Err S20_VARIABLE
 
@@ -85,9 +84,9 @@ assignment_in s (Put mat (Put name (Put equals (In n a end)))) = matrix_named s 
 assignment_in s t = Err S20_VARIABLE
 
 -- the arrays that are named are there
-abbrev pub AreThere : Formula → Table → Type 0
-AreThere (formula.Scaled k b) t = IsArrayOf false b t
-AreThere (formula.Transposed b) t = IsArrayOf false b t
-AreThere (formula.Filled k d) t = Unit {0}
-AreThere (formula.Copied b) t = IsArrayOf false b t
-AreThere (formula.Combined o b c) t = IsArrayOf false b t × IsArrayOf false c t
+abbrev pub AreThere : Formula → Families → Type 0
+AreThere (formula.Scaled k b) f = IsArrayIn false b f
+AreThere (formula.Transposed b) f = IsArrayIn false b f
+AreThere (formula.Filled k d) f = Unit {0}
+AreThere (formula.Copied b) f = IsArrayIn false b f
+AreThere (formula.Combined o b c) f = IsArrayIn false b f × IsArrayIn false c f

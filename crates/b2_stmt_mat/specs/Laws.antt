@@ -7,7 +7,7 @@ use Rattle.b2_vars.specs.Tables.{IsVariable, VarsState, shape_at, variable_at}
 use Rattle.b2_vars.specs.declared.name.Var.{Var}
 use Rattle.b2_matalpha.specs.Elements.{element_at}
 use Rattle.b2_matalpha.specs.Sorts.{AreSorted}
-use Rattle.b2_stmt_mat.specs.Arrays.{IsArrayOf, bytes_of, matrix_of, named_bytes}
+use Rattle.b2_stmt_mat.specs.Arrays.{Families, IsArrayOf, bytes_of, matrix_of, named_bytes, only, own_array}
 use Rattle.b2_stmt_mat.specs.ByteArrays.{copied, moved, sorted}
 use Rattle.b2_stmt_mat.specs.Matrices.{matrix_assigned}
 use Rattle.b2_stmt_mat.specs.Redimensioning.{redimensioned}
@@ -22,10 +22,10 @@ use Rattle.b2_stmt_mat.specs.declared.searching.Search.{Search}
 
 -- MAT A=B, and MAT A=TRN(B)
 abbrev pub as_it_is : Var → Var → Mode → VarsState → Assigned
-as_it_is a b mode old = matrix_assigned (record { to = a; made_of = formula.Copied b }) mode old
+as_it_is a b mode old = matrix_assigned (record { to = own_array a; made_of = formula.Copied (own_array b) }) mode (only old) old
 
 abbrev pub transposed : Var → Var → Mode → VarsState → Assigned
-transposed a b mode old = matrix_assigned (record { to = a; made_of = formula.Transposed b }) mode old
+transposed a b mode old = matrix_assigned (record { to = own_array a; made_of = formula.Transposed (own_array b) }) mode (only old) old
 
 -- without a code A is then equal to B, element by element, and has its rows and its columns
 pub record IsEqualTo (a b : Var) (after : Assigned) (old : VarsState) : Type 0 where
@@ -45,10 +45,10 @@ TransposingIsUndone =
 
 -- MAT SORT A$() TO W$(),L$(), and MAT MOVE A$(),L$() TO B$()
 abbrev pub sort_by_locators : Var → Var → VarsState → Assigned
-sort_by_locators a l old = sorted (record { of = a; to = l }) old
+sort_by_locators a l old = sorted (record { of = own_array a; to = own_array l }) (only old) old
 
 abbrev pub move_by_locators : Var → Var → Var → VarsState → Assigned
-move_by_locators a l b old = moved (record { of = a; locators = l; to = b }) old
+move_by_locators a l b old = moved (record { of = own_array a; locators = own_array l; to = own_array b }) (only old) old
 
 -- elements that stand in the order of their bytes, and equal ones as they stood
 pub record StandInOrder (len : ℕ) (of after : List ℕ) : Type 0 where
@@ -72,9 +72,9 @@ abbrev pub LeavesOthers : Var → Assigned → VarsState → Type 0
 LeavesOthers v after old = (other : Var) → other ≢ v → map.get after.vars.table other ≡ map.get old.table other
 
 pub record ChangeOneArray : Type 0 where
-  pub assignments : (a : MatrixAssignment) (mode : Mode) (old : VarsState) → LeavesOthers a.to (matrix_assigned a mode old) old
-  pub redimensions : (r : Redimensioned) (old : VarsState) → LeavesOthers r.var (redimensioned r old) old
-  pub moves : (m : ArrayMove) (old : VarsState) → LeavesOthers m.to (moved m old) old
-  pub sorts : (m : ArraySort) (old : VarsState) → LeavesOthers m.to (sorted m old) old
-  pub copies : (m : ArrayCopy) (old : VarsState) → LeavesOthers m.to (copied m old) old
-  pub searches : (a : Search) (old : VarsState) → LeavesOthers a.to.element.var (searched a old) old
+  pub assignments : (a : MatrixAssignment) (mode : Mode) (f : Families) (old : VarsState) → LeavesOthers a.to.var (matrix_assigned a mode f old) old
+  pub redimensions : (r : Redimensioned) (old : VarsState) → LeavesOthers r.array.var (redimensioned r old) old
+  pub moves : (m : ArrayMove) (f : Families) (old : VarsState) → LeavesOthers m.to.var (moved m f old) old
+  pub sorts : (m : ArraySort) (f : Families) (old : VarsState) → LeavesOthers m.to.var (sorted m f old) old
+  pub copies : (m : ArrayCopy) (f : Families) (old : VarsState) → LeavesOthers m.to.var (copied m f old) old
+  pub searches : (a : Search) (f : Families) (old : VarsState) → LeavesOthers a.to.element.var (searched a f old) old

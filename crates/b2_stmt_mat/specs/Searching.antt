@@ -13,14 +13,14 @@ use Rattle.b2_expr.specs.Answers.{TextAnswer, ◌>>=◌}
 use Rattle.b2_expr.specs.Functions.{whole_between}
 use Rattle.b2_expr.specs.Scope.{Context}
 use Rattle.b2_expr.specs.Value.{context_of, text, token_text, value}
-use Rattle.b2_expr.specs.Workspace.{WorkState, WorkLeft}
+use Rattle.b2_expr.specs.Workspace.{WorkState, WorkLeft, refused, surroundings_of}
 use Rattle.b2_expr.specs.declared.operators.Level.TheVariants as level
-use Rattle.b2_receiver.specs.Assigning.{assigned_bytes, buffer_bytes, unassigned}
+use Rattle.b2_receiver.specs.Assigning.{assigned_bytes, buffer_bytes, is_global_buffer, unassigned}
+use Rattle.b2_receiver.specs.Receiving.{given_bytes}
 use Rattle.b2_receiver.specs.Receivers.{alpha_receiver, buffer}
 use Rattle.b2_receiver.specs.declared.receiver.AlphaReceiver.{AlphaReceiver}
 use Rattle.b2_receiver.specs.declared.receiver.Buffer.TheVariants as buffer_kind
-use Rattle.b2_stmt_mat.specs.Arrays.{named_bytes}
-use Rattle.b2_stmt_mat.specs.ByteArrays.{works_found}
+use Rattle.b2_stmt_mat.specs.Arrays.{Families, families, named_bytes, vars_of}
 use Rattle.b2_stmt_mat.specs.declared.searching.Search.{Search}
 
 -- by how many places the search goes on, 1 where none are written
@@ -42,15 +42,25 @@ places_of a bytes = if length a.want == 0 then [] else found_places (named_bytes
 abbrev pub receiver_bytes : AlphaReceiver → VarsState → TextAnswer
 receiver_bytes to old = buffer_bytes (buffer_kind.Value to) old >>= (λ bytes. Ok (padded to.portion.count bytes))
 
-abbrev pub found : Search → VarsState → TextAnswer
-found a old = buffer_bytes a.of old >>= (λ bytes. receiver_bytes a.to old >>= (λ into. Ok (received (places_of a bytes) into)))
+abbrev pub found : Search → Families → TextAnswer
+found a f =
+    buffer_bytes a.of (vars_of (is_global_buffer a.of) f) >>= (λ bytes. receiver_bytes a.to (vars_of a.to.element.global f) >>= (λ into. Ok (received (places_of a bytes) into)))
 
 abbrev pub given : AlphaReceiver → TextAnswer → VarsState → Assigned
 given to (Ok bytes) old = assigned_bytes to bytes old
 given to (Err code) old = unassigned code old
 
-abbrev pub searched : Search → VarsState → Assigned
-searched a old = given a.to (found a old) old
+-- the receiver takes them, or nothing changes
+abbrev pub given_found : Search → TextAnswer → WorkState → WorkLeft
+given_found a (Ok bytes) w = given_bytes a.to bytes w
+given_found a (Err code) w = refused code w
+
+abbrev pub searched : Search → Families → VarsState → Assigned
+searched a f old = given a.to (found a f) old
+
+abbrev pub searches_found : Result Search ℕ → WorkState → WorkLeft
+searches_found (Ok a) w = given_found a (found a (families (surroundings_of w))) w
+searches_found (Err code) w = refused code w
 
 abbrev pub searches : Trees → WorkState → WorkLeft
-searches t w = works_found searched (search_in (context_of w) t) w
+searches t w = searches_found (search_in (context_of w) t) w

@@ -1,5 +1,5 @@
 // Whole arrays among variables.
-ghost use Rattle.std.specs.Prelude.{◌≡◌, ◌<◌, true, false, length, get_or, drop, replicate, IfOk, OnOk, None};
+ghost use Rattle.std.specs.Prelude.{◌≡◌, ◌<◌, true, false, length, get_or, drop, replicate, IfOk, OnOk, Some};
 ghost use Rattle.b2_atom.specs.Leaves.{leaf_width};
 ghost use Rattle.b2_atom.specs.declared.words.Origin.TheVariants.{Atoms};
 ghost use Rattle.b2_rows.specs.Leaves.{is_leaf, leaf_bytes};
@@ -12,29 +12,42 @@ ghost use Rattle.b2_expr.specs.Reads.{Gives};
 ghost use Rattle.b2_expr.specs.Scope.{surroundings};
 ghost use Rattle.b2_receiver.specs.Receivers.{array_leaf, is_alpha_array};
 ghost use Rattle.b2_stmt_mat.specs.Arrays as spec;
-ghost use Rattle.b2_stmt_mat.specs.Arrays.{IsArrayOf, with_numbers};
+ghost use Rattle.b2_expr.specs.Workspace.{SameReferences, among, surroundings_of as seen_by, workspace};
+ghost use Rattle.b2_receiver.specs.Assigning.{unassigned};
+ghost use Rattle.b2_stmt_mat.specs.Arrays.{IfCode, IsArrayIn, IsArrayOf, all_bytes, families, with_numbers};
+ghost use Rattle.b2_stmt_mat.specs.ByteArrays.{with_all};
 
 use b2_atom::Cursor;
+use b2_base::codes::X77_NO_PARTITION;
 use b2_base::{Code, Fault, NoMemory};
 use b2_dec::{Dec, Kind};
-use b2_expr::Env;
+use b2_expr::{Env, Workspace, reached_after};
 use b2_matalpha::copy;
-use b2_receiver::array_named;
+use b2_receiver::{Array, array_named};
 use b2_vars::{Shape, Var, Vars};
 use std::alloc::Global;
 
 /// The array of the name at a text, and what stands after the name. P59 comes exactly where it isn't there.
 #[tactic(auto, using(crate::proofs::ArraysThere::array_there_so))]
-pub fn array_at<'t>(e: &Env<'_>, kind: Kind, text: &'t [u8]) -> Result<(Var, &'t [u8]), Code>
+pub fn array_at<'t>(e: &Env<'_>, kind: Kind, text: &'t [u8]) -> Result<(Array, &'t [u8]), Code>
     requires named { is_leaf (array_leaf kind) text.now ≡ true }
-    requires alone { (surroundings e.now).globals ≡ None }
     ensures array { Gives (spec.array_of (surroundings e.now) (is_alpha_array kind) (leaf_bytes (array_leaf kind) text.now)) (drop (leaf_width Atoms (array_leaf kind) text.now) text.now) result }
-    ensures there { IfOk result (λ p. IsArrayOf (is_alpha_array kind) p.0 (surroundings e.now).own.table) }
+    ensures there { IfOk result (λ p. IsArrayIn (is_alpha_array kind) p.0 (families (surroundings e.now))) }
 {
     let mut c = Cursor::over(text);
     match array_named(&mut c, kind, e) {
-        Ok(array) => Ok((array.var, c.rest())),
+        Ok(array) => Ok((array, c.rest())),
         Err(code) => Err(code),
+    }
+}
+
+/// The variables among which an array is. Where there are no `@` variables no array is among them, and the own stand for them.
+pub fn vars_of<'a>(e: &Env<'a>, global: bool) -> &'a Vars
+    ensures { result.now ≡ spec.vars_of global (families (surroundings e.now)) }
+{
+    match e.globals {
+        Some(vars) if global => vars,
+        _ => e.own,
     }
 }
 
@@ -170,4 +183,59 @@ pub fn put_bytes(vars: &mut Vars, v: Var, bytes: &[u8])
     ensures { vars.new ≡ with_bytes_of v 0 vars.old bytes.now }
 {
     vars.change_all(v, |all| copy(bytes, all));
+}
+
+/// Puts bytes in the place of all that an array has, wherever it is, with which a statement ends. Its code.
+#[tactic(auto, using(crate::proofs::Put::own_there, crate::proofs::Put::lent_there, crate::proofs::Put::own_bytes, crate::proofs::Put::lent_bytes))]
+pub fn put_all_bytes(
+    work: &mut Workspace<'_>,
+    to: &Array,
+    bytes: &[u8],
+    code: Option<Code>,
+) -> Option<Code>
+    requires there { IsArrayIn true to.now (families (seen_by (workspace work.old))) }
+    requires count { length bytes.now ≡ length (all_bytes to.now (families (seen_by (workspace work.old)))) }
+    ensures worked { record { work = workspace work.new; code = result } ≡ among to.now.global (λ old. record { vars = with_all to.now.var bytes.now old; code = code }) (workspace work.old) }
+    ensures same_references { SameReferences work.old work.new }
+{
+    if !to.global {
+        put_bytes(work.own, to.var, bytes);
+        return code;
+    }
+    if !work.found {
+        return Some(Code::known(X77_NO_PARTITION));
+    }
+    put_bytes(work.globals, to.var, bytes);
+    work.reached = reached_after(work.reached, &code);
+    code
+}
+
+/// A code with which nothing is assigned to an array. With what the statement ends.
+fn refuse(work: &mut Workspace<'_>, global: bool, code: Code) -> Option<Code>
+    ensures worked { record { work = workspace work.new; code = result } ≡ among global (λ old. unassigned code old) (workspace work.old) }
+    ensures same_references { SameReferences work.old work.new }
+{
+    if !global {
+        return Some(code);
+    }
+    if !work.found {
+        return Some(Code::known(X77_NO_PARTITION));
+    }
+    work.reached = reached_after(work.reached, &Some(code));
+    Some(code)
+}
+
+/// A fault with which nothing is assigned to an array. With what the statement ends, where memory didn't fail.
+pub fn refuse_fault(
+    work: &mut Workspace<'_>,
+    global: bool,
+    fault: Fault,
+) -> Result<Option<Code>, NoMemory>
+    ensures worked { IfOk result (λ code. IfCode fault (λ c. record { work = workspace work.new; code = code } ≡ among global (λ old. unassigned c old) (workspace work.old))) }
+    ensures same_references { SameReferences work.old work.new }
+{
+    match fault {
+        Fault::Code(code) => Ok(refuse(work, global, code)),
+        Fault::NoMemory => Err(NoMemory),
+    }
 }

@@ -1,5 +1,5 @@
 // The right sides of MAT: what an array of numbers is made of.
-ghost use Rattle.std.specs.Prelude.{◌≡◌, true, false, IfOk, None};
+ghost use Rattle.std.specs.Prelude.{◌≡◌, true, false, IfOk};
 ghost use Rattle.b2_base.specs.Lexical.{first};
 ghost use Rattle.b2_atom.specs.Grammar.{is_among};
 ghost use Rattle.b2_atom.specs.declared.rows.TheConstants as row;
@@ -7,7 +7,7 @@ ghost use Rattle.b2_atom.specs.declared.words.TheConstants as word;
 ghost use Rattle.b2_rows.specs.Rows.{is_part, tree_at};
 ghost use Rattle.b2_expr.specs.Scope.{surroundings};
 ghost use Rattle.b2_expr.specs.Value.{in_statement};
-ghost use Rattle.b2_stmt_mat.specs.Arrays.{IsArrayOf};
+ghost use Rattle.b2_stmt_mat.specs.Arrays.{IsArrayIn, families};
 ghost use Rattle.b2_stmt_mat.specs.Formulas as spec;
 ghost use Rattle.b2_stmt_mat.specs.Formulas.{AreThere};
 
@@ -19,28 +19,28 @@ use b2_dec::{Dec, Kind};
 use b2_dims::{Dimensions, dimensions_at, number_at};
 use b2_expr::Env;
 use b2_matrix::{Fill, MatOp};
+use b2_receiver::Array;
 use b2_rows::is_at;
-use b2_vars::Var;
 
 /// What an array of numbers is made of.
 #[derive(Clone, Copy)]
 pub enum Formula {
     /// A multiple of an array.
-    Scaled(Dec, Var),
+    Scaled(Dec, Array),
     /// An array transposed.
-    Transposed(Var),
+    Transposed(Array),
     /// Ones, zeros or the unit matrix, with the dimensions that are written.
     Filled(Fill, Option<Dimensions>),
     /// An array as it is.
-    Copied(Var),
+    Copied(Array),
     /// The sum, the difference or the product of two arrays.
-    Combined(MatOp, Var, Var),
+    Combined(MatOp, Array, Array),
 }
 
 /// What MAT asks for: the array that is assigned, and what it is made of.
 #[derive(Clone, Copy)]
 pub struct MatrixAssignment {
-    pub to: Var,
+    pub to: Array,
     pub made_of: Formula,
 }
 
@@ -48,9 +48,8 @@ pub struct MatrixAssignment {
 #[tactic(auto, using(crate::proofs::FormulaRows::scaled_sum, crate::proofs::FormulaRows::scaled_name, crate::proofs::FormulaRows::scaled_is))]
 fn scaled_at(e: &Env<'_>, text: &[u8]) -> Result<Formula, Code>
     requires part { is_part row.SCALED text.now ≡ true }
-    requires alone { (surroundings e.now).globals ≡ None }
     ensures made_of { result ≡ spec.scaled_in (in_statement (surroundings e.now)) (tree_at row.SCALED text.now) }
-    ensures there { IfOk result (λ f. AreThere f (surroundings e.now).own.table) }
+    ensures there { IfOk result (λ f. AreThere f (families (surroundings e.now))) }
 {
     let (k, after) = match number_at(e, rest_after(text, 1)) {
         Ok(found) => found,
@@ -66,9 +65,8 @@ fn scaled_at(e: &Env<'_>, text: &[u8]) -> Result<Formula, Code>
 #[tactic(auto, using(crate::proofs::FormulaRows::transposed_name, crate::proofs::FormulaRows::transposed_is))]
 fn transposed_at(e: &Env<'_>, text: &[u8]) -> Result<Formula, Code>
     requires part { is_part row.TRANSPOSED text.now ≡ true }
-    requires alone { (surroundings e.now).globals ≡ None }
     ensures made_of { result ≡ spec.transposed_in (in_statement (surroundings e.now)) (tree_at row.TRANSPOSED text.now) }
-    ensures there { IfOk result (λ f. AreThere f (surroundings e.now).own.table) }
+    ensures there { IfOk result (λ f. AreThere f (families (surroundings e.now))) }
 {
     match array_at(e, Kind::Number, rest_after(text, 1)) {
         Ok((array, _)) => Ok(Formula::Transposed(array)),
@@ -94,7 +92,7 @@ fn fill_of(word: u8) -> Fill
 fn filled_at(e: &Env<'_>, text: &[u8]) -> Result<Formula, Code>
     requires part { is_part row.FILLED text.now ≡ true }
     ensures made_of { result ≡ spec.filled_in (in_statement (surroundings e.now)) (tree_at row.FILLED text.now) }
-    ensures there { IfOk result (λ f. AreThere f (surroundings e.now).own.table) }
+    ensures there { IfOk result (λ f. AreThere f (families (surroundings e.now))) }
 {
     let with = fill_of(first(text));
     let after = rest_after(text, 1);
@@ -120,12 +118,11 @@ fn op_of(sign: u8) -> MatOp
 
 /// The second array of a sum, a difference or a product, after its sign.
 #[tactic(auto, using(crate::proofs::FormulaRows::second_name, crate::proofs::FormulaRows::second_is))]
-fn second_at(e: &Env<'_>, b: Var, text: &[u8]) -> Result<Formula, Code>
+fn second_at(e: &Env<'_>, b: Array, text: &[u8]) -> Result<Formula, Code>
     requires part { is_part row.SECOND_MATRIX text.now ≡ true }
-    requires alone { (surroundings e.now).globals ≡ None }
-    requires first { IsArrayOf false b (surroundings e.now).own.table }
+    requires first { IsArrayIn false b (families (surroundings e.now)) }
     ensures made_of { result ≡ spec.second_in (in_statement (surroundings e.now)) b (tree_at row.SECOND_MATRIX text.now) }
-    ensures there { IfOk result (λ f. AreThere f (surroundings e.now).own.table) }
+    ensures there { IfOk result (λ f. AreThere f (families (surroundings e.now))) }
 {
     match array_at(e, Kind::Number, rest_after(text, 1)) {
         Ok((c, _)) => Ok(Formula::Combined(op_of(first(text)), b, c)),
@@ -144,9 +141,8 @@ fn has_second(text: &[u8]) -> bool
 #[tactic(auto, using(crate::proofs::FormulaRows::first_name, crate::proofs::FormulaRows::first_refused, crate::proofs::FormulaRows::second_here, crate::proofs::FormulaRows::one_is, crate::proofs::FormulaRows::two_are))]
 fn matrices_at(e: &Env<'_>, text: &[u8]) -> Result<Formula, Code>
     requires part { is_part row.MATRICES text.now ≡ true }
-    requires alone { (surroundings e.now).globals ≡ None }
     ensures made_of { result ≡ spec.matrices_in (in_statement (surroundings e.now)) (tree_at row.MATRICES text.now) }
-    ensures there { IfOk result (λ f. AreThere f (surroundings e.now).own.table) }
+    ensures there { IfOk result (λ f. AreThere f (families (surroundings e.now))) }
 {
     let (array, after) = match array_at(e, Kind::Number, text) {
         Ok(found) => found,
@@ -170,9 +166,8 @@ fn is_constant_at(text: &[u8]) -> bool
 #[tactic(auto, using(crate::proofs::FormulaRows::constant_here, crate::proofs::FormulaRows::constant_is, crate::proofs::FormulaRows::matrices_here, crate::proofs::FormulaRows::matrices_are))]
 fn but_transposed_at(e: &Env<'_>, text: &[u8]) -> Result<Formula, Code>
     requires part { is_part row.MATRIX_BUT_TRANSPOSED text.now ≡ true }
-    requires alone { (surroundings e.now).globals ≡ None }
     ensures made_of { result ≡ spec.but_transposed_in (in_statement (surroundings e.now)) (tree_at row.MATRIX_BUT_TRANSPOSED text.now) }
-    ensures there { IfOk result (λ f. AreThere f (surroundings e.now).own.table) }
+    ensures there { IfOk result (λ f. AreThere f (families (surroundings e.now))) }
 {
     if is_constant_at(text) {
         filled_at(e, text)
@@ -185,9 +180,8 @@ fn but_transposed_at(e: &Env<'_>, text: &[u8]) -> Result<Formula, Code>
 #[tactic(auto, using(crate::proofs::FormulaRows::trn_here, crate::proofs::FormulaRows::trn_is, crate::proofs::FormulaRows::no_trn_here, crate::proofs::FormulaRows::no_trn_is))]
 fn but_scaled_at(e: &Env<'_>, text: &[u8]) -> Result<Formula, Code>
     requires part { is_part row.MATRIX_BUT_SCALED text.now ≡ true }
-    requires alone { (surroundings e.now).globals ≡ None }
     ensures made_of { result ≡ spec.but_scaled_in (in_statement (surroundings e.now)) (tree_at row.MATRIX_BUT_SCALED text.now) }
-    ensures there { IfOk result (λ f. AreThere f (surroundings e.now).own.table) }
+    ensures there { IfOk result (λ f. AreThere f (families (surroundings e.now))) }
 {
     if is_at(TRN_OPEN, text) {
         transposed_at(e, text)
@@ -200,10 +194,9 @@ fn but_scaled_at(e: &Env<'_>, text: &[u8]) -> Result<Formula, Code>
 #[tactic(auto, using(crate::proofs::FormulaRows::result_name, crate::proofs::FormulaRows::result_refused, crate::proofs::FormulaRows::multiple_here, crate::proofs::FormulaRows::multiple_is, crate::proofs::FormulaRows::no_multiple_here, crate::proofs::FormulaRows::no_multiple_is))]
 pub fn assignment_at(e: &Env<'_>, unit: &[u8]) -> Result<MatrixAssignment, Code>
     requires part { is_part row.MAT unit.now ≡ true }
-    requires alone { (surroundings e.now).globals ≡ None }
     ensures asked { result ≡ spec.assignment_in (in_statement (surroundings e.now)) (tree_at row.MAT unit.now) }
-    ensures to { IfOk result (λ a. IsArrayOf false a.to (surroundings e.now).own.table) }
-    ensures there { IfOk result (λ a. AreThere a.made_of (surroundings e.now).own.table) }
+    ensures to { IfOk result (λ a. IsArrayIn false a.to (families (surroundings e.now))) }
+    ensures there { IfOk result (λ a. AreThere a.made_of (families (surroundings e.now))) }
 {
     let (to, after) = match array_at(e, Kind::Number, rest_after(unit, 1)) {
         Ok(found) => found,

@@ -4,24 +4,25 @@ ghost use Rattle.b2_atom.specs.declared.rows.TheConstants as row;
 ghost use Rattle.b2_rows.specs.Rows.{is_part, tree_at};
 ghost use Rattle.b2_vars.specs.Shapes.{cells, has_dimensions};
 ghost use Rattle.b2_vars.specs.Tables.{shape_at, variable_at};
-ghost use Rattle.b2_expr.specs.Workspace.{workspace};
+ghost use Rattle.b2_expr.specs.Scope.{surroundings};
+ghost use Rattle.b2_expr.specs.Workspace.{SameReferences, among, surroundings_of as seen_by, workspace};
 ghost use Rattle.b2_matrix.specs.Answers as answers;
 ghost use Rattle.b2_matrix.specs.Answers.{suit};
 ghost use Rattle.b2_matrix.specs.Arrays.{columns_of, elements, multiples};
-ghost use Rattle.b2_stmt_mat.specs.Arrays.{AnswersBy, IsArrayOf, lent_as, matrix_of};
+ghost use Rattle.b2_stmt_mat.specs.Arrays.{AnswersBy, IsArrayIn, IsArrayOf, families, lent_as, matrix_of, shape_in, vars_of as vars_in};
 ghost use Rattle.b2_stmt_mat.specs.Formulas.{AreThere};
 ghost use Rattle.b2_stmt_mat.specs.Matrices as spec;
 ghost use Rattle.b2_stmt_mat.specs.Matrices.{items_seen, made_seen};
 
-use crate::arrays::{cell_count, numbers_of, put_numbers, shape_of, zeros};
+use crate::arrays::{cell_count, numbers_of, put_numbers, refuse_fault, shape_of, vars_of, zeros};
 use crate::formulas::{Formula, MatrixAssignment, assignment_at};
-use b2_base::codes::{P43_SHAPES, P45_OPERAND_IS_RESULT, P50_DIMENSION};
+use b2_base::codes::{P43_SHAPES, P45_OPERAND_IS_RESULT, P50_DIMENSION, X77_NO_PARTITION};
 use b2_base::{Code, Fault, NoMemory};
 use b2_dec::{Dec, Mode};
 use b2_dims::Dimensions;
-use b2_expr::{Workspace, surroundings_of};
+use b2_expr::{Env, Workspace, reached_after, surroundings_of};
 use b2_matrix::{Fill, Mat, MatOp, combine, fill, scale, transpose};
-use b2_receiver::code_of_fault;
+use b2_receiver::Array;
 use b2_vars::{LONGEST_ARRAY, Shape, Var, Vars, WIDEST_ARRAY};
 use std::alloc::Global;
 
@@ -33,19 +34,20 @@ pub struct MadeMatrix {
 }
 
 /// Whether two names are those of one array of numbers.
-fn is_same_array(a: Var, b: Var) -> bool
+fn is_same_array(a: Array, b: Array) -> bool
     ensures { result ≡ spec.is_same_array a b }
 {
-    a.letter == b.letter
-        && match (a.digit, b.digit) {
+    a.var.letter == b.var.letter
+        && match (a.var.digit, b.var.digit) {
             (None, None) => true,
             (Some(x), Some(y)) => x == y,
             _ => false,
         }
+        && a.global == b.global
 }
 
 /// Whether the result is an operand of a product or of TRN.
-fn is_own_operand(made_of: &Formula, to: Var) -> bool
+fn is_own_operand(made_of: &Formula, to: Array) -> bool
     ensures { result ≡ spec.is_own_operand made_of.now to }
 {
     match made_of {
@@ -72,13 +74,21 @@ fn suit(op: MatOp, b: Shape, c: Shape) -> bool
     }
 }
 
+/// The shape of an array that is there.
+fn shape_found(e: &Env<'_>, array: &Array) -> Shape
+    requires there { IsArrayIn false array.now (families (surroundings e.now)) }
+    ensures { result ≡ shape_in array.now (families (surroundings e.now)) }
+{
+    shape_of(vars_of(e, array.global), array.var)
+}
+
 /// Whether the shapes of the arrays of a right side don't go together.
-fn differs(vars: &Vars, made_of: &Formula) -> bool
-    requires there { AreThere made_of.now vars.now.table }
-    ensures { result ≡ spec.differs made_of.now vars.now.table }
+fn differs(e: &Env<'_>, made_of: &Formula) -> bool
+    requires there { AreThere made_of.now (families (surroundings e.now)) }
+    ensures { result ≡ spec.differs made_of.now (families (surroundings e.now)) }
 {
     match made_of {
-        Formula::Combined(op, b, c) => !suit(*op, shape_of(vars, *b), shape_of(vars, *c)),
+        Formula::Combined(op, b, c) => { !suit(*op, shape_found(e, b), shape_found(e, c)) },
         _ => false,
     }
 }
@@ -117,18 +127,18 @@ fn transposed_dimensions(b: Shape) -> Dimensions
 }
 
 /// The dimensions of the result.
-fn dimensions_made(vars: &Vars, made_of: &Formula, to: Var) -> Dimensions
-    requires to { IsArrayOf false to vars.now.table }
-    requires there { AreThere made_of.now vars.now.table }
-    ensures { result ≡ spec.dimensions_made made_of.now to vars.now.table }
+fn dimensions_made(e: &Env<'_>, made_of: &Formula, to: Array) -> Dimensions
+    requires to { IsArrayIn false to (families (surroundings e.now)) }
+    requires there { AreThere made_of.now (families (surroundings e.now)) }
+    ensures { result ≡ spec.dimensions_made made_of.now to (families (surroundings e.now)) }
 {
     match made_of {
-        Formula::Scaled(_, b) | Formula::Copied(b) => dimensions_of(shape_of(vars, *b)),
-        Formula::Transposed(b) => transposed_dimensions(shape_of(vars, *b)),
+        Formula::Scaled(_, b) | Formula::Copied(b) => dimensions_of(shape_found(e, b)),
+        Formula::Transposed(b) => transposed_dimensions(shape_found(e, b)),
         Formula::Filled(_, Some(dimensions)) => *dimensions,
-        Formula::Filled(_, None) => dimensions_of(shape_of(vars, to)),
+        Formula::Filled(_, None) => dimensions_of(shape_found(e, &to)),
         Formula::Combined(op, b, c) => {
-            combined_dimensions(*op, shape_of(vars, *b), shape_of(vars, *c))
+            combined_dimensions(*op, shape_found(e, b), shape_found(e, c))
         }
     }
 }
@@ -158,22 +168,22 @@ fn is_allowed(to: Var, shape: Shape) -> bool
 }
 
 /// The code that comes before any number is made: P45, P43, P50 and P43, in this order.
-fn refusal(vars: &Vars, asked: &MatrixAssignment, shape: Shape) -> Option<Code>
-    requires to { IsArrayOf false asked.now.to vars.now.table }
-    requires there { AreThere asked.now.made_of vars.now.table }
-    requires shape { shape ≡ spec.shape_with (spec.dimensions_made asked.now.made_of asked.now.to vars.now.table) }
-    ensures { result ≡ spec.refusal asked.now.made_of asked.now.to vars.now.table }
+fn refusal(e: &Env<'_>, asked: &MatrixAssignment, shape: Shape) -> Option<Code>
+    requires to { IsArrayIn false asked.now.to (families (surroundings e.now)) }
+    requires there { AreThere asked.now.made_of (families (surroundings e.now)) }
+    requires shape { shape ≡ spec.shape_with (spec.dimensions_made asked.now.made_of asked.now.to (families (surroundings e.now))) }
+    ensures { result ≡ spec.refusal asked.now.made_of asked.now.to (families (surroundings e.now)) }
 {
     if is_own_operand(&asked.made_of, asked.to) {
         return Some(Code::known(P45_OPERAND_IS_RESULT));
     }
-    if differs(vars, &asked.made_of) {
+    if differs(e, &asked.made_of) {
         return Some(Code::known(P43_SHAPES));
     }
-    if !is_allowed(asked.to, shape) {
+    if !is_allowed(asked.to.var, shape) {
         return Some(Code::known(P50_DIMENSION));
     }
-    if cell_count(shape_of(vars, asked.to)) < cell_count(shape) {
+    if cell_count(shape_found(e, &asked.to)) < cell_count(shape) {
         return Some(Code::known(P43_SHAPES));
     }
     None
@@ -267,25 +277,26 @@ fn combine_into(
     }
 }
 
-/// The numbers of a sum, a difference or a product, or the first code along rows.
+/// The numbers of a sum, a difference or a product of an array among some variables with one among others, or the first code along rows.
 #[tactic(auto, using(crate::proofs::MadeOf::whole_array))]
 fn numbers_combined(
     alloc: Global,
-    vars: &Vars,
+    of: &Vars,
+    with: &Vars,
     op: MatOp,
     b: Var,
     c: Var,
     mode: Mode,
 ) -> Result<Vec<Dec>, Fault>
-    requires first { IsArrayOf false b vars.now.table }
-    requires second { IsArrayOf false c vars.now.table }
-    requires suit { suit op (matrix_of b vars.now.table) (matrix_of c vars.now.table) ≡ true }
-    ensures made { AnswersBy items_seen (spec.all_made (elements op mode (matrix_of b vars.now.table) (matrix_of c vars.now.table))) result }
-    ensures count { IfOk result (λ into. length into.items ≡ (shape_at b vars.now.table).rows * columns_of (shape_at c vars.now.table).cols) }
+    requires first { IsArrayOf false b of.now.table }
+    requires second { IsArrayOf false c with.now.table }
+    requires suit { suit op (matrix_of b of.now.table) (matrix_of c with.now.table) ≡ true }
+    ensures made { AnswersBy items_seen (spec.all_made (elements op mode (matrix_of b of.now.table) (matrix_of c with.now.table))) result }
+    ensures count { IfOk result (λ into. length into.items ≡ (shape_at b of.now.table).rows * columns_of (shape_at c with.now.table).cols) }
 {
-    let (first, second) = (shape_of(vars, b), shape_of(vars, c));
-    let firsts = numbers_of(alloc, vars, b)?;
-    let seconds = numbers_of(alloc, vars, c)?;
+    let (first, second) = (shape_of(of, b), shape_of(with, c));
+    let firsts = numbers_of(alloc, of, b)?;
+    let seconds = numbers_of(alloc, with, c)?;
     let mut into = zeros(
         alloc,
         usize::from(first.rows) * usize::from(width_of(second)),
@@ -299,45 +310,53 @@ fn numbers_combined(
 /// The numbers of the result along rows, or the first code of them.
 fn numbers_made(
     alloc: Global,
-    vars: &Vars,
+    e: &Env<'_>,
     asked: &MatrixAssignment,
     shape: Shape,
     mode: Mode,
 ) -> Result<Vec<Dec>, Fault>
-    requires there { AreThere asked.now.made_of vars.now.table }
-    requires suit { spec.differs asked.now.made_of vars.now.table ≡ false }
+    requires there { AreThere asked.now.made_of (families (surroundings e.now)) }
+    requires suit { spec.differs asked.now.made_of (families (surroundings e.now)) ≡ false }
     requires rows { 0 < shape.rows }
-    requires shape { shape ≡ spec.shape_with (spec.dimensions_made asked.now.made_of asked.now.to vars.now.table) }
-    ensures made { AnswersBy items_seen (spec.numbers_made asked.now.made_of (record { rows = shape.rows; cols = shape.cols }) mode vars.now.table) result }
+    requires shape { shape ≡ spec.shape_with (spec.dimensions_made asked.now.made_of asked.now.to (families (surroundings e.now))) }
+    ensures made { AnswersBy items_seen (spec.numbers_made asked.now.made_of (record { rows = shape.rows; cols = shape.cols }) mode (families (surroundings e.now))) result }
     ensures count { IfOk result (λ numbers. length numbers.items ≡ cells shape) }
 {
     match &asked.made_of {
-        Formula::Scaled(k, b) => numbers_scaled(alloc, vars, *k, *b, mode),
-        Formula::Transposed(b) => Ok(numbers_transposed(alloc, vars, *b)?),
+        Formula::Scaled(k, b) => { numbers_scaled(alloc, vars_of(e, b.global), *k, b.var, mode) },
+        Formula::Transposed(b) => { Ok(numbers_transposed(alloc, vars_of(e, b.global), b.var)?) },
         Formula::Filled(with, _) => numbers_filled(alloc, *with, shape),
-        Formula::Copied(b) => Ok(numbers_of(alloc, vars, *b)?),
-        Formula::Combined(op, b, c) => numbers_combined(alloc, vars, *op, *b, *c, mode),
+        Formula::Copied(b) => Ok(numbers_of(alloc, vars_of(e, b.global), b.var)?),
+        Formula::Combined(op, b, c) => numbers_combined(
+            alloc,
+            vars_of(e, b.global),
+            vars_of(e, c.global),
+            *op,
+            b.var,
+            c.var,
+            mode,
+        ),
     }
 }
 
 /// What MAT makes, or its first code after those of what is written.
 fn matrix_made(
     alloc: Global,
-    vars: &Vars,
+    e: &Env<'_>,
     asked: &MatrixAssignment,
     mode: Mode,
 ) -> Result<MadeMatrix, Fault>
-    requires to { IsArrayOf false asked.now.to vars.now.table }
-    requires there { AreThere asked.now.made_of vars.now.table }
-    ensures made { AnswersBy made_seen (spec.made_of asked.now mode vars.now.table) result }
-    ensures room { IfOk result (λ made. spec.HasRoom asked.now.to (made_seen made) vars.now.table) }
+    requires to { IsArrayIn false asked.now.to (families (surroundings e.now)) }
+    requires there { AreThere asked.now.made_of (families (surroundings e.now)) }
+    ensures made { AnswersBy made_seen (spec.made_of asked.now mode (families (surroundings e.now))) result }
+    ensures room { IfOk result (λ made. spec.HasRoom asked.now.to.var (made_seen made) (vars_in asked.now.to.global (families (surroundings e.now))).table) }
 {
-    let dimensions = dimensions_made(vars, &asked.made_of, asked.to);
+    let dimensions = dimensions_made(e, &asked.made_of, asked.to);
     let shape = shape_with(dimensions);
-    if let Some(code) = refusal(vars, asked, shape) {
+    if let Some(code) = refusal(e, asked, shape) {
         return Err(Fault::Code(code));
     }
-    let numbers = numbers_made(alloc, vars, asked, shape, mode)?;
+    let numbers = numbers_made(alloc, e, asked, shape, mode)?;
     Ok(MadeMatrix {
         dimensions,
         numbers,
@@ -357,23 +376,46 @@ fn put_made(vars: &mut Vars, to: Var, made: &MadeMatrix) -> Result<(), NoMemory>
     }
 }
 
+/// Gives an array what was made, wherever it is. The code with which that ended, or none.
+#[tactic(auto, using(crate::proofs::Put::own_there, crate::proofs::Put::lent_there, crate::proofs::Put::own_room, crate::proofs::Put::lent_room))]
+fn put_matrix(
+    work: &mut Workspace<'_>,
+    to: &Array,
+    made: &MadeMatrix,
+) -> Result<Option<Code>, NoMemory>
+    requires to { IsArrayIn false to.now (families (seen_by (workspace work.old))) }
+    requires room { spec.HasRoom to.now.var (made_seen made.now) (vars_in to.now.global (families (seen_by (workspace work.old)))).table }
+    ensures worked { IfOk result (λ code. record { work = workspace work.new; code = code } ≡ among to.now.global (λ old. record { vars = spec.with_made to.now.var (made_seen made.now) old; code = None }) (workspace work.old)) }
+    ensures same_references { SameReferences work.old work.new }
+{
+    if !to.global {
+        put_made(work.own, to.var, made)?;
+        return Ok(None);
+    }
+    if !work.found {
+        return Ok(Some(Code::known(X77_NO_PARTITION)));
+    }
+    put_made(work.globals, to.var, made)?;
+    work.reached = reached_after(work.reached, &None);
+    Ok(None)
+}
+
 /// Assigns what is asked for. The code with which that ended, or none.
+#[tactic(auto, using(crate::proofs::Put::made_refused))]
 fn assign_asked(
     alloc: Global,
     work: &mut Workspace<'_>,
     asked: &MatrixAssignment,
 ) -> Result<Option<Code>, NoMemory>
-    requires to { IsArrayOf false asked.now.to (workspace work.old).own.table }
-    requires there { AreThere asked.now.made_of (workspace work.old).own.table }
+    requires to { IsArrayIn false asked.now.to (families (seen_by (workspace work.old))) }
+    requires there { AreThere asked.now.made_of (families (seen_by (workspace work.old))) }
     ensures worked { IfOk result (λ code. record { work = workspace work.new; code = code } ≡ spec.assigns_found (Ok asked.now) (workspace work.old)) }
-    ensures same_reference { work.new.own.ghost_name ≡ work.old.own.ghost_name }
+    ensures same_references { SameReferences work.old work.new }
 {
-    let made = match matrix_made(alloc, work.own, asked, work.setting.mode) {
-        Ok(made) => made,
-        Err(fault) => return code_of_fault(fault),
-    };
-    put_made(work.own, asked.to, &made)?;
-    Ok(None)
+    match matrix_made(alloc, &surroundings_of(work), asked, work.setting.mode) {
+        Ok(made) => put_matrix(work, &asked.to, &made),
+        Err(fault) => refuse_fault(work, asked.to.global, fault),
+    }
 }
 
 /// MAT: assigns what is made of arrays of numbers to one. The code with which that ended, or none; with one nothing changed.
@@ -384,7 +426,7 @@ pub fn assign_matrix(
 ) -> Result<Option<Code>, NoMemory>
     requires part { is_part row.MAT unit.now ≡ true }
     ensures worked { IfOk result (λ code. record { work = workspace work.new; code = code } ≡ spec.assigns (tree_at row.MAT unit.now) (workspace work.old)) }
-    ensures same_reference { work.new.own.ghost_name ≡ work.old.own.ghost_name }
+    ensures same_references { SameReferences work.old work.new }
 {
     match assignment_at(&surroundings_of(work), unit) {
         Ok(asked) => assign_asked(alloc, work, &asked),

@@ -9,10 +9,12 @@ ghost use Rattle.b2_receiver.specs.Receivers.{IsAlpha, IsBuffer};
 ghost use Rattle.b2_expr.specs.Scope.{surroundings};
 ghost use Rattle.b2_expr.specs.Value.{in_statement};
 ghost use Rattle.b2_expr.specs.Functions.{within};
-ghost use Rattle.b2_expr.specs.Workspace.{on_own, workspace};
+ghost use Rattle.b2_expr.specs.Workspace.{SameReferences, workspace};
 ghost use Rattle.b2_matalpha.specs.Locators.{received};
+ghost use Rattle.b2_stmt_mat.specs.Arrays.{families};
 ghost use Rattle.b2_stmt_mat.specs.Searching as spec;
 
+use crate::arrays::vars_of;
 use crate::byte_arrays::NAMED_BYTES;
 use b2_alpha::{Rel, assign};
 use b2_atom::words::STEP;
@@ -26,7 +28,6 @@ use b2_expr::{Env, Workspace, alpha, surroundings_of};
 use b2_matalpha::search;
 use b2_receiver::{AlphaReceiver, Buffer, alpha_receiver, buffer, buffer_bytes, give_bytes};
 use b2_rows::{is_at, relation_at};
-use b2_vars::Vars;
 
 /// Room for as many bytes as a receiver may name.
 const ROOM: usize = 255;
@@ -127,18 +128,21 @@ fn search_bytes(asked: &Search, bytes: &[u8], into: &mut [u8])
 }
 
 /// The bytes of a receiver with the places that are found at their front.
-fn found_bytes(vars: &Vars, asked: &Search, into: &mut [u8]) -> Result<(), Code>
+fn found_bytes(e: &Env<'_>, asked: &Search, into: &mut [u8]) -> Result<(), Code>
     requires of { IsBuffer asked.now.of }
     requires to { IsAlpha asked.now.to.element.var }
     requires step { 0 < asked.now.step }
     requires count { length into.old ≡ asked.now.to.portion.count }
-    ensures { MatchResult result (λ done. spec.found asked.now vars.now ≡ Ok into.new) (λ code. spec.found asked.now vars.now ≡ Err code) }
+    ensures { MatchResult result (λ done. spec.found asked.now (families (surroundings e.now)) ≡ Ok into.new) (λ code. spec.found asked.now (families (surroundings e.now)) ≡ Err code) }
 {
-    let bytes = match buffer_bytes(vars, &asked.of) {
+    let bytes = match buffer_bytes(vars_of(e, asked.of.is_global()), &asked.of) {
         Ok(bytes) => bytes,
         Err(code) => return Err(code),
     };
-    match buffer_bytes(vars, &Buffer::Value(asked.to)) {
+    match buffer_bytes(
+        vars_of(e, asked.to.element.global),
+        &Buffer::Value(asked.to),
+    ) {
         Ok(old) => assign(into, old),
         Err(code) => return Err(code),
     }
@@ -151,12 +155,12 @@ fn search_asked(work: &mut Workspace<'_>, asked: &Search) -> Result<Option<Code>
     requires of { IsBuffer asked.now.of }
     requires to { IsAlpha asked.now.to.element.var }
     requires step { 0 < asked.now.step }
-    ensures worked { IfOk result (λ code. record { work = workspace work.new; code = code } ≡ on_own (spec.searched asked.now (workspace work.old).own) (workspace work.old)) }
-    ensures same_reference { work.new.own.ghost_name ≡ work.old.own.ghost_name }
+    ensures worked { IfOk result (λ code. record { work = workspace work.new; code = code } ≡ spec.searches_found (Ok asked.now) (workspace work.old)) }
+    ensures same_references { SameReferences work.old work.new }
 {
     let mut room = [b' '; ROOM];
     let into = &mut room[..usize::from(asked.to.portion.count)];
-    match found_bytes(work.own, asked, into) {
+    match found_bytes(&surroundings_of(work), asked, into) {
         Ok(()) => give_bytes(work, &asked.to, into),
         Err(code) => Ok(Some(code)),
     }
@@ -166,7 +170,7 @@ fn search_asked(work: &mut Workspace<'_>, asked: &Search) -> Result<Option<Code>
 pub fn search_array(work: &mut Workspace<'_>, unit: &[u8]) -> Result<Option<Code>, NoMemory>
     requires part { is_part row.MAT_SEARCH unit.now ≡ true }
     ensures worked { IfOk result (λ code. record { work = workspace work.new; code = code } ≡ spec.searches (tree_at row.MAT_SEARCH unit.now) (workspace work.old)) }
-    ensures same_reference { work.new.own.ghost_name ≡ work.old.own.ghost_name }
+    ensures same_references { SameReferences work.old work.new }
 {
     match search_at(&surroundings_of(work), unit) {
         Ok(asked) => search_asked(work, &asked),

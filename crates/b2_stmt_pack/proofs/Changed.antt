@@ -1,5 +1,5 @@
 -- What a call that changes the bytes of a buffer leaves, by what it makes of them.
-use Rattle.std.proofs.Common.{◌≡◌, ℕ, ◌+◌, ◌-◌, List, take, length, Option, None, Result, Ok, Err, sym, ap, ◌∙◌, arith}
+use Rattle.std.proofs.Common.{◌≡◌, ℕ, ◌+◌, ◌-◌, ◌||◌, Bool, List, take, length, Option, None, Result, Ok, Err, sym, ap, ◌∙◌, arith}
 use Rattle.std.proofs.Math.Seq.{take-length}
 use Rattle.std.specs.Prelude.{OnOk, OnErr, Some}
 use Rattle.std.specs.Result.{result_err}
@@ -14,7 +14,8 @@ use Rattle.b2_receiver.specs.Assigning.{ChangesBuffer, EndsWith, buffer_code, re
 use Rattle.b2_receiver.specs.declared.receiver.Buffer.{Buffer}
 use Rattle.b2_receiver.specs.declared.receiver.Buffer.TheVariants as buffer_kind
 use Rattle.b2_vars.specs.Assigned.{Assigned}
-use Rattle.b2_expr.specs.Workspace.{WorkState, on_own}
+use Rattle.b2_expr.specs.Workspace.{WorkState, counts_as_reached, on_globals, on_own}
+use Rattle.b2_receiver.proofs.Ended.{lent_by}
 use Rattle.b2_dec.specs.Number.{Number}
 use Rattle.b2_dec.specs.declared.values.Value.{Value}
 use Rattle.b2_pack.specs.Images.{image_row}
@@ -97,3 +98,41 @@ values_put spec vs gives to w new r ended room ok coded err ends is = packed_put
 
 pub values_refused : (spec : List ℕ) (vs : List Value) (to : Buffer) (w : WorkState) (c : ℕ) → room_code (fields_code spec vs) (room_in to w.own) ≡ Some c → record { work = w; code = Some c } ≡ on_own (values_packed spec vs to w.own) w
 values_refused spec vs to w c room = packed_refused (fields_code spec vs) (with_values (placed_fields spec) vs) to w c room
+
+-- so also among the `@` variables, with whether a receiver was reached
+packed_lent : (code : ℕ → Option ℕ) (change : List ℕ → List ℕ) (gives : List ℕ → List ℕ → Type 0) (to : Buffer) (w : WorkState) (old new : VarsState) (reached : Bool) (r : Result (Unit {0}) Fault) (ended : Option ℕ)
+    → room_code code (room_in to old) ≡ None → OnOk r (ChangesBuffer gives to old new) → AnswersOrFails (buffer_code to old) r → OnErr r (new ≡ old) → EndsWith r ended
+    → ((x y : List ℕ) → gives x y → y ≡ where_none (code (length x)) (change x) x) → reached ≡ (w.globals.reached || counts_as_reached ended)
+    → record { work = record w { globals = record { vars = Some new; reached = reached } }; code = ended } ≡ on_globals (packed_by code change to old) w
+packed_lent code change gives to w old new reached r ended room ok coded err ends is marks =
+    lent_by (packed_by code change to old) (record { vars = new; code = ended }) w reached marks
+    (changed_so (λ x. where_none (code (length x)) (change x) x) gives to old new r ended ok coded err ends is
+    ∙ sym (ap (λ (o : Option ℕ). unless_refused o old (bytes_changed (λ x. where_none (code (length x)) (change x) x) to old)) room))
+
+packed_kept : (code : ℕ → Option ℕ) (change : List ℕ → List ℕ) (to : Buffer) (w : WorkState) (old : VarsState) (reached : Bool) (c : ℕ) → room_code code (room_in to old) ≡ Some c
+    → reached ≡ (w.globals.reached || counts_as_reached (Some c)) → record { work = record w { globals = record { vars = Some old; reached = reached } }; code = Some c } ≡ on_globals (packed_by code change to old) w
+packed_kept code change to w old reached c room marks =
+    lent_by (packed_by code change to old) (record { vars = old; code = Some c }) w reached marks
+    (sym (ap (λ (o : Option ℕ). unless_refused o old (bytes_changed (λ x. where_none (code (length x)) (change x) x) to old)) room))
+
+pub numbers_lent : (image : List ℕ) (xs : List Number) (gives : List ℕ → List ℕ → Type 0) (to : Buffer) (w : WorkState) (old new : VarsState) (reached : Bool) (r : Result (Unit {0}) Fault) (ended : Option ℕ)
+    → room_code (image_code (image_row image) xs) (room_in to old) ≡ None → OnOk r (ChangesBuffer gives to old new) → AnswersOrFails (buffer_code to old) r → OnErr r (new ≡ old) → EndsWith r ended
+    → ((x y : List ℕ) → gives x y → y ≡ where_none (image_code (image_row image) xs (length x)) (with_image (image_row image) xs x) x) → reached ≡ (w.globals.reached || counts_as_reached ended)
+    → record { work = record w { globals = record { vars = Some new; reached = reached } }; code = ended } ≡ on_globals (numbers_packed image xs to old) w
+numbers_lent image xs gives to w old new reached r ended room ok coded err ends is marks =
+    packed_lent (image_code (image_row image) xs) (with_image (image_row image) xs) gives to w old new reached r ended room ok coded err ends is marks
+
+pub numbers_kept : (image : List ℕ) (xs : List Number) (to : Buffer) (w : WorkState) (old : VarsState) (reached : Bool) (c : ℕ) → room_code (image_code (image_row image) xs) (room_in to old) ≡ Some c
+    → reached ≡ (w.globals.reached || counts_as_reached (Some c)) → record { work = record w { globals = record { vars = Some old; reached = reached } }; code = Some c } ≡ on_globals (numbers_packed image xs to old) w
+numbers_kept image xs to w old reached c room marks = packed_kept (image_code (image_row image) xs) (with_image (image_row image) xs) to w old reached c room marks
+
+pub values_lent : (spec : List ℕ) (vs : List Value) (gives : List ℕ → List ℕ → Type 0) (to : Buffer) (w : WorkState) (old new : VarsState) (reached : Bool) (r : Result (Unit {0}) Fault) (ended : Option ℕ)
+    → room_code (fields_code spec vs) (room_in to old) ≡ None → OnOk r (ChangesBuffer gives to old new) → AnswersOrFails (buffer_code to old) r → OnErr r (new ≡ old) → EndsWith r ended
+    → ((x y : List ℕ) → gives x y → y ≡ where_none (fields_code spec vs (length x)) (with_values (placed_fields spec) vs x) x) → reached ≡ (w.globals.reached || counts_as_reached ended)
+    → record { work = record w { globals = record { vars = Some new; reached = reached } }; code = ended } ≡ on_globals (values_packed spec vs to old) w
+values_lent spec vs gives to w old new reached r ended room ok coded err ends is marks =
+    packed_lent (fields_code spec vs) (with_values (placed_fields spec) vs) gives to w old new reached r ended room ok coded err ends is marks
+
+pub values_kept : (spec : List ℕ) (vs : List Value) (to : Buffer) (w : WorkState) (old : VarsState) (reached : Bool) (c : ℕ) → room_code (fields_code spec vs) (room_in to old) ≡ Some c
+    → reached ≡ (w.globals.reached || counts_as_reached (Some c)) → record { work = record w { globals = record { vars = Some old; reached = reached } }; code = Some c } ≡ on_globals (values_packed spec vs to old) w
+values_kept spec vs to w old reached c room marks = packed_kept (fields_code spec vs) (with_values (placed_fields spec) vs) to w old reached c room marks

@@ -1,10 +1,11 @@
 -- What statements on packed fields change: the variable of a buffer, or those of receivers, and no other.
-use Rattle.std.proofs.Common.{◌≡◌, ◌≢◌, ℕ, false, List, [], ◌∷◌, length, Option, Some, None, Result, Ok, Err, refl, ◌∙◌}
+use Rattle.std.proofs.Common.{◌≡◌, ◌≢◌, ℕ, Bool, true, false, List, [], ◌∷◌, length, Option, Some, None, Result, Ok, Err, refl, ◌∙◌}
 use Rattle.std.specs.FinMap as map
 use Rattle.b2_dec.specs.Number.{Number}
 use Rattle.b2_dec.specs.declared.values.Value.{Value}
 use Rattle.b2_dec.specs.declared.values.Value.TheVariants as value
 use Rattle.b2_atom.specs.Tree.{Trees}
+use Rattle.b2_vars.specs.Assigned.{Assigned}
 use Rattle.b2_vars.specs.Calls.{made, set_code}
 use Rattle.b2_vars.specs.Shapes.{scalar_shape}
 use Rattle.b2_vars.specs.Tables.{Table, VarsState}
@@ -15,17 +16,19 @@ use Rattle.b2_pack.specs.Images.{image_row}
 use Rattle.b2_pack.specs.Packing.{fields_code, image_code, placed_fields, with_image, with_values}
 use Rattle.b2_expr.specs.Scope.{Context}
 use Rattle.b2_expr.specs.Value.{context_of}
-use Rattle.b2_expr.specs.Workspace.{WorkLeft, WorkState, then_works}
+use Rattle.b2_expr.specs.Kinds.{suits}
+use Rattle.b2_expr.specs.Workspace.{WorkLeft, WorkState, among, on_lent, then_works, unchanged}
 use Rattle.b2_expr.specs.declared.named.Element.{Element}
-use Rattle.b2_receiver.specs.Assigning.{assigned_value, buffer_code, receiver_code, unless_refused}
+use Rattle.b2_access.proofs.Choice.{either}
+use Rattle.b2_receiver.specs.Assigning.{assigned_number, assigned_value, buffer_code, is_alpha_receiver, is_global_receiver, receiver_code, unless_refused}
 use Rattle.b2_receiver.specs.Receivers.{any_receiver, number_receiver}
-use Rattle.b2_receiver.specs.Receiving.{number_to}
+use Rattle.b2_receiver.specs.Receiving.{given_value, number_to}
 use Rattle.b2_receiver.specs.declared.receiver.Buffer.{Buffer}
 use Rattle.b2_receiver.specs.declared.receiver.Buffer.TheVariants as buffer_kind
 use Rattle.b2_receiver.specs.declared.receiver.Receiver.{Receiver}
 use Rattle.b2_receiver.specs.declared.receiver.Receiver.TheVariants as receiver_kind
-use Rattle.b2_stmt_pack.specs.Buffers.{packed_by, room_code, room_in, where_none, with_changed}
-use Rattle.b2_stmt_pack.specs.Laws.{ChangeWhatIsNamed, IsNoneOf, Stays, buffer_name, receiver_name}
+use Rattle.b2_stmt_pack.specs.Buffers.{buffer_name, packed_by, room_code, room_in, where_none, with_changed}
+use Rattle.b2_stmt_pack.specs.Laws.{ChangeWhatIsNamed, IsNoneOf, Stays, receiver_name}
 use Rattle.b2_stmt_pack.specs.Lists.{each_takes, takes_number, takes_value, value_to}
 
 -- what is put under another name, or made there
@@ -78,8 +81,18 @@ each_elsewhere one located name other stays [] (t ∷ ts) w apart = refl
 each_elsewhere one located name other stays (x ∷ xs) (t ∷ ts) w apart =
     after_one other w (one x t w) (each_takes one ts xs) (stays x t w (λ to is. apart.0 (context_of w) to is)) (each_elsewhere one located name other stays xs ts (one x t w).work apart.1)
 
+-- an assignment among the `@` variables changes none of the own
+lent_elsewhere : (does : VarsState → Assigned) (other : Var) (w : WorkState) (o : Option VarsState) → Stays other w.own (on_lent does o w).work.own
+lent_elsewhere does other w None = refl
+lent_elsewhere does other w (Some vars) = refl
+
+among_elsewhere : (global : Bool) (does : VarsState → Assigned) (other : Var) (w : WorkState) → Stays other w.own (does w.own).vars → Stays other w.own (among global does w).work.own
+among_elsewhere true does other w stays = lent_elsewhere does other w w.globals.vars
+among_elsewhere false does other w stays = stays
+
 number_elsewhere : (other : Var) (x : Number) (r : Result Element ℕ) (w : WorkState) → ((to : Element) → r ≡ Ok to → other ≢ to.var) → Stays other w.own (number_to r (Ok x) w).work.own
-number_elsewhere other x (Ok e) w apart = unless_elsewhere (set_code e.var e.row e.column w.own) other w.own _ (reached_elsewhere e.var other _ w.own (apart e refl))
+number_elsewhere other x (Ok e) w apart =
+    among_elsewhere e.global (assigned_number e x) other w (unless_elsewhere (set_code e.var e.row e.column w.own) other w.own _ (reached_elsewhere e.var other _ w.own (apart e refl)))
 number_elsewhere other x (Err code) w apart = refl
 
 given_elsewhere : (other : Var) (to : Receiver) (x : Value) (old : VarsState) → other ≢ receiver_name to → Stays other old (assigned_value to x old).vars
@@ -89,7 +102,9 @@ given_elsewhere other (receiver_kind.Alpha to) (value.Number x) old apart = refl
 given_elsewhere other (receiver_kind.Alpha to) (value.Alpha bytes) old apart = unless_elsewhere (receiver_code to old) other old _ (reached_elsewhere to.element.var other _ old apart)
 
 value_elsewhere : (other : Var) (x : Value) (r : Result Receiver ℕ) (w : WorkState) → ((to : Receiver) → r ≡ Ok to → other ≢ receiver_name to) → Stays other w.own (value_to r x w).work.own
-value_elsewhere other x (Ok to) w apart = given_elsewhere other to x w.own (apart to refl)
+value_elsewhere other x (Ok to) w apart =
+    either (λ (r : WorkLeft). Stays other w.own r.work.own) (suits (is_alpha_receiver to) x) (given_value to x w) (unchanged w)
+    (among_elsewhere (is_global_receiver to) (assigned_value to x) other w (given_elsewhere other to x w.own (apart to refl))) refl
 value_elsewhere other x (Err code) w apart = refl
 
 pub change_what_is_named : ChangeWhatIsNamed

@@ -22,13 +22,14 @@ use Rattle.b2_expr.specs.Answers.{TextAnswer, ◌>>=◌}
 use Rattle.b2_expr.specs.Named.{bytes_there}
 use Rattle.b2_expr.specs.Scope.{Context}
 use Rattle.b2_expr.specs.Value.{context_of}
-use Rattle.b2_expr.specs.Workspace.{WorkState, WorkLeft, refused}
+use Rattle.b2_expr.specs.Workspace.{WorkState, WorkLeft, refused, surroundings_of}
 use Rattle.b2_receiver.specs.Assigning.{value_bytes}
 use Rattle.b2_receiver.specs.Receivers.{alpha_receiver, buffer}
 use Rattle.b2_receiver.specs.declared.receiver.AlphaReceiver.{AlphaReceiver}
 use Rattle.b2_pack.specs.Specification.{is_specification}
 use Rattle.b2_pack.specs.Unpacking.{fields_in}
-use Rattle.b2_stmt_pack.specs.Buffers.{packs_to, read_from}
+use Rattle.b2_receiver.specs.declared.receiver.Buffer.TheVariants as buffer_kind
+use Rattle.b2_stmt_pack.specs.Buffers.{buffer_variables, packs_to, read_from}
 use Rattle.b2_stmt_pack.specs.Fields.{bytes_of_fields, packs, packs_by, unpacks, unpacks_by, values_packed}
 use Rattle.b2_stmt_pack.specs.Lists.{all_taken, each_of, items_at, kind_of, takes_value, value_of}
 
@@ -72,7 +73,7 @@ pub fields_rest : (t : Text) → is_part row.SPECIFICATION t ≡ true → after_
 fields_rest t ok = ReadAs.rest (fields_read t ok) ∙ (stands_of row.FIELDS fields_items t fields_row (ReadAs.part (fields_read t ok))).2
 
 pub fields_is : (s : Context) (t : Text) → is_part row.SPECIFICATION t ≡ true
-    → bytes_of_fields s (tree_at row.SPECIFICATION t) ≡ (alpha_receiver s (tree_at row.ALPHA_RECEIVER (drop 1 (drop 1 t))) >>= (λ of. value_bytes of s.around.own))
+    → bytes_of_fields s (tree_at row.SPECIFICATION t) ≡ (alpha_receiver s (tree_at row.ALPHA_RECEIVER (drop 1 (drop 1 t))) >>= (λ of. buffer_variables s.around (buffer_kind.Value of) >>= (λ vars. value_bytes of vars)))
 fields_is s t ok =
     ap (bytes_of_fields s) (ReadAs.tree (fields_read t ok)) ∙ ap (λ (a : Trees). bytes_of_fields s (second_branch a)) (stands_of row.FIELDS fields_items t fields_row (ReadAs.part (fields_read t ok))).1
 
@@ -146,7 +147,7 @@ pack_fine t pairs rest w left ok is_pairs is_rest fine is =
     ∙ sym (pack_is t w ok)
 
 pub unpack_fine : (t pairs rest : Text) (w : WorkState) (left : WorkLeft) → is_part row.FIELD_UNPACK t ≡ true → bytes_of_fields (context_of w) (tree_at row.SPECIFICATION (drop 1 t)) ≡ Ok pairs → rest ≡ buffer_text t → is_specification pairs ≡ true
-    → left ≡ all_taken takes_value (items_at row.COMMA_RECEIVER row.RECEIVER (drop 1 (after_part row.BUFFER rest))) (read_from (fields_in pairs (map kind_of (items_at row.COMMA_RECEIVER row.RECEIVER (drop 1 (after_part row.BUFFER rest))))) (buffer (context_of w) (tree_at row.BUFFER rest)) w.own) w
+    → left ≡ all_taken takes_value (items_at row.COMMA_RECEIVER row.RECEIVER (drop 1 (after_part row.BUFFER rest))) (read_from (fields_in pairs (map kind_of (items_at row.COMMA_RECEIVER row.RECEIVER (drop 1 (after_part row.BUFFER rest))))) (buffer (context_of w) (tree_at row.BUFFER rest)) (surroundings_of w)) w
     → left ≡ unpacks (tree_at row.FIELD_UNPACK t) w
 unpack_fine t pairs rest w left ok is_pairs is_rest fine is =
     is

@@ -18,7 +18,7 @@ pub plans_within : PlansWithin plan
 plans_within =
     form.plans_within works (λ among me s k.
     let F : Working → Type 0 = λ w. PlannedIn among (planned_of w) in
-    each_course is_refused stops (does me s) me s F tt tt (λ p is u. next_in among (changes u.row u.tree (work_in (setting_of me) s.home me.vars)).code))
+    each_course is_refused stops (does me s) me s F tt tt (λ p is u. next_in among (changes u.row u.tree (work_in (setting_of me) s.home me.vars s.globals)).code))
 
 pub finishes_within : FinishesWithin finish
 finishes_within = form.finishes_within ends (λ among x a me s k. tt)

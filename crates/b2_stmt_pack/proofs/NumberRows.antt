@@ -19,7 +19,7 @@ use Rattle.b2_rows.proofs.RowsRead.{stands_of}
 use Rattle.b2_pack.specs.Images.{image_row}
 use Rattle.b2_pack.specs.Unpacking.{numbers_by_rows}
 use Rattle.b2_expr.specs.Value.{context_of}
-use Rattle.b2_expr.specs.Workspace.{WorkState, WorkLeft, refused}
+use Rattle.b2_expr.specs.Workspace.{WorkState, WorkLeft, refused, surroundings_of}
 use Rattle.b2_receiver.specs.Receivers.{buffer}
 use Rattle.b2_stmt_pack.specs.Buffers.{packs_to, read_from}
 use Rattle.b2_stmt_pack.specs.Lists.{all_taken, each_of, items_at, number_of, takes_number}
@@ -98,7 +98,7 @@ pack_fine t image rest w left ok is_image is_rest fine is =
     ∙ sym (pack_is t w ok)
 
 pub unpack_fine : (t image rest : Text) (w : WorkState) (left : WorkLeft) → is_part row.UNPACK t ≡ true → image ≡ image_text t → rest ≡ buffer_text t → is_some (image_row image) ≡ true
-    → left ≡ all_taken takes_number (items_at row.COMMA_NUMERIC_RECEIVER row.NUMERIC_RECEIVER (drop 1 (after_part row.BUFFER rest))) (read_from (numbers_by_rows (image_row image) (length (items_at row.COMMA_NUMERIC_RECEIVER row.NUMERIC_RECEIVER (drop 1 (after_part row.BUFFER rest))))) (buffer (context_of w) (tree_at row.BUFFER rest)) w.own) w
+    → left ≡ all_taken takes_number (items_at row.COMMA_NUMERIC_RECEIVER row.NUMERIC_RECEIVER (drop 1 (after_part row.BUFFER rest))) (read_from (numbers_by_rows (image_row image) (length (items_at row.COMMA_NUMERIC_RECEIVER row.NUMERIC_RECEIVER (drop 1 (after_part row.BUFFER rest))))) (buffer (context_of w) (tree_at row.BUFFER rest)) (surroundings_of w)) w
     → left ≡ unpacks (tree_at row.UNPACK t) w
 unpack_fine t image rest w left ok is_image is_rest fine is =
     is

@@ -1,8 +1,6 @@
 -- Items that are put one after another, and receivers that take what is theirs.
-use Rattle.std.proofs.Common.{◌≡◌, ◌<◌, ℕ, ◌+◌, false, List, [], ◌∷◌, ◌++◌, length, drop, get_or, Option, Some, None, Result, Ok, Err, refl, sym, ap, ◌∙◌}
+use Rattle.std.proofs.Common.{◌≡◌, ◌<◌, ℕ, ◌+◌, List, [], ◌∷◌, ◌++◌, length, drop, get_or, Option, Some, None, Result, Ok, Err, refl, sym, ap, ◌∙◌}
 use Rattle.std.proofs.lemmas.List.{append_assoc, append-nil}
-use Rattle.b2_dec.specs.declared.values.Value.{Value}
-use Rattle.b2_dec.specs.declared.values.Value.TheVariants as value
 use Rattle.b2_base.specs.Refusals.{IsRefused}
 use Rattle.b2_base.specs.declared.codes.Fault.{Fault}
 use Rattle.b2_base.specs.declared.codes.Fault.TheVariants as fault
@@ -10,16 +8,11 @@ use Rattle.b2_atom.specs.Tree.{Trees}
 use Rattle.b2_pack.proofs.PackingLemmas.{cons_at}
 use Rattle.b2_vars.specs.Assigned.{Assigned}
 use Rattle.b2_vars.specs.Tables.{VarsState}
-use Rattle.b2_receiver.specs.Assigning.{HasCode}
+use Rattle.b2_receiver.specs.Assigning.{HasCode, is_global_buffer}
 use Rattle.b2_receiver.specs.declared.receiver.Buffer.{Buffer}
 use Rattle.b2_stmt_pack.specs.Buffers.{packs_to}
 use Rattle.b2_expr.specs.Answers.{◌>>=◌}
-use Rattle.b2_expr.specs.Kinds.{suits}
-use Rattle.b2_expr.specs.Workspace.{WorkState, WorkLeft, on_own, then_works, unless_coded}
-use Rattle.b2_receiver.specs.Assigning.{is_alpha_receiver}
-use Rattle.b2_receiver.specs.Receiving.{given_value}
-use Rattle.b2_receiver.specs.declared.receiver.Receiver.{Receiver}
-use Rattle.b2_receiver.specs.declared.receiver.Receiver.TheVariants as receiver_kind
+use Rattle.b2_expr.specs.Workspace.{WorkState, WorkLeft, among, then_works, unless_coded}
 use Rattle.b2_stmt_pack.specs.Lists.{each_of, each_takes, items_before, put_after}
 
 -- one item that was put after others, and those that are left
@@ -81,13 +74,6 @@ packs_refused packed of to answer fault.NoMemory code w is refused coded = absur
 
 -- without one, all of it
 pub packs_done : {A : Type 0} (packed : A → Buffer → VarsState → Assigned) (of : Result Buffer ℕ) (to : Buffer) (answer : Result A ℕ) (xs : A) (w : WorkState) (left : WorkLeft)
-    → of ≡ Ok to → answer ≡ Ok xs → left ≡ on_own (packed xs to w.own) w → left ≡ packs_to packed of answer w
+    → of ≡ Ok to → answer ≡ Ok xs → left ≡ among (is_global_buffer to) (packed xs to) w → left ≡ packs_to packed of answer w
 packs_done packed of to answer xs w left is all done =
     done ∙ sym (ap (λ (b : Result Buffer ℕ). packs_to packed b answer w) is ∙ ap (λ (a : Result _ ℕ). packs_to packed (Ok to) a w) all)
-
--- a value of another kind changes nothing
-pub other_kind : (to : Receiver) (x : Value) (w : WorkState) → suits (is_alpha_receiver to) x ≡ false → given_value to x w ≡ record { work = w; code = None }
-other_kind (receiver_kind.Number e) (value.Number x) w is = cc
-other_kind (receiver_kind.Number e) (value.Alpha bytes) w is = refl
-other_kind (receiver_kind.Alpha to) (value.Number x) w is = refl
-other_kind (receiver_kind.Alpha to) (value.Alpha bytes) w is = cc

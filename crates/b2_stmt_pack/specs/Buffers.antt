@@ -3,11 +3,26 @@ use Rattle.std.specs.Prelude.{ℕ, List, length, Option, None, Some, Result, Ok,
 use Rattle.b2_vars.specs.Assigned.{Assigned}
 use Rattle.b2_vars.specs.Calls.{with_bytes_of}
 use Rattle.b2_vars.specs.Tables.{VarsState, variable_at}
+use Rattle.b2_vars.specs.declared.name.Var.{Var}
+use Rattle.b2_rows.specs.declared.leaves.Name.{Name}
 use Rattle.b2_expr.specs.Answers.{◌>>=◌}
-use Rattle.b2_expr.specs.Workspace.{WorkState, WorkLeft, on_own, refused}
-use Rattle.b2_receiver.specs.Assigning.{buffer_bytes, buffer_code, portion_in, reached_by, unless_refused, with_portion}
+use Rattle.b2_expr.specs.Named.{variables_of}
+use Rattle.b2_expr.specs.Scope.{Surroundings}
+use Rattle.b2_expr.specs.Workspace.{WorkState, WorkLeft, among, refused}
+use Rattle.b2_receiver.specs.Assigning.{buffer_bytes, buffer_code, is_global_buffer, portion_in, reached_by, unless_refused, with_portion}
 use Rattle.b2_receiver.specs.declared.receiver.Buffer.{Buffer}
 use Rattle.b2_receiver.specs.declared.receiver.Buffer.TheVariants as buffer_kind
+
+-- the name of a buffer, and the variables among which it is: X77 where there are no `@` variables
+abbrev pub buffer_name : Buffer → Var
+buffer_name (buffer_kind.Value to) = to.element.var
+buffer_name (buffer_kind.Array a) = a.var
+
+abbrev pub name_of : Buffer → Name
+name_of b = record { letter = (buffer_name b).letter; digit = (buffer_name b).digit; alpha = (buffer_name b).alpha; global = is_global_buffer b }
+
+abbrev pub buffer_variables : Surroundings → Buffer → Result VarsState ℕ
+buffer_variables e b = variables_of e (name_of b)
 
 -- the bytes that a buffer names are changed; a scalar that isn't there is made first
 abbrev pub with_changed : (List ℕ → List ℕ) → Buffer → VarsState → VarsState
@@ -37,7 +52,7 @@ packed_by code change to old = unless_refused (room_code code (room_in to old)) 
 
 -- the buffer first, and then what is packed into it
 abbrev pub packs_to : {A : Type 0} → (A → Buffer → VarsState → Assigned) → Result Buffer ℕ → Result A ℕ → WorkState → WorkLeft
-packs_to packed (Ok to) (Ok xs) w = on_own (packed xs to w.own) w
+packs_to packed (Ok to) (Ok xs) w = among (is_global_buffer to) (packed xs to) w
 packs_to packed (Ok to) (Err code) w = refused code w
 packs_to packed (Err code) xs w = refused code w
 
@@ -45,5 +60,5 @@ packs_to packed (Err code) xs w = refused code w
 abbrev pub read_in : {A : Type 0} → (List ℕ → Result A ℕ) → Buffer → VarsState → Result A ℕ
 read_in read of vars = buffer_bytes of vars >>= read
 
-abbrev pub read_from : {A : Type 0} → (List ℕ → Result A ℕ) → Result Buffer ℕ → VarsState → Result A ℕ
-read_from read of vars = of >>= (λ b. read_in read b vars)
+abbrev pub read_from : {A : Type 0} → (List ℕ → Result A ℕ) → Result Buffer ℕ → Surroundings → Result A ℕ
+read_from read of e = of >>= (λ b. buffer_variables e b >>= (λ vars. read_in read b vars))

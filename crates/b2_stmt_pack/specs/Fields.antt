@@ -13,16 +13,17 @@ use Rattle.b2_pack.specs.Unpacking.{fields_in}
 use Rattle.b2_expr.specs.Answers.{TextAnswer, ◌>>=◌}
 use Rattle.b2_expr.specs.Scope.{Context}
 use Rattle.b2_expr.specs.Value.{context_of}
-use Rattle.b2_expr.specs.Workspace.{WorkState, WorkLeft, refused}
+use Rattle.b2_expr.specs.Workspace.{WorkState, WorkLeft, refused, surroundings_of}
 use Rattle.b2_receiver.specs.Assigning.{value_bytes}
 use Rattle.b2_receiver.specs.Receivers.{alpha_receiver, buffer}
 use Rattle.b2_receiver.specs.declared.receiver.Buffer.{Buffer}
-use Rattle.b2_stmt_pack.specs.Buffers.{packed_by, packs_to, read_from}
+use Rattle.b2_receiver.specs.declared.receiver.Buffer.TheVariants as buffer_kind
+use Rattle.b2_stmt_pack.specs.Buffers.{buffer_variables, packed_by, packs_to, read_from}
 use Rattle.b2_stmt_pack.specs.Lists.{all_taken, each_of, kind_of, takes_value, value_of}
 
 -- the specification is all bytes that its variable names
 abbrev pub bytes_of_fields : Context → Trees → TextAnswer
-bytes_of_fields s (In n (Put f (Put equals (In k variable end))) more) = alpha_receiver s variable >>= (λ of. value_bytes of s.around.own)
+bytes_of_fields s (In n (Put f (Put equals (In k variable end))) more) = alpha_receiver s variable >>= (λ of. buffer_variables s.around (buffer_kind.Value of) >>= (λ vars. value_bytes of vars))
 bytes_of_fields s t = Err S22_WORD
 
 abbrev pub specification_in : Context → Trees → TextAnswer
@@ -55,7 +56,7 @@ packs t w = packs_by (specification_in (context_of w) t) (buffer_in (context_of 
 -- $UNPACK: as many values as there are receivers, of their kinds, are all read first; then each receiver takes its own
 abbrev pub unpacks_by : TextAnswer → Result Buffer ℕ → List Trees → WorkState → WorkLeft
 unpacks_by (Ok spec) of items w =
-    if is_specification spec then all_taken takes_value items (read_from (fields_in spec (map kind_of items)) of w.own) w else refused P58_SPECIFICATION w
+    if is_specification spec then all_taken takes_value items (read_from (fields_in spec (map kind_of items)) of (surroundings_of w)) w else refused P58_SPECIFICATION w
 unpacks_by (Err code) of items w = refused code w
 
 abbrev pub unpacks : Trees → WorkState → WorkLeft

@@ -17,7 +17,7 @@ use Rattle.b2_receiver.specs.declared.receiver.Buffer.{Buffer}
 use Rattle.b2_receiver.specs.declared.receiver.Buffer.TheVariants as buffer_kind
 use Rattle.b2_receiver.specs.declared.receiver.Receiver.{Receiver}
 use Rattle.b2_receiver.specs.declared.receiver.Receiver.TheVariants as receiver_kind
-use Rattle.b2_stmt_pack.specs.Buffers.{read_in}
+use Rattle.b2_stmt_pack.specs.Buffers.{buffer_name, read_in}
 use Rattle.b2_stmt_pack.specs.Fields.{values_packed}
 use Rattle.b2_stmt_pack.specs.Lists.{each_takes, takes_number, takes_value}
 use Rattle.b2_stmt_pack.specs.Numbers.{numbers_packed}
@@ -30,10 +30,6 @@ NumbersComeBack =
     → read_in (numbers_by_rows (image_row image) (length xs)) (buffer_kind.Array a) (numbers_packed image xs (buffer_kind.Array a) old).vars ≡ Ok xs
 
 -- what isn't named stays, with a code and without one
-abbrev pub buffer_name : Buffer → Var
-buffer_name (buffer_kind.Value to) = to.element.var
-buffer_name (buffer_kind.Array a) = a.var
-
 abbrev pub receiver_name : Receiver → Var
 receiver_name (receiver_kind.Number e) = e.var
 receiver_name (receiver_kind.Alpha to) = to.element.var

@@ -15,10 +15,12 @@ use Rattle.b2_atom.specs.Words.{Text}
 use Rattle.b2_rows.specs.CommaLists.{commas, further_listed}
 use Rattle.b2_rows.specs.Rows.{after_part, list_at, tree_at}
 use Rattle.b2_expr.specs.Answers.{Answer, ◌>>=◌}
+use Rattle.b2_expr.specs.Kinds.{suits}
 use Rattle.b2_expr.specs.Scope.{Context}
 use Rattle.b2_expr.specs.Value.{context_of, text, value}
 use Rattle.b2_expr.specs.Workspace.{WorkState, WorkLeft, refused, then_works, unchanged}
 use Rattle.b2_expr.specs.declared.operators.Level.TheVariants as level
+use Rattle.b2_receiver.specs.Assigning.{is_alpha_receiver}
 use Rattle.b2_receiver.specs.Receivers.{any_receiver}
 use Rattle.b2_receiver.specs.Receiving.{assign_number_at, given_value}
 use Rattle.b2_receiver.specs.declared.receiver.Receiver.{Receiver}
@@ -63,8 +65,9 @@ each_takes one (t ∷ ts) (x ∷ xs) w = then_works (one x t w) (each_takes one 
 abbrev pub takes_number : Number → Trees → WorkState → WorkLeft
 takes_number x t w = assign_number_at (Ok x) t w
 
+-- a value of another kind changes nothing
 abbrev pub value_to : Result Receiver ℕ → Value → WorkState → WorkLeft
-value_to (Ok to) x w = given_value to x w
+value_to (Ok to) x w = if suits (is_alpha_receiver to) x then given_value to x w else unchanged w
 value_to (Err code) x w = refused code w
 
 abbrev pub takes_value : Value → Trees → WorkState → WorkLeft

@@ -14,7 +14,7 @@ use Rattle.b2_pack.specs.Packing.{image_code, with_image}
 use Rattle.b2_pack.specs.Unpacking.{numbers_by_rows}
 use Rattle.b2_expr.specs.Scope.{Context}
 use Rattle.b2_expr.specs.Value.{context_of}
-use Rattle.b2_expr.specs.Workspace.{WorkState, WorkLeft, refused}
+use Rattle.b2_expr.specs.Workspace.{WorkState, WorkLeft, refused, surroundings_of}
 use Rattle.b2_receiver.specs.Receivers.{buffer}
 use Rattle.b2_receiver.specs.declared.receiver.Buffer.{Buffer}
 use Rattle.b2_stmt_pack.specs.Buffers.{packed_by, packs_to, read_from}
@@ -48,7 +48,7 @@ packs t w = packs_by (image_in t) (buffer_in (context_of w) t) (items_in t) w
 -- UNPACK: P58, the buffer, and X70 and X75 of all numbers; then each receiver takes its number
 abbrev pub unpacks_by : List ℕ → Result Buffer ℕ → List Trees → WorkState → WorkLeft
 unpacks_by image of items w =
-    if is_some (image_row image) then all_taken takes_number items (read_from (numbers_by_rows (image_row image) (length items)) of w.own) w
+    if is_some (image_row image) then all_taken takes_number items (read_from (numbers_by_rows (image_row image) (length items)) of (surroundings_of w)) w
     else refused P58_SPECIFICATION w
 
 abbrev pub unpacks : Trees → WorkState → WorkLeft

@@ -3,7 +3,7 @@ use Rattle.std.specs.Prelude.{ℕ, Bool, false, List, [], ◌∷◌}
 use Rattle.b2_base.specs.declared.codes.TheConstants.{S27_LEFT_OUT}
 use Rattle.b2_atom.specs.Tree.{Trees}
 use Rattle.b2_atom.specs.declared.rows.TheConstants as row
-use Rattle.b2_expr.specs.Workspace.{WorkState, WorkLeft, own_of, refused, work_in}
+use Rattle.b2_expr.specs.Workspace.{WorkState, WorkLeft, changed_by, refused, work_in}
 use Rattle.b2_access.specs.Courses.{Here, course}
 use Rattle.b2_access.specs.Lending.{SeenLent}
 use Rattle.b2_access.specs.Partition.{setting_of}
@@ -39,7 +39,7 @@ changes r = at_row changing_rows left_out r
 
 -- a statement ends at once, and what it changed is put back
 abbrev pub ended_of : Statement → Private → SeenLent → Worked
-ended_of u me s = with_variables (own_of (changes u.row u.tree (work_in (setting_of me) s.home me.vars))) outcome.Next (work_of me)
+ended_of u me s = with_variables (changed_by (changes u.row u.tree (work_in (setting_of me) s.home me.vars s.globals))) outcome.Next (work_of me)
 
 abbrev pub does : Private → SeenLent → Statement → Here → Working
 does me s u h = Ends (ended_of u me s)

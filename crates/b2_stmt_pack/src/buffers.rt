@@ -1,19 +1,46 @@
 // Buffers into which something is packed.
-ghost use Rattle.std.specs.Prelude.{◌≡◌, length, None, Some, IfOk, MatchResult};
+ghost use Rattle.std.specs.Prelude.{◌≡◌, length, None, Some, IfOk, MatchResult, Ok, Err};
 ghost use Rattle.b2_pack.specs.Images.{image_row};
 ghost use Rattle.b2_pack.specs.Packing as packing;
 ghost use Rattle.b2_receiver.specs.Receivers.{IsBuffer};
-ghost use Rattle.b2_expr.specs.Workspace.{on_own, workspace};
-ghost use Rattle.b2_stmt_pack.specs.Buffers.{room_code, room_in, where_none};
+ghost use Rattle.b2_expr.specs.Scope.{surroundings};
+ghost use Rattle.b2_expr.specs.Workspace.{SameReferences, among, on_lent, workspace};
+ghost use Rattle.b2_receiver.specs.Assigning.{is_global_buffer};
+ghost use Rattle.b2_stmt_pack.specs.Buffers.{buffer_variables, name_of, room_code, room_in, where_none};
 ghost use Rattle.b2_stmt_pack.specs.Fields.{values_packed};
 ghost use Rattle.b2_stmt_pack.specs.Numbers.{numbers_packed};
 
+use b2_base::codes::X77_NO_PARTITION;
 use b2_base::{Code, NoMemory};
 use b2_dec::{Dec, Value};
-use b2_expr::Workspace;
+use b2_expr::{Env, Workspace, reached_after, variables_of};
 use b2_pack::{check_fields, check_pack, fields, pack};
 use b2_receiver::{Buffer, buffer_bytes, change_buffer, code_of};
+use b2_rows::Name;
 use b2_vars::Vars;
+
+/// The name of a buffer.
+fn name_of(of: &Buffer) -> Name
+    ensures { result ≡ name_of of.now }
+{
+    let var = match of {
+        Buffer::Value(to) => to.element.var,
+        Buffer::Array(array) => array.var,
+    };
+    Name {
+        letter: var.letter,
+        digit: var.digit,
+        alpha: var.alpha,
+        global: of.is_global(),
+    }
+}
+
+/// The variables among which a buffer is: X77 where there are no `@` variables.
+pub fn variables_with<'a>(e: &Env<'a>, of: &Buffer) -> Result<&'a Vars, Code>
+    ensures { MatchResult result (λ vars. buffer_variables (surroundings e.now) of.now ≡ Ok vars.now) (λ code. buffer_variables (surroundings e.now) of.now ≡ Err code) }
+{
+    variables_of(e, name_of(of))
+}
 
 /// How many bytes a buffer has.
 fn room_of(vars: &Vars, of: &Buffer) -> Result<usize, Code>
@@ -46,6 +73,30 @@ fn pack_into(bytes: &mut [u8], image: &[u8], xs: &[Dec])
     let _packed = pack(image, xs, bytes);
 }
 
+/// Puts numbers into a buffer among the `@` variables. The code with which that ended, or none.
+#[tactic(auto, using(crate::proofs::Changed::numbers_lent, crate::proofs::Changed::numbers_kept))]
+fn put_lent_numbers(
+    work: &mut Workspace<'_>,
+    to: &Buffer,
+    image: &[u8],
+    xs: &[Dec],
+) -> Result<Option<Code>, NoMemory>
+    requires named { IsBuffer to.now }
+    ensures worked { IfOk result (λ code. record { work = workspace work.new; code = code } ≡ on_lent (numbers_packed image.now xs.now to.now) (workspace work.old).globals.vars (workspace work.old)) }
+    ensures same_references { SameReferences work.old work.new }
+{
+    if !work.found {
+        return Ok(Some(Code::known(X77_NO_PARTITION)));
+    }
+    if let Err(code) = check_numbers(work.globals, to, image, xs) {
+        work.reached = reached_after(work.reached, &Some(code));
+        return Ok(Some(code));
+    }
+    let code = code_of(change_buffer(work.globals, to, |bytes| pack_into(bytes, image, xs)))?;
+    work.reached = reached_after(work.reached, &code);
+    Ok(code)
+}
+
 /// Puts numbers into a buffer. A scalar that isn't there is made. The code with which that ended, or none; with one nothing
 /// changed.
 #[tactic(auto, using(crate::proofs::Changed::numbers_put, crate::proofs::Changed::numbers_refused))]
@@ -56,9 +107,12 @@ pub fn put_numbers(
     xs: &[Dec],
 ) -> Result<Option<Code>, NoMemory>
     requires named { IsBuffer to.now }
-    ensures worked { IfOk result (λ code. record { work = workspace work.new; code = code } ≡ on_own (numbers_packed image.now xs.now to.now (workspace work.old).own) (workspace work.old)) }
-    ensures same_reference { work.new.own.ghost_name ≡ work.old.own.ghost_name }
+    ensures worked { IfOk result (λ code. record { work = workspace work.new; code = code } ≡ among (is_global_buffer to.now) (numbers_packed image.now xs.now to.now) (workspace work.old)) }
+    ensures same_references { SameReferences work.old work.new }
 {
+    if to.is_global() {
+        return put_lent_numbers(work, to, image, xs);
+    }
     match check_numbers(work.own, to, image, xs) {
         Ok(()) => {}
         Err(code) => return Ok(Some(code)),
@@ -86,6 +140,30 @@ fn fields_into(bytes: &mut [u8], spec: &[u8], values: &[Value])
     let _packed = fields(spec, values, bytes);
 }
 
+/// Puts values into the fields of a buffer among the `@` variables, as `put_lent_numbers`.
+#[tactic(auto, using(crate::proofs::Changed::values_lent, crate::proofs::Changed::values_kept))]
+fn put_lent_values(
+    work: &mut Workspace<'_>,
+    to: &Buffer,
+    spec: &[u8],
+    values: &[Value],
+) -> Result<Option<Code>, NoMemory>
+    requires named { IsBuffer to.now }
+    ensures worked { IfOk result (λ code. record { work = workspace work.new; code = code } ≡ on_lent (values_packed spec.now values.now to.now) (workspace work.old).globals.vars (workspace work.old)) }
+    ensures same_references { SameReferences work.old work.new }
+{
+    if !work.found {
+        return Ok(Some(Code::known(X77_NO_PARTITION)));
+    }
+    if let Err(code) = check_values(work.globals, to, spec, values) {
+        work.reached = reached_after(work.reached, &Some(code));
+        return Ok(Some(code));
+    }
+    let code = code_of(change_buffer(work.globals, to, |bytes| fields_into(bytes, spec, values)))?;
+    work.reached = reached_after(work.reached, &code);
+    Ok(code)
+}
+
 /// Puts values into the fields of a buffer, as `put_numbers`.
 #[tactic(auto, using(crate::proofs::Changed::values_put, crate::proofs::Changed::values_refused))]
 pub fn put_values(
@@ -95,9 +173,12 @@ pub fn put_values(
     values: &[Value],
 ) -> Result<Option<Code>, NoMemory>
     requires named { IsBuffer to.now }
-    ensures worked { IfOk result (λ code. record { work = workspace work.new; code = code } ≡ on_own (values_packed spec.now values.now to.now (workspace work.old).own) (workspace work.old)) }
-    ensures same_reference { work.new.own.ghost_name ≡ work.old.own.ghost_name }
+    ensures worked { IfOk result (λ code. record { work = workspace work.new; code = code } ≡ among (is_global_buffer to.now) (values_packed spec.now values.now to.now) (workspace work.old)) }
+    ensures same_references { SameReferences work.old work.new }
 {
+    if to.is_global() {
+        return put_lent_values(work, to, spec, values);
+    }
     match check_values(work.own, to, spec, values) {
         Ok(()) => {}
         Err(code) => return Ok(Some(code)),

@@ -1,5 +1,5 @@
 // $PACK and $UNPACK: values in the fields of a specification.
-ghost use Rattle.std.specs.Prelude.{◌≡◌, true, drop, map, IfOk, IfErr, None, Ok};
+ghost use Rattle.std.specs.Prelude.{◌≡◌, true, drop, map, IfOk, IfErr, Ok};
 ghost use Rattle.b2_base.specs.Refusals.{IsRefused};
 ghost use Rattle.b2_atom.specs.declared.rows.TheConstants as row;
 ghost use Rattle.b2_rows.specs.CommaLists.{commas};
@@ -8,14 +8,14 @@ ghost use Rattle.b2_pack.specs.Unpacking.{fields_in};
 ghost use Rattle.b2_expr.specs.Reads.{Gives};
 ghost use Rattle.b2_expr.specs.Scope.{surroundings};
 ghost use Rattle.b2_expr.specs.Value.{context_of, in_statement};
-ghost use Rattle.b2_expr.specs.Workspace.{workspace};
+ghost use Rattle.b2_expr.specs.Workspace.{SameReferences, surroundings_of as seen_by, workspace};
 ghost use Rattle.b2_receiver.specs.Assigning.{value_bytes};
 ghost use Rattle.b2_receiver.specs.Receivers.{IsBuffer, IsAlpha, buffer as buffer_seen};
 ghost use Rattle.b2_stmt_pack.specs.Buffers.{packs_to, read_from, read_in};
 ghost use Rattle.b2_stmt_pack.specs.Fields as spec;
 ghost use Rattle.b2_stmt_pack.specs.Lists.{all_taken, each_of, items_at, kind_of, takes_value, value_of};
 
-use crate::buffers::put_values;
+use crate::buffers::{put_values, variables_with};
 use crate::lists::{give_values, kinds_at, values_at};
 use b2_atom::Cursor;
 use b2_base::codes::P58_SPECIFICATION;
@@ -47,7 +47,6 @@ fn bytes_of(vars: &Vars, of: AlphaReceiver) -> Result<Bytes, Code>
 #[tactic(auto, using(crate::proofs::FieldRows::fields_variable, crate::proofs::FieldRows::fields_is, crate::proofs::FieldRows::fields_rest))]
 fn specification_at<'a>(e: &Env<'_>, text: &'a [u8]) -> Result<(Bytes, &'a [u8]), Code>
     requires part { is_part row.SPECIFICATION text.now ≡ true }
-    requires alone { (surroundings e.now).globals ≡ None }
     ensures { Gives (spec.bytes_of_fields (in_statement (surroundings e.now)) (tree_at row.SPECIFICATION text.now)) (after_part row.SPECIFICATION text.now) result }
 {
     let mut c = Cursor::over(rest_after(rest_after(text, 1), 1));
@@ -55,7 +54,11 @@ fn specification_at<'a>(e: &Env<'_>, text: &'a [u8]) -> Result<(Bytes, &'a [u8])
         Ok(of) => of,
         Err(code) => return Err(code),
     };
-    match bytes_of(e.own, of) {
+    let vars = match variables_with(e, &Buffer::Value(of)) {
+        Ok(vars) => vars,
+        Err(code) => return Err(code),
+    };
+    match bytes_of(vars, of) {
         Ok(bytes) => Ok((bytes, c.rest())),
         Err(code) => Err(code),
     }
@@ -73,7 +76,7 @@ fn pack_at(
     requires value { is_part row.OPERAND_OF_ANY_KIND (drop 1 (after_part row.BUFFER text.now)) ≡ true }
     requires list { is_list commas row.COMMA_OPERAND (after_part row.OPERAND_OF_ANY_KIND (drop 1 (after_part row.BUFFER text.now))) ≡ true }
     ensures worked { IfOk result (λ code. record { work = workspace work.new; code = code } ≡ packs_to (spec.values_packed pairs.now) (buffer_seen (context_of (workspace work.old)) (tree_at row.BUFFER text.now)) (each_of (value_of (context_of (workspace work.old))) (items_at row.COMMA_OPERAND row.OPERAND_OF_ANY_KIND (drop 1 (after_part row.BUFFER text.now)))) (workspace work.old)) }
-    ensures same_reference { work.new.own.ghost_name ≡ work.old.own.ghost_name }
+    ensures same_references { SameReferences work.old work.new }
 {
     let mut c = Cursor::over(text);
     let to = match buffer(&mut c, &surroundings_of(work)) {
@@ -95,7 +98,7 @@ pub fn pack_fields(
 ) -> Result<Option<Code>, NoMemory>
     requires part { is_part row.FIELD_PACK unit.now ≡ true }
     ensures worked { IfOk result (λ code. record { work = workspace work.new; code = code } ≡ spec.packs (tree_at row.FIELD_PACK unit.now) (workspace work.old)) }
-    ensures same_reference { work.new.own.ghost_name ≡ work.old.own.ghost_name }
+    ensures same_references { SameReferences work.old work.new }
 {
     let (pairs, rest) = match specification_at(&surroundings_of(work), rest_after(unit, 1)) {
         Ok(found) => found,
@@ -136,8 +139,8 @@ fn unpack_at(
     requires buffer { is_part row.BUFFER text.now ≡ true }
     requires receiver { is_part row.RECEIVER (drop 1 (after_part row.BUFFER text.now)) ≡ true }
     requires list { is_list commas row.COMMA_RECEIVER (after_part row.RECEIVER (drop 1 (after_part row.BUFFER text.now))) ≡ true }
-    ensures worked { IfOk result (λ code. record { work = workspace work.new; code = code } ≡ all_taken takes_value (items_at row.COMMA_RECEIVER row.RECEIVER (drop 1 (after_part row.BUFFER text.now))) (read_from (fields_in pairs.now (map kind_of (items_at row.COMMA_RECEIVER row.RECEIVER (drop 1 (after_part row.BUFFER text.now))))) (buffer_seen (context_of (workspace work.old)) (tree_at row.BUFFER text.now)) (workspace work.old).own) (workspace work.old)) }
-    ensures same_reference { work.new.own.ghost_name ≡ work.old.own.ghost_name }
+    ensures worked { IfOk result (λ code. record { work = workspace work.new; code = code } ≡ all_taken takes_value (items_at row.COMMA_RECEIVER row.RECEIVER (drop 1 (after_part row.BUFFER text.now))) (read_from (fields_in pairs.now (map kind_of (items_at row.COMMA_RECEIVER row.RECEIVER (drop 1 (after_part row.BUFFER text.now))))) (buffer_seen (context_of (workspace work.old)) (tree_at row.BUFFER text.now)) (seen_by (workspace work.old))) (workspace work.old)) }
+    ensures same_references { SameReferences work.old work.new }
 {
     let mut c = Cursor::over(text);
     let of = match buffer(&mut c, &surroundings_of(work)) {
@@ -146,7 +149,11 @@ fn unpack_at(
     };
     let receivers = rest_after(c.rest(), 1);
     let kinds = kinds_at(alloc, receivers)?;
-    match values_of(alloc, work.own, &of, pairs, &kinds) {
+    let vars = match variables_with(&surroundings_of(work), &of) {
+        Ok(vars) => vars,
+        Err(code) => return Ok(Some(code)),
+    };
+    match values_of(alloc, vars, &of, pairs, &kinds) {
         Ok(values) => give_values(work, receivers, &values),
         Err(fault) => code_of_fault(fault),
     }
@@ -161,7 +168,7 @@ pub fn unpack_fields(
 ) -> Result<Option<Code>, NoMemory>
     requires part { is_part row.FIELD_UNPACK unit.now ≡ true }
     ensures worked { IfOk result (λ code. record { work = workspace work.new; code = code } ≡ spec.unpacks (tree_at row.FIELD_UNPACK unit.now) (workspace work.old)) }
-    ensures same_reference { work.new.own.ghost_name ≡ work.old.own.ghost_name }
+    ensures same_references { SameReferences work.old work.new }
 {
     let (pairs, rest) = match specification_at(&surroundings_of(work), rest_after(unit, 1)) {
         Ok(found) => found,

@@ -6,9 +6,8 @@ ghost use Rattle.b2_rows.specs.CommaLists.{commas};
 ghost use Rattle.b2_rows.specs.Rows.{after_part, is_list, is_part, tree_at};
 ghost use Rattle.b2_expr.specs.Scope.{surroundings};
 ghost use Rattle.b2_expr.specs.Value.{in_statement};
-ghost use Rattle.b2_expr.specs.Workspace.{workspace};
+ghost use Rattle.b2_expr.specs.Workspace.{SameReferences, workspace};
 ghost use Rattle.b2_receiver.specs.Receivers.{IsNamed};
-ghost use Rattle.b2_receiver.specs.Receiving.{given_value};
 ghost use Rattle.b2_stmt_pack.specs.Lists as spec;
 ghost use Rattle.b2_stmt_pack.specs.Lists.{PutsOne, each_of, each_takes, items_at, takes_number, takes_value};
 
@@ -188,7 +187,7 @@ pub fn give_numbers(
     requires part { is_part row.NUMERIC_RECEIVER text.now ≡ true }
     requires list { is_list commas row.COMMA_NUMERIC_RECEIVER (after_part row.NUMERIC_RECEIVER text.now) ≡ true }
     ensures worked { IfOk result (λ code. record { work = workspace work.new; code = code } ≡ each_takes takes_number (items_at row.COMMA_NUMERIC_RECEIVER row.NUMERIC_RECEIVER text.now) xs.now (workspace work.old)) }
-    ensures same_reference { work.new.own.ghost_name ≡ work.old.own.ghost_name }
+    ensures same_references { SameReferences work.old work.new }
 {
     let mut left = text;
     for x in xs {
@@ -206,11 +205,11 @@ pub fn give_numbers(
 }
 
 /// Gives a value to a receiver. Nothing changes where they are of two kinds.
-#[tactic(auto, using(b2_receiver::proofs::OneKind::one_kind, crate::proofs::Taking::other_kind))]
+#[tactic(auto, using(b2_receiver::proofs::OneKind::one_kind))]
 fn give_to(work: &mut Workspace<'_>, to: &Receiver, value: &Value) -> Result<Option<Code>, NoMemory>
     requires named { IsNamed to.now }
-    ensures worked { IfOk result (λ code. record { work = workspace work.new; code = code } ≡ given_value to.now value.now (workspace work.old)) }
-    ensures same_reference { work.new.own.ghost_name ≡ work.old.own.ghost_name }
+    ensures worked { IfOk result (λ code. record { work = workspace work.new; code = code } ≡ spec.value_to (Ok to.now) value.now (workspace work.old)) }
+    ensures same_references { SameReferences work.old work.new }
 {
     if suits(to.is_alpha(), value) {
         give_value(work, to, value)
@@ -227,7 +226,7 @@ fn give_value_at(
 ) -> Result<Option<Code>, NoMemory>
     requires part { is_part row.RECEIVER text.now ≡ true }
     ensures worked { IfOk result (λ code. record { work = workspace work.new; code = code } ≡ takes_value value.now (tree_at row.RECEIVER text.now) (workspace work.old)) }
-    ensures same_reference { work.new.own.ghost_name ≡ work.old.own.ghost_name }
+    ensures same_references { SameReferences work.old work.new }
 {
     match any_receiver(&mut Cursor::over(text), &surroundings_of(work)) {
         Ok(to) => give_to(work, &to, value),
@@ -245,7 +244,7 @@ pub fn give_values(
     requires part { is_part row.RECEIVER text.now ≡ true }
     requires list { is_list commas row.COMMA_RECEIVER (after_part row.RECEIVER text.now) ≡ true }
     ensures worked { IfOk result (λ code. record { work = workspace work.new; code = code } ≡ each_takes takes_value (items_at row.COMMA_RECEIVER row.RECEIVER text.now) values.now (workspace work.old)) }
-    ensures same_reference { work.new.own.ghost_name ≡ work.old.own.ghost_name }
+    ensures same_references { SameReferences work.old work.new }
 {
     let mut left = text;
     for value in values {

@@ -10,13 +10,13 @@ ghost use Rattle.b2_rows.specs.Rows.{after_part, is_list, is_part, tree_at};
 ghost use Rattle.b2_pack.specs.Images.{image_row};
 ghost use Rattle.b2_pack.specs.Unpacking.{numbers_by_rows};
 ghost use Rattle.b2_expr.specs.Value.{context_of};
-ghost use Rattle.b2_expr.specs.Workspace.{workspace};
+ghost use Rattle.b2_expr.specs.Workspace.{SameReferences, surroundings_of as seen_by, workspace};
 ghost use Rattle.b2_receiver.specs.Receivers.{IsBuffer, buffer as buffer_seen};
 ghost use Rattle.b2_stmt_pack.specs.Buffers.{packs_to, read_from, read_in};
 ghost use Rattle.b2_stmt_pack.specs.Lists.{all_taken, each_of, items_at, number_of, takes_number};
 ghost use Rattle.b2_stmt_pack.specs.Numbers as spec;
 
-use crate::buffers::put_numbers;
+use crate::buffers::{put_numbers, variables_with};
 use crate::lists::{count_at, give_numbers, numbers_at};
 use b2_atom::words::Origin;
 use b2_atom::{Cursor, image_width};
@@ -43,7 +43,7 @@ fn pack_at(
     requires number { is_part row.SUM (drop 1 (after_part row.BUFFER text.now)) ≡ true }
     requires list { is_list commas row.COMMA_NUMBER (after_part row.SUM (drop 1 (after_part row.BUFFER text.now))) ≡ true }
     ensures worked { IfOk result (λ code. record { work = workspace work.new; code = code } ≡ packs_to (spec.numbers_packed image.now) (buffer_seen (context_of (workspace work.old)) (tree_at row.BUFFER text.now)) (each_of (number_of (context_of (workspace work.old))) (items_at row.COMMA_NUMBER row.SUM (drop 1 (after_part row.BUFFER text.now)))) (workspace work.old)) }
-    ensures same_reference { work.new.own.ghost_name ≡ work.old.own.ghost_name }
+    ensures same_references { SameReferences work.old work.new }
 {
     let mut c = Cursor::over(text);
     let to = match buffer(&mut c, &surroundings_of(work)) {
@@ -72,7 +72,7 @@ pub fn pack_numbers(
 ) -> Result<Option<Code>, NoMemory>
     requires part { is_part row.PACK unit.now ≡ true }
     ensures worked { IfOk result (λ code. record { work = workspace work.new; code = code } ≡ spec.packs (tree_at row.PACK unit.now) (workspace work.old)) }
-    ensures same_reference { work.new.own.ghost_name ≡ work.old.own.ghost_name }
+    ensures same_references { SameReferences work.old work.new }
 {
     let text = rest_after(unit, 1);
     let image = image_at(text);
@@ -111,8 +111,8 @@ fn unpack_at(
     requires buffer { is_part row.BUFFER text.now ≡ true }
     requires receiver { is_part row.NUMERIC_RECEIVER (drop 1 (after_part row.BUFFER text.now)) ≡ true }
     requires list { is_list commas row.COMMA_NUMERIC_RECEIVER (after_part row.NUMERIC_RECEIVER (drop 1 (after_part row.BUFFER text.now))) ≡ true }
-    ensures worked { IfOk result (λ code. record { work = workspace work.new; code = code } ≡ all_taken takes_number (items_at row.COMMA_NUMERIC_RECEIVER row.NUMERIC_RECEIVER (drop 1 (after_part row.BUFFER text.now))) (read_from (numbers_by_rows (image_row image.now) (length (items_at row.COMMA_NUMERIC_RECEIVER row.NUMERIC_RECEIVER (drop 1 (after_part row.BUFFER text.now))))) (buffer_seen (context_of (workspace work.old)) (tree_at row.BUFFER text.now)) (workspace work.old).own) (workspace work.old)) }
-    ensures same_reference { work.new.own.ghost_name ≡ work.old.own.ghost_name }
+    ensures worked { IfOk result (λ code. record { work = workspace work.new; code = code } ≡ all_taken takes_number (items_at row.COMMA_NUMERIC_RECEIVER row.NUMERIC_RECEIVER (drop 1 (after_part row.BUFFER text.now))) (read_from (numbers_by_rows (image_row image.now) (length (items_at row.COMMA_NUMERIC_RECEIVER row.NUMERIC_RECEIVER (drop 1 (after_part row.BUFFER text.now))))) (buffer_seen (context_of (workspace work.old)) (tree_at row.BUFFER text.now)) (seen_by (workspace work.old))) (workspace work.old)) }
+    ensures same_references { SameReferences work.old work.new }
 {
     let mut c = Cursor::over(text);
     let of = match buffer(&mut c, &surroundings_of(work)) {
@@ -120,7 +120,11 @@ fn unpack_at(
         Err(code) => return Ok(Some(code)),
     };
     let receivers = rest_after(c.rest(), 1);
-    match numbers_of(alloc, work.own, &of, image, count_at(receivers)) {
+    let vars = match variables_with(&surroundings_of(work), &of) {
+        Ok(vars) => vars,
+        Err(code) => return Ok(Some(code)),
+    };
+    match numbers_of(alloc, vars, &of, image, count_at(receivers)) {
         Ok(xs) => give_numbers(work, receivers, &xs),
         Err(fault) => code_of_fault(fault),
     }
@@ -135,7 +139,7 @@ pub fn unpack_numbers(
 ) -> Result<Option<Code>, NoMemory>
     requires part { is_part row.UNPACK unit.now ≡ true }
     ensures worked { IfOk result (λ code. record { work = workspace work.new; code = code } ≡ spec.unpacks (tree_at row.UNPACK unit.now) (workspace work.old)) }
-    ensures same_reference { work.new.own.ghost_name ≡ work.old.own.ghost_name }
+    ensures same_references { SameReferences work.old work.new }
 {
     let text = rest_after(unit, 1);
     let image = image_at(text);

@@ -3,7 +3,7 @@ ghost use Rattle.std.specs.Prelude.{◌≡◌, true, IfOk};
 ghost use Rattle.b2_rows.specs.Rows.{is_part, tree_at};
 ghost use Rattle.b2_access.specs.Answering.{can_answer};
 ghost use Rattle.b2_access.specs.Lending.{globals_lent, seen_lent};
-ghost use Rattle.b2_expr.specs.Workspace.{workspace};
+ghost use Rattle.b2_expr.specs.Workspace.{SameReferences, workspace};
 ghost use Rattle.b2_stmt_pack.specs.Plan as spec;
 
 use crate::fields::{pack_fields, unpack_fields};
@@ -37,7 +37,7 @@ fn change(
 ) -> Result<Option<Code>, NoMemory>
     requires part { is_part row unit.now ≡ true }
     ensures worked { IfOk result (λ code. record { work = workspace work.new; code = code } ≡ spec.changes row (tree_at row unit.now) (workspace work.old)) }
-    ensures same_reference { work.new.own.ghost_name ≡ work.old.own.ghost_name }
+    ensures same_references { SameReferences work.old work.new }
 {
     match row {
         rows::PACK => pack_numbers(alloc, work, unit),
@@ -57,7 +57,6 @@ pub fn plan(
 ) -> Result<Planned, NoMemory>
     ensures planned { IfOk result (λ p. record { me = me.new; globals = globals_lent lent.new; planned = p } ≡ spec.plan me.old (seen_lent lent.old)) }
     ensures same_texts { (lent.new.own ≡ lent.old.own) × (lent.new.home ≡ lent.old.home) }
-    ensures same_globals { lent.new.globals.now ≡ lent.old.globals.now }
     ensures same_reference { lent.new.globals.ghost_name ≡ lent.old.globals.ghost_name }
     ensures part { me.new.part ≡ me.old.part }
 {
@@ -65,15 +64,20 @@ pub fn plan(
         return Ok(Planned::Done(Outcome::Ready));
     };
     let setting = setting_of(me);
-    let Some(unit) = statement_placed(place, &me.immediate, lent.home) else {
+    let home = lent.home;
+    let Some(unit) = statement_placed(place, &me.immediate, home) else {
         return Ok(Planned::Done(Outcome::Ready));
     };
     let mut work = Workspace {
         own: &mut me.vars,
+        globals: lent.globals,
+        found: lent.found,
+        reached: lent.reached,
         setting,
-        home: lent.home,
+        home,
     };
     let code = change(alloc, &mut work, unit.row, unit.bytes)?;
+    lent.reached = work.reached;
     Ok(Planned::Done(goes_or(Outcome::Next, code)))
 }
 
@@ -87,7 +91,6 @@ pub fn finish(
 ) -> Result<Outcome, NoMemory>
     requires possible { can_answer access.now answer.now ≡ true }
     ensures finished { IfOk result (λ o. record { me = me.new; globals = globals_lent lent.new; outcome = o } ≡ spec.finish access.now answer.now me.old (seen_lent lent.old)) }
-    ensures same_globals { lent.new.globals.now ≡ lent.old.globals.now }
     ensures same_reference { lent.new.globals.ghost_name ≡ lent.old.globals.ghost_name }
     ensures part { me.new.part ≡ me.old.part }
 {

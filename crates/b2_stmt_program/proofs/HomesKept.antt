@@ -66,4 +66,4 @@ module _ (among : ℕ → Bool) where
   finished_in x a me s w = let h = ended_in (replacing x) x a s.own.lines me w in (put_in me (ends x a s.own.lines me) w h.0, h.1)
 
 pub finishes_within : FinishesWithin finish
-finishes_within among x a me s w = finished_in among x a me s w
+finishes_within among x a me s leads w = finished_in among x a me s w

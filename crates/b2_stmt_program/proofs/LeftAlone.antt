@@ -1,4 +1,4 @@
--- What statements on programs on disks leave alone, whatever they are: one record of what HomesKept, KeptPlaces and Waits have.
+-- What statements on programs on disks leave alone, whatever they are: one record of what HomesKept, KeptPlaces, Waits and Reached have.
 use Rattle.b2_stmt_program.specs.Laws.{StatementsLeaveTheRest}
 use Rattle.b2_stmt_program.proofs.HomesKept.{finishes_within, plans_within}
 use Rattle.b2_stmt_program.proofs.KeptPlaces.{
@@ -11,6 +11,7 @@ use Rattle.b2_stmt_program.proofs.KeptPlaces.{
   plans_keep_none,
   plans_to_show,
 }
+use Rattle.b2_stmt_program.proofs.Reached.{finishes_reach, plans_reach}
 use Rattle.b2_stmt_program.proofs.Waits.{finishes_unchanged, plans_before_changes}
 
 pub leave_the_rest : StatementsLeaveTheRest
@@ -27,4 +28,6 @@ leave_the_rest devices = record {
   finishes_to_show = finishes_to_show;
   plans_before_changes = plans_before_changes devices;
   finishes_unchanged = finishes_unchanged;
+  plans_reach = plans_reach devices;
+  finishes_reach = finishes_reach;
 }

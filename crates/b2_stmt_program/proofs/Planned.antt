@@ -1,5 +1,5 @@
 -- What statements on programs on disks plan: they ask for an access at a platter that the partition may use; and how they finish.
-use Rattle.std.specs.Prelude.{◌≡◌, ℕ, ◌==◌, ◌||◌, Bool, is_some, List, [], None, Result, Ok, refl}
+use Rattle.std.specs.Prelude.{◌≡◌, ℕ, ◌==◌, ◌||◌, Bool, is_some, List, [], Result, Ok, refl, Option}
 use Rattle.b2_base.specs.declared.codes.TheConstants.{S18_ALPHA, S26_PROGRAM_ONLY, S27_LEFT_OUT}
 use Rattle.b2_atom.specs.Tree.{Trees}
 use Rattle.b2_atom.specs.Tree.Trees.{Done, Put, In}
@@ -25,7 +25,7 @@ use Rattle.b2_drive.specs.Asking.{asks_or_fails}
 use Rattle.b2_drive.specs.Drives.{DrivesSeen, drives_of}
 use Rattle.b2_drive.specs.FileNames.{name_given}
 use Rattle.b2_drive.proofs.Asked.{Fits, after_drive, after_name, after_value}
-use Rattle.b2_stmt_program.specs.Loading.{asks_to_load}
+use Rattle.b2_stmt_program.specs.Loading.{asks_to_load, given_up}
 use Rattle.b2_stmt_program.specs.Plan.{asked_of, does, is_refused, works}
 use Rattle.b2_stmt_program.specs.Saving.{asks_to_save, lines_saved, old_named, saves}
 
@@ -43,19 +43,19 @@ module _ (F : Planned → Type 0) (d : DrivesSeen) (failed : (code : ℕ) → F 
       (λ x named. asks (saves addr o x (lines_saved lines)) (record { listed = (listed, tt); terminal = refl; homes = refl; legal = named }) refl)))
   save_asked e t = failed S18_ALPHA
 
-  load_asked : (e : Context) (program : Bool) (t : Trees) → Asked (asks_to_load d e program t)
+  load_asked : (e : Context) (declared : Option (List ℕ)) (program : Bool) (t : Trees) → Asked (asks_to_load d e declared program t)
   unfolding Asked
-  load_asked e program (Put word (In k run (In n drive (In m name end)))) =
-      after_drive F d failed drive (λ addr. name_given e name >>= (λ x. Ok (access.LoadProgram addr x (k == 1 || program) None 0)))
-      (λ addr listed. after_value F d failed (name_given e name) (λ x. Ok (access.LoadProgram addr x (k == 1 || program) None 0))
-      (λ x. asks (access.LoadProgram addr x (k == 1 || program) None 0) (record { listed = (listed, tt); terminal = refl; homes = refl; legal = tt }) refl))
-  load_asked e program t = failed S18_ALPHA
+  load_asked e declared program (Put word (In k run (In n drive (In m name end)))) =
+      after_drive F d failed drive (λ addr. name_given e name >>= (λ x. Ok (access.LoadProgram addr x (k == 1 || program) (given_up (k == 1 || program) declared) 0)))
+      (λ addr listed. after_value F d failed (name_given e name) (λ x. Ok (access.LoadProgram addr x (k == 1 || program) (given_up (k == 1 || program) declared) 0))
+      (λ x. asks (access.LoadProgram addr x (k == 1 || program) (given_up (k == 1 || program) declared) 0) (record { listed = (listed, tt); terminal = refl; homes = refl; legal = tt }) refl))
+  load_asked e declared program t = failed S18_ALPHA
 
-  each_asked : (e : Context) (program : Bool) (r : ℕ) (t : Trees) → F (asks_or_fails (asked_of d e program r t))
+  each_asked : (e : Context) (declared : Option (List ℕ)) (program : Bool) (r : ℕ) (t : Trees) → F (asks_or_fails (asked_of d e declared program r t))
   unfolding Asked
-  each_asked e program r t =
+  each_asked e declared program r t =
       either Asked (r == row.SAVE) _ _ (save_asked e t)
-      (either Asked (r == row.LOAD) _ _ (load_asked e program t) (failed S27_LEFT_OUT))
+      (either Asked (r == row.LOAD) _ _ (load_asked e declared program t) (failed S27_LEFT_OUT))
 
 -- so also of what the statement at a place plans
 module _ (devices : List Device) (me : Private) (s : SeenLent) (F : Planned → Type 0) (ready : F (planned.Done outcome.Ready)) (failed : (code : ℕ) → F (planned.Done (outcome.Failed code)))
@@ -67,4 +67,4 @@ module _ (devices : List Device) (me : Private) (s : SeenLent) (F : Planned → 
   unfolding Each
   each_planned =
       each_course is_refused stops (does devices me s) me s Each ready (failed S26_PROGRAM_ONLY)
-      (λ p is u. each_asked F (drives_of devices me) failed asks (context_of (work_in (setting_of me) s.home me.vars)) (is_some p.line) u.row u.tree)
+      (λ p is u. each_asked F (drives_of devices me) failed asks (context_of (work_in (setting_of me) s.home me.vars s.globals)) me.declared (is_some p.line) u.row u.tree)

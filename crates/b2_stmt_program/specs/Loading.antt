@@ -1,5 +1,5 @@
 -- LOAD: a program on a disk is loaded into the text, in place of its lines or among them.
-use Rattle.std.specs.Prelude.{ℕ, ◌==◌, ◌||◌, Bool, true, false, Option, Some, None, Result, Ok, Err}
+use Rattle.std.specs.Prelude.{ℕ, ◌==◌, ◌||◌, Bool, true, false, List, Option, Some, None, Result, Ok, Err, if◌then◌else◌}
 use Rattle.b2_base.specs.declared.codes.TheConstants.{A08_TEXT_BORROWED, S18_ALPHA}
 use Rattle.b2_atom.specs.Tree.{Trees}
 use Rattle.b2_atom.specs.Tree.Trees.{Put, In}
@@ -18,12 +18,16 @@ use Rattle.b2_drive.specs.Drives.{DrivesSeen, drive_used}
 use Rattle.b2_drive.specs.FileNames.{name_given}
 
 -- The drive first, and then the name. It replaces the lines where it is typed with RUN, and where it stands in a line of the program.
-abbrev pub asks_for : DrivesSeen → Context → Bool → Trees → Trees → Result Access ℕ
-asks_for d e replace drive name = drive_used d drive >>= (λ addr. name_given e name >>= (λ name. Ok (access.LoadProgram addr name replace None 0)))
+-- So does the name go that is declared.
+abbrev pub given_up : Bool → Option (List ℕ) → Option (List ℕ)
+given_up replace declared = if replace then declared else None
 
-abbrev pub asks_to_load : DrivesSeen → Context → Bool → Trees → Result Access ℕ
-asks_to_load d e program (Put word (In k run (In n drive (In m name end)))) = asks_for d e (k == 1 || program) drive name
-asks_to_load d e program t = Err S18_ALPHA
+abbrev pub asks_for : DrivesSeen → Context → Option (List ℕ) → Bool → Trees → Trees → Result Access ℕ
+asks_for d e declared replace drive name = drive_used d drive >>= (λ addr. name_given e name >>= (λ name. Ok (access.LoadProgram addr name replace (given_up replace declared) 0)))
+
+abbrev pub asks_to_load : DrivesSeen → Context → Option (List ℕ) → Bool → Trees → Result Access ℕ
+asks_to_load d e declared program (Put word (In k run (In n drive (In m name end)))) = asks_for d e declared (k == 1 || program) drive name
+asks_to_load d e declared program t = Err S18_ALPHA
 
 -- Whether an access loads a program, and then whether that replaces the lines. The text has changed once it is done, so this isn't
 -- looked up in the statement again.
@@ -35,9 +39,9 @@ replacing a = None
 abbrev pub merged : Private → Steered
 merged me = record { control = control_of (without_frames me); outcome = outcome.Next }
 
--- replaced: the variables that aren't common go besides, and it goes to the first line of the new text, or is ready where there is none
+-- replaced: the variables that aren't common and the declared name go besides, and it goes to the first line of the new text, or is ready where there is none
 abbrev pub without_old : Private → Private
-without_old me = record (without_frames me) { vars = record me.vars { table = common_only me.vars.table } }
+without_old me = record (without_frames me) { vars = record me.vars { table = common_only me.vars.table }; declared = None }
 
 abbrev pub started : Option ℕ → Private → Steered
 started None me = record { control = control_of (without_old me); outcome = outcome.Ready }

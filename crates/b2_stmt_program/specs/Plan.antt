@@ -29,15 +29,15 @@ abbrev pub is_refused : ℕ → Bool → Bool
 is_refused r program = false
 
 -- what a statement asks for, or the first code from the left
-abbrev pub asked_of : DrivesSeen → Context → Bool → ℕ → Trees → Result Access ℕ
-asked_of d e program r t =
+abbrev pub asked_of : DrivesSeen → Context → Option (List ℕ) → Bool → ℕ → Trees → Result Access ℕ
+asked_of d e declared program r t =
     if r == row.SAVE then asks_to_save d e t
-    else (if r == row.LOAD then asks_to_load d e program t
+    else (if r == row.LOAD then asks_to_load d e declared program t
     else Err S27_LEFT_OUT)
 
 abbrev pub does : List Device → Private → SeenLent → Statement → Here → Working
 does devices me s u h =
-    Plans (asks_or_fails (asked_of (drives_of devices me) (context_of (work_in (setting_of me) s.home me.vars)) (is_some h.place.line) u.row u.tree))
+    Plans (asks_or_fails (asked_of (drives_of devices me) (context_of (work_in (setting_of me) s.home me.vars s.globals)) me.declared (is_some h.place.line) u.row u.tree))
 
 -- what the statement at a partition's place plans, over the devices that there are
 abbrev pub works : List Device → Private → SeenLent → Working

@@ -13,20 +13,33 @@ ghost use Rattle.b2_stmt_program.specs.Plan.{ends};
 
 use b2_access::{Access, Answer, Outcome, Private, drop_frames, failed};
 use b2_atom::words::RUN;
-use b2_base::Code;
 use b2_base::codes::A08_TEXT_BORROWED;
 use b2_base::lexical::rest_after;
+use b2_base::{Code, Name8};
 use b2_drive::{Drives, after_change, drive, name_at, past_drive};
 use b2_expr::Env;
 use b2_flow::Place;
 use b2_rows::is_at;
 use b2_text::Text;
 
+/// The name that is given up: the declared one, where the lines are replaced.
+fn given_up(replace: bool, declared: Option<Name8>) -> Option<Name8>
+    ensures { result ≡ spec.given_up replace declared }
+{
+    if replace { declared } else { None }
+}
+
 /// What LOAD asks for by the drive and the name at a text, in place of the lines of the text or among them.
-fn ask_for(d: &Drives<'_>, e: &Env<'_>, replace: bool, text: &[u8]) -> Result<Access, Code>
+fn ask_for(
+    d: &Drives<'_>,
+    e: &Env<'_>,
+    declared: Option<Name8>,
+    replace: bool,
+    text: &[u8],
+) -> Result<Access, Code>
     requires drive { is_part row.DRIVE_COMMA text.now ≡ true }
     requires name { is_part row.ALPHA (after_part row.DRIVE_COMMA text.now) ≡ true }
-    ensures { result ≡ spec.asks_for (drives_seen d.now) (in_statement (surroundings e.now)) replace (tree_at row.DRIVE_COMMA text.now) (tree_at row.ALPHA (after_part row.DRIVE_COMMA text.now)) }
+    ensures { result ≡ spec.asks_for (drives_seen d.now) (in_statement (surroundings e.now)) declared replace (tree_at row.DRIVE_COMMA text.now) (tree_at row.ALPHA (after_part row.DRIVE_COMMA text.now)) }
 {
     let addr = match drive(d, text) {
         Ok(addr) => addr,
@@ -37,7 +50,7 @@ fn ask_for(d: &Drives<'_>, e: &Env<'_>, replace: bool, text: &[u8]) -> Result<Ac
             addr,
             name,
             replace,
-            declared: None,
+            declared: given_up(replace, declared),
             homes: 0,
         }),
         Err(code) => Err(code),
@@ -46,15 +59,21 @@ fn ask_for(d: &Drives<'_>, e: &Env<'_>, replace: bool, text: &[u8]) -> Result<Ac
 
 /// What LOAD asks for, in a line of the program or in an immediate line: its drive first, and then the name of the program.
 #[tactic(auto, using(crate::proofs::LoadRows::run_drive, crate::proofs::LoadRows::run_name, crate::proofs::LoadRows::run_is, crate::proofs::LoadRows::load_drive, crate::proofs::LoadRows::load_name, crate::proofs::LoadRows::load_is))]
-pub fn ask_to_load(d: &Drives<'_>, e: &Env<'_>, program: bool, unit: &[u8]) -> Result<Access, Code>
+pub fn ask_to_load(
+    d: &Drives<'_>,
+    e: &Env<'_>,
+    declared: Option<Name8>,
+    program: bool,
+    unit: &[u8],
+) -> Result<Access, Code>
     requires part { is_part row.LOAD unit.now ≡ true }
-    ensures { result ≡ spec.asks_to_load (drives_seen d.now) (in_statement (surroundings e.now)) program (tree_at row.LOAD unit.now) }
+    ensures { result ≡ spec.asks_to_load (drives_seen d.now) (in_statement (surroundings e.now)) declared program (tree_at row.LOAD unit.now) }
 {
     let text = rest_after(unit, 1);
     if is_at(RUN, text) {
-        return ask_for(d, e, true, rest_after(text, 1));
+        return ask_for(d, e, declared, true, rest_after(text, 1));
     }
-    ask_for(d, e, program, text)
+    ask_for(d, e, declared, program, text)
 }
 
 /// After the lines of a program came among those of the text.
@@ -66,13 +85,14 @@ fn merge(me: &mut Private) -> Outcome
     Outcome::Next
 }
 
-/// After they came in place of those of the text: the program starts at its first line.
+/// After they came in place of those of the text: no name is declared, and the program starts at its first line.
 fn start(me: &mut Private, first: Option<u16>) -> Outcome
     ensures ended { record { me = me.new; outcome = result } ≡ steered me.old (spec.started first me.old) }
     ensures part { me.new.part ≡ me.old.part }
 {
     drop_frames(me);
     me.vars.clear_non_common();
+    me.declared = None;
     match first {
         Some(n) => Outcome::Jump(Place {
             home: me.part,

@@ -16,7 +16,7 @@ use b2_access::{
 };
 use b2_atom::rows;
 use b2_base::codes::S27_LEFT_OUT;
-use b2_base::{Code, NoMemory};
+use b2_base::{Code, Name8, NoMemory};
 use b2_drive::{Drives, asks_or_fails, drives_for};
 use b2_expr::{Env, Workspace, surroundings_of};
 use b2_rows::RowUnit;
@@ -30,13 +30,19 @@ pub fn is_built(row: u16) -> bool
 }
 
 /// What a statement asks for, in a line of the program or in an immediate line, or the first code from the left.
-fn ask(d: &Drives<'_>, e: &Env<'_>, program: bool, unit: &RowUnit<'_>) -> Result<Access, Code>
+fn ask(
+    d: &Drives<'_>,
+    e: &Env<'_>,
+    declared: Option<Name8>,
+    program: bool,
+    unit: &RowUnit<'_>,
+) -> Result<Access, Code>
     requires read { IsRow unit.now.row unit.now.bytes.now (tree_at unit.now.row unit.now.bytes.now) }
-    ensures { result ≡ spec.asked_of (drives_seen d.now) (in_statement (surroundings e.now)) program unit.now.row (tree_at unit.now.row unit.now.bytes.now) }
+    ensures { result ≡ spec.asked_of (drives_seen d.now) (in_statement (surroundings e.now)) declared program unit.now.row (tree_at unit.now.row unit.now.bytes.now) }
 {
     match unit.row {
         rows::SAVE => ask_to_save(d, e, unit.bytes),
-        rows::LOAD => ask_to_load(d, e, program, unit.bytes),
+        rows::LOAD => ask_to_load(d, e, declared, program, unit.bytes),
         _ => Err(Code::known(S27_LEFT_OUT)),
     }
 }
@@ -62,13 +68,17 @@ pub fn plan(
     let Some(unit) = statement_placed(place, &me.immediate, lent.home) else {
         return Ok(Planned::Done(Outcome::Ready));
     };
+    let declared = me.declared;
     let work = Workspace {
         own: &mut me.vars,
+        globals: lent.globals,
+        found: lent.found,
+        reached: lent.reached,
         setting,
         home: lent.home,
     };
     let e = surroundings_of(&work);
-    Ok(asks_or_fails(ask(&d, &e, place.line.is_some(), &unit)))
+    Ok(asks_or_fails(ask(&d, &e, declared, place.line.is_some(), &unit)))
 }
 
 /// How a statement finishes, by the access that it asked for and its answer, which is one that the access can have.

@@ -1,5 +1,5 @@
 -- What a call that changes the bytes of a buffer leaves, by what it makes of them.
-use Rattle.std.proofs.Common.{◌≡◌, ℕ, ◌+◌, ◌-◌, List, take, length, Option, None, Result, Ok, Err, sym, ap, ◌∙◌, arith}
+use Rattle.std.proofs.Common.{◌≡◌, ℕ, ◌+◌, ◌-◌, ◌||◌, Bool, List, take, length, Option, None, Some, Result, Ok, Err, sym, ap, ◌∙◌, arith}
 use Rattle.std.proofs.Math.Seq.{take-length}
 use Rattle.std.specs.Prelude.{OnOk, OnErr}
 use Rattle.b2_base.specs.declared.codes.Fault.{Fault}
@@ -13,7 +13,8 @@ use Rattle.b2_receiver.specs.Assigning.{ChangesBuffer, EndsWith, buffer_code, re
 use Rattle.b2_receiver.specs.declared.receiver.Buffer.{Buffer}
 use Rattle.b2_receiver.specs.declared.receiver.Buffer.TheVariants as buffer_kind
 use Rattle.b2_vars.specs.Assigned.{Assigned}
-use Rattle.b2_expr.specs.Workspace.{WorkState, on_own}
+use Rattle.b2_expr.specs.Workspace.{WorkState, counts_as_reached, on_globals, on_own}
+use Rattle.b2_receiver.proofs.Ended.{lent_by}
 use Rattle.b2_stmt_var.specs.Buffers.{bytes_changed, with_changed}
 
 same_state : (a b : VarsState) → a.area ≡ b.area → a.table ≡ b.table → a ≡ b
@@ -74,3 +75,17 @@ changed_work f gives to w new r code ok coded err ends is = ap (λ (a : Assigned
 pub kept_work : (o : Option ℕ) (w : WorkState) (after new : VarsState) (r : Result (Unit {0}) Fault) (code : Option ℕ) → OnOk r (new ≡ after) → AnswersOrFails o r → OnErr r (new ≡ w.own) → EndsWith r code
     → record { work = record w { own = new }; code = code } ≡ on_own (unless_refused o w.own (record { vars = after; code = None })) w
 kept_work o w after new r code ok coded err ends = ap (λ (a : Assigned). on_own a w) (kept_so o w.own after new r code ok coded err ends)
+
+-- and among the `@` variables, with whether a receiver was reached
+pub changed_lent : (f : List ℕ → List ℕ) (gives : List ℕ → List ℕ → Type 0) (to : Buffer) (w : WorkState) (old new : VarsState) (reached : Bool) (r : Result (Unit {0}) Fault) (code : Option ℕ)
+    → OnOk r (ChangesBuffer gives to old new) → AnswersOrFails (buffer_code to old) r → OnErr r (new ≡ old) → EndsWith r code → ((x y : List ℕ) → gives x y → y ≡ f x)
+    → reached ≡ (w.globals.reached || counts_as_reached code)
+    → record { work = record w { globals = record { vars = Some new; reached = reached } }; code = code } ≡ on_globals (bytes_changed f to old) w
+changed_lent f gives to w old new reached r code ok coded err ends is marks =
+    lent_by (bytes_changed f to old) (record { vars = new; code = code }) w reached marks (changed_so f gives to old new r code ok coded err ends is)
+
+pub kept_lent : (o : Option ℕ) (w : WorkState) (old after new : VarsState) (reached : Bool) (r : Result (Unit {0}) Fault) (code : Option ℕ) → OnOk r (new ≡ after) → AnswersOrFails o r → OnErr r (new ≡ old) → EndsWith r code
+    → reached ≡ (w.globals.reached || counts_as_reached code)
+    → record { work = record w { globals = record { vars = Some new; reached = reached } }; code = code } ≡ on_globals (unless_refused o old (record { vars = after; code = None })) w
+kept_lent o w old after new reached r code ok coded err ends marks =
+    lent_by (unless_refused o old (record { vars = after; code = None })) (record { vars = new; code = code }) w reached marks (kept_so o old after new r code ok coded err ends)

@@ -1,5 +1,5 @@
 -- The entries of DIM and COM, by their rows.
-use Rattle.std.proofs.Common.{◌≡◌, ◌<◌, ℕ, ◌==◌, Bool, true, false, if◌then◌else◌, List, [], ◌∷◌, length, drop, Option, Some, None, Result, Ok, Err, refl, sym, ap, ◌∙◌}
+use Rattle.std.proofs.Common.{◌≡◌, ◌<◌, ℕ, ◌==◌, ◌||◌, not, is_some, Bool, true, false, if◌then◌else◌, List, [], ◌∷◌, length, drop, Option, Some, None, Result, Ok, Err, refl, sym, ap, ◌∙◌}
 use Rattle.b2_base.specs.Byte as byte
 use Rattle.b2_base.specs.Lexical.{first}
 use Rattle.b2_base.specs.declared.codes.TheConstants.{S13_SEPARATOR, S20_VARIABLE, S22_WORD, X77_NO_PARTITION}
@@ -32,7 +32,7 @@ use Rattle.b2_expr.specs.Scope.{Context}
 use Rattle.b2_rows.proofs.RowsRead.{stands_of}
 use Rattle.b2_rows.specs.CommaLists.{further_listed, commas}
 use Rattle.b2_dims.specs.Dimensions.{array_shape}
-use Rattle.b2_stmt_var.specs.Dimensions.{entries_of, entry_in, entry_of, is_com, length_alone, lone_shape, entry_named, shape_after}
+use Rattle.b2_stmt_var.specs.Dimensions.{entries_of, entry_in, entry_of, has_variables, is_com, length_alone, lone_shape, entry_named, shape_after}
 use Rattle.b2_stmt_var.specs.declared.dimensions.Entry.{Entry}
 use Rattle.b2_rows.proofs.CommaLists.{IsComma, Other, other, tail_at, items_of_other, no_items_left, item_shorter}
 
@@ -40,24 +40,25 @@ loop_begins : (c : ℕ) (t : Text) (b : Bool) → (first t == c) ≡ b → start
 unfolding starts
 loop_begins c t b is = is
 
--- an entry by its name and the shape after it, where there are no `@` variables
+-- an entry by its name and the shape after it, where there are variables of its kind
 abbrev entry_with : Name → Bool → Result Shape ℕ → Result Entry ℕ
-entry_with name array shape = shape >>= (λ s. Ok (record { var = variable_of name array; shape = s }))
+entry_with name array shape = shape >>= (λ s. Ok (record { global = name.global; var = variable_of name array; shape = s }))
 
-refused_by : (g : Bool) (o : Option VarsState) (own : VarsState) (r : VarsState → Result Entry ℕ) → o ≡ None → g ≡ true → ((if g then or_code X77_NO_PARTITION o else Ok own) >>= r) ≡ Err X77_NO_PARTITION
-refused_by true None own r none is = refl
-refused_by true (Some x) own r none is = cc
-refused_by false o own r none is = cc
+refused_by : (g : Bool) (o : Option VarsState) (own : VarsState) (r : VarsState → Result Entry ℕ) → (not g || is_some o) ≡ false → ((if g then or_code X77_NO_PARTITION o else Ok own) >>= r) ≡ Err X77_NO_PARTITION
+refused_by true None own r is = refl
+refused_by true (Some x) own r is = cc
+refused_by false o own r is = cc
 
-own_by : (g : Bool) (o : Option VarsState) (own : VarsState) (r : Result Entry ℕ) → g ≡ false → ((if g then or_code X77_NO_PARTITION o else Ok own) >>= (λ vars. r)) ≡ r
-own_by false o own r is = refl
-own_by true o own r is = cc
+there_with : (g : Bool) (o : Option VarsState) (own : VarsState) (r : Result Entry ℕ) → (not g || is_some o) ≡ true → ((if g then or_code X77_NO_PARTITION o else Ok own) >>= (λ vars. r)) ≡ r
+there_with false o own r is = refl
+there_with true (Some x) own r is = refl
+there_with true None own r is = cc
 
-refused : (s : Context) (name : Name) (n : ℕ) (t : Trees) → s.around.globals ≡ None → name.global ≡ true → entry_of s name n t ≡ Err X77_NO_PARTITION
-refused s name n t none is = refused_by name.global s.around.globals s.around.own _ none is
+refused : (s : Context) (name : Name) (n : ℕ) (t : Trees) → has_variables s.around name ≡ false → entry_of s name n t ≡ Err X77_NO_PARTITION
+refused s name n t is = refused_by name.global s.around.globals s.around.own _ is
 
-own : (s : Context) (name : Name) (n : ℕ) (t : Trees) → name.global ≡ false → entry_of s name n t ≡ entry_with name (n == 1) (shape_after s name.alpha n t)
-own s name n t is = own_by name.global s.around.globals s.around.own (entry_with name (n == 1) (shape_after s name.alpha n t)) is
+named : (s : Context) (name : Name) (n : ℕ) (t : Trees) → has_variables s.around name ≡ true → entry_of s name n t ≡ entry_with name (n == 1) (shape_after s name.alpha n t)
+named s name n t is = there_with name.global s.around.globals s.around.own (entry_with name (n == 1) (shape_after s name.alpha n t)) is
 
 -- an alpha name
 abbrev alpha_items : List Item
@@ -122,28 +123,28 @@ alpha_rest t b = if b then after_part row.SUBSCRIPTS_AND_LENGTH (after_alpha t) 
 alpha_rest_is : (t : Text) (b : Bool) → is_part row.DIMENSIONED_ALPHA t ≡ true → (first (after_alpha t) == byte.opening) ≡ b → after_part row.DIMENSIONED_ALPHA t ≡ alpha_rest t b
 alpha_rest_is t b ok is = (stands_of row.DIMENSIONED_ALPHA alpha_items t alpha_row ok).2 ∙ ap (alpha_rest t) (loop_begins byte.opening (after_alpha t) b is)
 
-global_by : (s : Context) (t : Text) (b : Bool) → s.around.globals ≡ None → (alpha_named t).global ≡ true → entry_named s true (alpha_tree t b) ≡ Err X77_NO_PARTITION
+global_by : (s : Context) (t : Text) (b : Bool) → has_variables s.around (alpha_named t) ≡ false → entry_named s true (alpha_tree t b) ≡ Err X77_NO_PARTITION
 unfolding entry_named
-global_by s t true none is = refused s (alpha_named t) 1 _ none is
-global_by s t false none is = refused s (alpha_named t) 0 _ none is
+global_by s t true is = refused s (alpha_named t) 1 _ is
+global_by s t false is = refused s (alpha_named t) 0 _ is
 
-pub alpha_global : (s : Context) (t : Text) → is_part row.DIMENSIONED_ALPHA t ≡ true → s.around.globals ≡ None → (alpha_named t).global ≡ true → entry_named s true (tree_at row.DIMENSIONED_ALPHA t) ≡ Err X77_NO_PARTITION
-alpha_global s t ok none is = ap (entry_named s true) (alpha_tree_is t (first (after_alpha t) == byte.opening) ok refl) ∙ global_by s t (first (after_alpha t) == byte.opening) none is
+pub alpha_global : (s : Context) (t : Text) → is_part row.DIMENSIONED_ALPHA t ≡ true → has_variables s.around (alpha_named t) ≡ false → entry_named s true (tree_at row.DIMENSIONED_ALPHA t) ≡ Err X77_NO_PARTITION
+alpha_global s t ok is = ap (entry_named s true) (alpha_tree_is t (first (after_alpha t) == byte.opening) ok refl) ∙ global_by s t (first (after_alpha t) == byte.opening) is
 
-pub alpha_array_is : (s : Context) (t : Text) → is_part row.DIMENSIONED_ALPHA t ≡ true → (alpha_named t).global ≡ false → (first (after_alpha t) == byte.opening) ≡ true
-    → entry_named s true (tree_at row.DIMENSIONED_ALPHA t) ≡ (array_shape s 16 true (tree_at row.SUBSCRIPTS_AND_LENGTH (after_alpha t)) >>= (λ shape. Ok (record { var = variable_of (alpha_named t) true; shape = shape })))
+pub alpha_array_is : (s : Context) (t : Text) → is_part row.DIMENSIONED_ALPHA t ≡ true → has_variables s.around (alpha_named t) ≡ true → (first (after_alpha t) == byte.opening) ≡ true
+    → entry_named s true (tree_at row.DIMENSIONED_ALPHA t) ≡ (array_shape s 16 true (tree_at row.SUBSCRIPTS_AND_LENGTH (after_alpha t)) >>= (λ shape. Ok (record { global = (alpha_named t).global; var = variable_of (alpha_named t) true; shape = shape })))
 unfolding entry_named
-alpha_array_is s t ok mine is = ap (entry_named s true) (alpha_tree_is t true ok is) ∙ own s (alpha_named t) 1 (tree_at row.SUBSCRIPTS_AND_LENGTH (after_alpha t)) mine
+alpha_array_is s t ok mine is = ap (entry_named s true) (alpha_tree_is t true ok is) ∙ named s (alpha_named t) 1 (tree_at row.SUBSCRIPTS_AND_LENGTH (after_alpha t)) mine
 
 pub alpha_array_rest : (t : Text) → is_part row.DIMENSIONED_ALPHA t ≡ true → (first (after_alpha t) == byte.opening) ≡ true → after_part row.DIMENSIONED_ALPHA t ≡ after_part row.SUBSCRIPTS_AND_LENGTH (after_alpha t)
 alpha_array_rest t ok is = alpha_rest_is t true ok is
 
-pub alpha_lone_is : (s : Context) (t : Text) → is_part row.DIMENSIONED_ALPHA t ≡ true → (alpha_named t).global ≡ false → (first (after_alpha t) == byte.opening) ≡ false
-    → entry_named s true (tree_at row.DIMENSIONED_ALPHA t) ≡ (lone_shape s true (maybe_tree start.Numeric row.LENGTH (after_alpha t)) >>= (λ shape. Ok (record { var = variable_of (alpha_named t) false; shape = shape })))
+pub alpha_lone_is : (s : Context) (t : Text) → is_part row.DIMENSIONED_ALPHA t ≡ true → has_variables s.around (alpha_named t) ≡ true → (first (after_alpha t) == byte.opening) ≡ false
+    → entry_named s true (tree_at row.DIMENSIONED_ALPHA t) ≡ (lone_shape s true (maybe_tree start.Numeric row.LENGTH (after_alpha t)) >>= (λ shape. Ok (record { global = (alpha_named t).global; var = variable_of (alpha_named t) false; shape = shape })))
 unfolding entry_named
 alpha_lone_is s t ok mine is =
     ap (entry_named s true) (alpha_tree_is t false ok is)
-    ∙ own s (alpha_named t) 0 (tree_at row.MAYBE_LENGTH (after_alpha t)) mine
+    ∙ named s (alpha_named t) 0 (tree_at row.MAYBE_LENGTH (after_alpha t)) mine
     ∙ ap (λ (a : Trees). entry_with (alpha_named t) false (lone_shape s true a)) (lone_tree (after_alpha t) (lone_part t ok is))
 
 pub alpha_lone_rest : (t : Text) → is_part row.DIMENSIONED_ALPHA t ≡ true → (first (after_alpha t) == byte.opening) ≡ false → after_part row.DIMENSIONED_ALPHA t ≡ after_maybe start.Numeric row.LENGTH (after_alpha t)
@@ -185,26 +186,26 @@ number_rest t b = if b then after_part row.SUBSCRIPTS_AND_LENGTH (after_number t
 number_rest_is : (t : Text) (b : Bool) → is_part row.DIMENSIONED_NUMERIC t ≡ true → (first (after_number t) == byte.opening) ≡ b → after_part row.DIMENSIONED_NUMERIC t ≡ number_rest t b
 number_rest_is t b ok is = (stands_of row.DIMENSIONED_NUMERIC number_items t number_row ok).2 ∙ ap (number_rest t) (loop_begins byte.opening (after_number t) b is)
 
-number_global_by : (s : Context) (t : Text) (b : Bool) → s.around.globals ≡ None → (number_named t).global ≡ true → entry_named s false (number_tree t b) ≡ Err X77_NO_PARTITION
+number_global_by : (s : Context) (t : Text) (b : Bool) → has_variables s.around (number_named t) ≡ false → entry_named s false (number_tree t b) ≡ Err X77_NO_PARTITION
 unfolding entry_named
-number_global_by s t true none is = refused s (number_named t) 1 _ none is
-number_global_by s t false none is = refused s (number_named t) 0 _ none is
+number_global_by s t true is = refused s (number_named t) 1 _ is
+number_global_by s t false is = refused s (number_named t) 0 _ is
 
-pub number_global : (s : Context) (t : Text) → is_part row.DIMENSIONED_NUMERIC t ≡ true → s.around.globals ≡ None → (number_named t).global ≡ true → entry_named s false (tree_at row.DIMENSIONED_NUMERIC t) ≡ Err X77_NO_PARTITION
-number_global s t ok none is = ap (entry_named s false) (number_tree_is t (first (after_number t) == byte.opening) ok refl) ∙ number_global_by s t (first (after_number t) == byte.opening) none is
+pub number_global : (s : Context) (t : Text) → is_part row.DIMENSIONED_NUMERIC t ≡ true → has_variables s.around (number_named t) ≡ false → entry_named s false (tree_at row.DIMENSIONED_NUMERIC t) ≡ Err X77_NO_PARTITION
+number_global s t ok is = ap (entry_named s false) (number_tree_is t (first (after_number t) == byte.opening) ok refl) ∙ number_global_by s t (first (after_number t) == byte.opening) is
 
-pub number_array_is : (s : Context) (t : Text) → is_part row.DIMENSIONED_NUMERIC t ≡ true → (number_named t).global ≡ false → (first (after_number t) == byte.opening) ≡ true
-    → entry_named s false (tree_at row.DIMENSIONED_NUMERIC t) ≡ (array_shape s 0 false (tree_at row.SUBSCRIPTS_AND_LENGTH (after_number t)) >>= (λ shape. Ok (record { var = variable_of (number_named t) true; shape = shape })))
+pub number_array_is : (s : Context) (t : Text) → is_part row.DIMENSIONED_NUMERIC t ≡ true → has_variables s.around (number_named t) ≡ true → (first (after_number t) == byte.opening) ≡ true
+    → entry_named s false (tree_at row.DIMENSIONED_NUMERIC t) ≡ (array_shape s 0 false (tree_at row.SUBSCRIPTS_AND_LENGTH (after_number t)) >>= (λ shape. Ok (record { global = (number_named t).global; var = variable_of (number_named t) true; shape = shape })))
 unfolding entry_named
-number_array_is s t ok mine is = ap (entry_named s false) (number_tree_is t true ok is) ∙ own s (number_named t) 1 (tree_at row.SUBSCRIPTS_AND_LENGTH (after_number t)) mine
+number_array_is s t ok mine is = ap (entry_named s false) (number_tree_is t true ok is) ∙ named s (number_named t) 1 (tree_at row.SUBSCRIPTS_AND_LENGTH (after_number t)) mine
 
 pub number_array_rest : (t : Text) → is_part row.DIMENSIONED_NUMERIC t ≡ true → (first (after_number t) == byte.opening) ≡ true → after_part row.DIMENSIONED_NUMERIC t ≡ after_part row.SUBSCRIPTS_AND_LENGTH (after_number t)
 number_array_rest t ok is = number_rest_is t true ok is
 
-pub number_lone_is : (s : Context) (t : Text) → is_part row.DIMENSIONED_NUMERIC t ≡ true → (number_named t).global ≡ false → (first (after_number t) == byte.opening) ≡ false
-    → entry_named s false (tree_at row.DIMENSIONED_NUMERIC t) ≡ Ok (record { var = variable_of (number_named t) false; shape = record { rows = 0; cols = 0; len = 0 } })
+pub number_lone_is : (s : Context) (t : Text) → is_part row.DIMENSIONED_NUMERIC t ≡ true → has_variables s.around (number_named t) ≡ true → (first (after_number t) == byte.opening) ≡ false
+    → entry_named s false (tree_at row.DIMENSIONED_NUMERIC t) ≡ Ok (record { global = (number_named t).global; var = variable_of (number_named t) false; shape = record { rows = 0; cols = 0; len = 0 } })
 unfolding entry_named lone_shape length_alone
-number_lone_is s t ok mine is = ap (entry_named s false) (number_tree_is t false ok is) ∙ own s (number_named t) 0 Done mine
+number_lone_is s t ok mine is = ap (entry_named s false) (number_tree_is t false ok is) ∙ named s (number_named t) 0 Done mine
 
 pub number_lone_rest : (t : Text) → is_part row.DIMENSIONED_NUMERIC t ≡ true → (first (after_number t) == byte.opening) ≡ false → after_part row.DIMENSIONED_NUMERIC t ≡ after_number t
 number_lone_rest t ok is = number_rest_is t false ok is

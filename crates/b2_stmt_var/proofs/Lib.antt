@@ -22,3 +22,4 @@ pub mod HomesKept
 pub mod KeptPlaces
 pub mod Waits
 pub mod LeftAlone
+pub mod Reached

@@ -12,12 +12,12 @@ use Rattle.b2_vars.specs.Calls.{with_bytes_of}
 use Rattle.b2_vars.specs.Tables.{VarsState, variable_at}
 use Rattle.b2_expr.specs.Answers.{◌>>=◌}
 use Rattle.b2_vars.specs.Assigned.{Assigned}
-use Rattle.b2_receiver.specs.Assigning.{buffer_code, portion_in, reached_by, unless_refused, with_portion}
+use Rattle.b2_receiver.specs.Assigning.{buffer_code, is_global_buffer, portion_in, reached_by, unless_refused, with_portion}
 use Rattle.b2_expr.specs.Functions.{fixed}
 use Rattle.b2_receiver.specs.Receivers.{alpha_receiver, buffer}
 use Rattle.b2_expr.specs.Scope.{Context}
 use Rattle.b2_expr.specs.Value.{context_of, value}
-use Rattle.b2_expr.specs.Workspace.{WorkState, WorkLeft, on_own, refused}
+use Rattle.b2_expr.specs.Workspace.{WorkState, WorkLeft, among, refused}
 use Rattle.b2_expr.specs.declared.operators.Level.TheVariants as level
 use Rattle.b2_receiver.specs.declared.receiver.Buffer.{Buffer}
 use Rattle.b2_receiver.specs.declared.receiver.Buffer.TheVariants as buffer_kind
@@ -48,7 +48,7 @@ buffers_of_init (Put word (In n pair (Put closing buffers))) = all_listed buffer
 buffers_of_init t = []
 
 abbrev pub fills : ℕ → Result Buffer ℕ → WorkState → WorkLeft
-fills b (Ok to) w = on_own (bytes_changed (all_filled b) to w.own) w
+fills b (Ok to) w = among (is_global_buffer to) (bytes_changed (all_filled b) to) w
 fills b (Err code) w = refused code w
 
 abbrev pub fills_one : ℕ → Trees → WorkState → WorkLeft
@@ -70,7 +70,7 @@ turn_in s (Put rotate (In n (In m receiver (Put comma (In k sum end))) close)) =
 turn_in s t = Err S20_VARIABLE
 
 abbrev pub turns : Result Turn ℕ → WorkState → WorkLeft
-turns (Ok turn) w = on_own (bytes_changed (rotated turn.whole turn.bits) (buffer_kind.Value turn.to) w.own) w
+turns (Ok turn) w = among turn.to.element.global (bytes_changed (rotated turn.whole turn.bits) (buffer_kind.Value turn.to)) w
 turns (Err code) w = refused code w
 
 abbrev pub rotates : Trees → WorkState → WorkLeft

@@ -23,4 +23,4 @@ variables_left r next = record { work = r.work; next = next; code = r.code }
 
 -- what it changed of the private state
 abbrev pub with_left : Left → Private → Worked
-with_left l me = record { work = record (work_of me) { vars = l.work.own; next_data = l.next }; outcome = goes_or outcome.Next l.code }
+with_left l me = record { work = record (work_of me) { vars = l.work.own; globals = Some l.work.globals; next_data = l.next }; outcome = goes_or outcome.Next l.code }

@@ -49,7 +49,7 @@ changes r = at_row changing_rows left_out r
 
 -- a statement ends at once, and what it changed is put back
 abbrev pub ended_of : Statement → Private → SeenLent → Worked
-ended_of u me s = with_left (changes u.row s.own.lines u.tree (work_in (setting_of me) s.home me.vars) me.next_data) me
+ended_of u me s = with_left (changes u.row s.own.lines u.tree (work_in (setting_of me) s.home me.vars s.globals) me.next_data) me
 
 abbrev pub does : Private → SeenLent → Statement → Here → Working
 does me s u h = Ends (ended_of u me s)

@@ -6,7 +6,7 @@ ghost use Rattle.b2_receiver.specs.Receiving.{assign_number_at, assign_side_at a
 ghost use Rattle.b2_receiver.specs.RightSide.{is_right_side, right_side_tree, side_seen};
 ghost use Rattle.b2_receiver.specs.RightSide.{right_side as side_of};
 ghost use Rattle.b2_expr.specs.Value.{context_of};
-ghost use Rattle.b2_expr.specs.Workspace.{workspace};
+ghost use Rattle.b2_expr.specs.Workspace.{SameReferences, workspace};
 ghost use Rattle.b2_stmt_var.specs.Assignments as spec;
 ghost use Rattle.b2_stmt_var.specs.Assignments.{side_of_assignment, sum_of_assignment};
 ghost use Rattle.b2_rows.specs.CommaLists.{after_all_listed, all_listed};
@@ -42,7 +42,7 @@ fn expression_after(text: &[u8]) -> &[u8]
 fn assign_all(work: &mut Workspace<'_>, x: Dec, text: &[u8]) -> Result<Option<Code>, NoMemory>
     requires part { is_part row.NUMERIC_ASSIGNMENT text.now ≡ true }
     ensures worked { IfOk result (λ code. record { work = workspace work.new; code = code } ≡ spec.assign_each (assign_number_at (Ok x)) (all_listed (tree_at row.NUMERIC_ASSIGNMENT text.now)) (workspace work.old)) }
-    ensures same_reference { work.new.own.ghost_name ≡ work.old.own.ghost_name }
+    ensures same_references { SameReferences work.old work.new }
 {
     let mut left = text;
     loop {
@@ -62,7 +62,7 @@ fn assign_all(work: &mut Workspace<'_>, x: Dec, text: &[u8]) -> Result<Option<Co
 fn assign_numbers(work: &mut Workspace<'_>, text: &[u8]) -> Result<Option<Code>, NoMemory>
     requires part { is_part row.NUMERIC_ASSIGNMENT text.now ≡ true }
     ensures worked { IfOk result (λ code. record { work = workspace work.new; code = code } ≡ spec.assign_numbers (tree_at row.NUMERIC_ASSIGNMENT text.now) (workspace work.old)) }
-    ensures same_reference { work.new.own.ghost_name ≡ work.old.own.ghost_name }
+    ensures same_references { SameReferences work.old work.new }
 {
     let mut c = Cursor::over(expression_after(text));
     match number(&mut c, &surroundings_of(work)) {
@@ -94,7 +94,7 @@ fn assign_side_to_all(
 ) -> Result<Option<Code>, NoMemory>
     requires part { is_part row.ALPHA_ASSIGNMENT text.now ≡ true }
     ensures worked { IfOk result (λ code. record { work = workspace work.new; code = code } ≡ spec.assign_each (side_assigned_at (side_seen side.now)) (all_listed (tree_at row.ALPHA_ASSIGNMENT text.now)) (workspace work.old)) }
-    ensures same_reference { work.new.own.ghost_name ≡ work.old.own.ghost_name }
+    ensures same_references { SameReferences work.old work.new }
 {
     let mut left = text;
     loop {
@@ -120,7 +120,7 @@ fn assign_side_of(
     requires side { is_right_side side.now ≡ true }
     requires part { is_part row.ALPHA_ASSIGNMENT text.now ≡ true }
     ensures worked { IfOk result (λ code. record { work = workspace work.new; code = code } ≡ spec.sides_by (side_of (context_of (workspace work.old)) (right_side_tree side.now)) (all_listed (tree_at row.ALPHA_ASSIGNMENT text.now)) (workspace work.old)) }
-    ensures same_reference { work.new.own.ghost_name ≡ work.old.own.ghost_name }
+    ensures same_references { SameReferences work.old work.new }
 {
     match right_side(alloc, &mut Cursor::over(side), &surroundings_of(work)) {
         Ok(side) => assign_side_to_all(work, &side, text),
@@ -136,7 +136,7 @@ fn assign_sides(
 ) -> Result<Option<Code>, NoMemory>
     requires part { is_part row.ALPHA_ASSIGNMENT text.now ≡ true }
     ensures worked { IfOk result (λ code. record { work = workspace work.new; code = code } ≡ spec.assign_sides (tree_at row.ALPHA_ASSIGNMENT text.now) (workspace work.old)) }
-    ensures same_reference { work.new.own.ghost_name ≡ work.old.own.ghost_name }
+    ensures same_references { SameReferences work.old work.new }
 {
     assign_side_of(alloc, work, side_after(text), text)
 }
@@ -150,7 +150,7 @@ pub fn assign(
 ) -> Result<Option<Code>, NoMemory>
     requires part { is_part row.ASSIGNMENT text.now ≡ true }
     ensures worked { IfOk result (λ code. record { work = workspace work.new; code = code } ≡ spec.assigns (tree_at row.ASSIGNMENT text.now) (workspace work.old)) }
-    ensures same_reference { work.new.own.ghost_name ≡ work.old.own.ghost_name }
+    ensures same_references { SameReferences work.old work.new }
 {
     if is_alpha_at(text) {
         assign_sides(alloc, work, text)

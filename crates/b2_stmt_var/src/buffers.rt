@@ -4,19 +4,20 @@ ghost use Rattle.b2_alpha.specs.Bits.{rotated};
 ghost use Rattle.b2_atom.specs.declared.rows.TheConstants as row;
 ghost use Rattle.b2_rows.specs.Rows.{is_part, tree_at};
 ghost use Rattle.b2_receiver.specs.Receivers.{IsAlpha, IsBuffer};
+ghost use Rattle.b2_receiver.specs.declared.receiver.Buffer.TheVariants as buffer_kind;
 ghost use Rattle.b2_expr.specs.Scope.{surroundings};
 ghost use Rattle.b2_expr.specs.Value.{in_statement};
-ghost use Rattle.b2_expr.specs.Workspace.{on_own, workspace};
+ghost use Rattle.b2_expr.specs.Workspace.{SameReferences, on_lent, workspace};
 ghost use Rattle.b2_stmt_var.specs.Buffers as spec;
 
 use b2_alpha::rotate;
 use b2_atom::Cursor;
 use b2_atom::words::ROTATEC_OPEN;
-use b2_base::codes::P34_RANGE;
+use b2_base::codes::{P34_RANGE, X77_NO_PARTITION};
 use b2_base::lexical::rest_after;
 use b2_base::{Code, NoMemory};
 use b2_dec::{Dec, fix, whole};
-use b2_expr::{Env, Workspace, number, surroundings_of};
+use b2_expr::{Env, Workspace, number, reached_after, surroundings_of};
 use b2_receiver::{AlphaReceiver, Buffer, alpha_receiver, buffer, change_buffer, code_of};
 use b2_rows::{hex_byte_at, is_at};
 
@@ -31,16 +32,39 @@ pub struct Turn {
     pub bits: i8,
 }
 
+/// Fills bytes.
+fn fill_bytes(bytes: &mut [u8], byte: u8)
+    ensures { bytes.new ≡ spec.all_filled byte bytes.old }
+{
+    bytes.fill(byte);
+}
+
+/// Fills a buffer among the `@` variables with a byte. The code with which that ended, or none.
+#[tactic(auto, using(crate::proofs::Changed::changed_lent))]
+fn fill_lent(work: &mut Workspace<'_>, to: &Buffer, byte: u8) -> Result<Option<Code>, NoMemory>
+    requires named { IsBuffer to.now }
+    ensures worked { IfOk result (λ code. record { work = workspace work.new; code = code } ≡ on_lent (spec.bytes_changed (spec.all_filled byte) to.now) (workspace work.old).globals.vars (workspace work.old)) }
+    ensures same_references { SameReferences work.old work.new }
+{
+    if !work.found {
+        return Ok(Some(Code::known(X77_NO_PARTITION)));
+    }
+    let code = code_of(change_buffer(work.globals, to, |bytes| fill_bytes(bytes, byte)))?;
+    work.reached = reached_after(work.reached, &code);
+    Ok(code)
+}
+
 /// Fills a buffer with a byte. The code with which that ended, or none.
 #[tactic(auto, using(crate::proofs::Changed::changed_work))]
 fn fill_buffer(work: &mut Workspace<'_>, to: &Buffer, byte: u8) -> Result<Option<Code>, NoMemory>
     requires named { IsBuffer to.now }
-    ensures worked { IfOk result (λ code. record { work = workspace work.new; code = code } ≡ on_own (spec.bytes_changed (spec.all_filled byte) to.now (workspace work.old).own) (workspace work.old)) }
-    ensures same_reference { work.new.own.ghost_name ≡ work.old.own.ghost_name }
+    ensures worked { IfOk result (λ code. record { work = workspace work.new; code = code } ≡ spec.fills byte (Ok to.now) (workspace work.old)) }
+    ensures same_references { SameReferences work.old work.new }
 {
-    code_of(change_buffer(work.own, to, |bytes| {
-        bytes.fill(byte);
-    }))
+    if to.is_global() {
+        return fill_lent(work, to, byte);
+    }
+    code_of(change_buffer(work.own, to, |bytes| fill_bytes(bytes, byte)))
 }
 
 /// The byte that INIT fills with.
@@ -57,7 +81,7 @@ fn byte_of_init(unit: &[u8]) -> u8
 pub fn init(work: &mut Workspace<'_>, unit: &[u8]) -> Result<Option<Code>, NoMemory>
     requires part { is_part row.INIT unit.now ≡ true }
     ensures worked { IfOk result (λ code. record { work = workspace work.new; code = code } ≡ spec.inits (tree_at row.INIT unit.now) (workspace work.old)) }
-    ensures same_reference { work.new.own.ghost_name ≡ work.old.own.ghost_name }
+    ensures same_references { SameReferences work.old work.new }
 {
     let byte = byte_of_init(unit);
     let mut left = rest_after(unit, 4);
@@ -128,6 +152,24 @@ fn turn_bytes(bytes: &mut [u8], asked: &Turn)
     rotate(bytes, asked.bits, asked.whole);
 }
 
+/// Turns the bits of a receiver among the `@` variables. The code with which that ended, or none.
+#[tactic(auto, using(crate::proofs::Changed::changed_lent))]
+fn turn_lent(work: &mut Workspace<'_>, asked: &Turn) -> Result<Option<Code>, NoMemory>
+    requires named { IsAlpha asked.now.to.element.var }
+    requires low { negsuc 7 ≤ℤ asked.now.bits }
+    requires high { asked.now.bits ≤ℤ pos 8 }
+    ensures worked { IfOk result (λ code. record { work = workspace work.new; code = code } ≡ on_lent (spec.bytes_changed (rotated asked.now.whole asked.now.bits) (buffer_kind.Value asked.now.to)) (workspace work.old).globals.vars (workspace work.old)) }
+    ensures same_references { SameReferences work.old work.new }
+{
+    if !work.found {
+        return Ok(Some(Code::known(X77_NO_PARTITION)));
+    }
+    let to = Buffer::Value(asked.to);
+    let code = code_of(change_buffer(work.globals, &to, |bytes| turn_bytes(bytes, asked)))?;
+    work.reached = reached_after(work.reached, &code);
+    Ok(code)
+}
+
 /// Turns the bits of a receiver. The code with which that ended, or none.
 #[tactic(auto, using(crate::proofs::Changed::changed_work))]
 fn turn_bits(work: &mut Workspace<'_>, asked: &Turn) -> Result<Option<Code>, NoMemory>
@@ -135,8 +177,11 @@ fn turn_bits(work: &mut Workspace<'_>, asked: &Turn) -> Result<Option<Code>, NoM
     requires low { negsuc 7 ≤ℤ asked.now.bits }
     requires high { asked.now.bits ≤ℤ pos 8 }
     ensures worked { IfOk result (λ code. record { work = workspace work.new; code = code } ≡ spec.turns (Ok asked.now) (workspace work.old)) }
-    ensures same_reference { work.new.own.ghost_name ≡ work.old.own.ghost_name }
+    ensures same_references { SameReferences work.old work.new }
 {
+    if asked.to.element.global {
+        return turn_lent(work, asked);
+    }
     let to = Buffer::Value(asked.to);
     code_of(change_buffer(work.own, &to, |bytes| turn_bytes(bytes, asked)))
 }
@@ -145,7 +190,7 @@ fn turn_bits(work: &mut Workspace<'_>, asked: &Turn) -> Result<Option<Code>, NoM
 pub fn rotate_bits(work: &mut Workspace<'_>, unit: &[u8]) -> Result<Option<Code>, NoMemory>
     requires part { is_part row.ROTATE unit.now ≡ true }
     ensures worked { IfOk result (λ code. record { work = workspace work.new; code = code } ≡ spec.rotates (tree_at row.ROTATE unit.now) (workspace work.old)) }
-    ensures same_reference { work.new.own.ghost_name ≡ work.old.own.ghost_name }
+    ensures same_references { SameReferences work.old work.new }
 {
     match turn_at(&surroundings_of(work), unit) {
         Ok(asked) => turn_bits(work, &asked),

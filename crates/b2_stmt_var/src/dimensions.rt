@@ -1,32 +1,35 @@
 // DIM and COM: the variables that they make.
-ghost use Rattle.std.specs.Prelude.{◌≡◌, ◌==◌, true, false, IfOk};
+ghost use Rattle.std.specs.Prelude.{◌≡◌, ◌==◌, true, false, IfOk, OnErr, OnOk, Ok};
 ghost use Rattle.b2_base.specs.Byte as byte;
 ghost use Rattle.b2_base.specs.Lexical.{first};
 ghost use Rattle.b2_atom.specs.declared.forms.Start.TheVariants as start;
 ghost use Rattle.b2_atom.specs.declared.rows.TheConstants as row;
 ghost use Rattle.b2_rows.specs.Optional.{after_maybe, maybe_part, maybe_tree};
 ghost use Rattle.b2_rows.specs.Rows.{after_part, is_part, tree_at};
+ghost use Rattle.b2_vars.specs.Answers.{AnswersOrFails};
 ghost use Rattle.b2_vars.specs.Names.{is_legal_name};
 ghost use Rattle.b2_expr.specs.Reads.{Gives};
 ghost use Rattle.b2_expr.specs.Scope.{surroundings};
 ghost use Rattle.b2_expr.specs.Value.{in_statement};
-ghost use Rattle.b2_expr.specs.Workspace.{on_own, workspace};
+ghost use Rattle.b2_expr.specs.Workspace.{SameReferences, on_lent, workspace};
 ghost use Rattle.b2_stmt_var.specs.Dimensions as spec;
 
 use b2_atom::words::COM;
 use b2_base::codes::X77_NO_PARTITION;
 use b2_base::lexical::rest_after;
-use b2_base::{Code, NoMemory};
+use b2_base::{Code, Fault, NoMemory};
 use b2_dec::{fix, whole};
 use b2_dims::{array_shape_at, number_at, tested_length};
-use b2_expr::{Env, Workspace, surroundings_of, variable_of};
+use b2_expr::{Env, Workspace, reached_after, surroundings_of, variable_of};
 use b2_receiver::code_of;
-use b2_rows::{alpha_name, is_alpha_at, is_at, is_numeric_at, numeric_name};
-use b2_vars::{Shape, USUAL_LENGTH, Var};
+use b2_rows::{Name, alpha_name, is_alpha_at, is_at, is_numeric_at, numeric_name};
+use b2_vars::{Shape, USUAL_LENGTH, Var, Vars};
 
 /// A variable that DIM or COM makes.
 #[derive(Clone, Copy)]
 pub struct Entry {
+    /// Whether its name has `@`.
+    pub global: bool,
     pub var: Var,
     pub shape: Shape,
 }
@@ -69,24 +72,31 @@ fn lone_shape_at<'t>(e: &Env<'_>, text: &'t [u8]) -> Result<(Shape, &'t [u8]), C
     }
 }
 
+/// Whether there are such variables as a name speaks of.
+fn has_variables(e: &Env<'_>, name: Name) -> bool
+    ensures { result ≡ spec.has_variables (surroundings e.now) name }
+{
+    !name.global || e.globals.is_some()
+}
+
 /// The entry of an alpha name, and what stands after it. X77 comes at the name.
 #[tactic(auto, using(crate::proofs::EntryRows::alpha_here, crate::proofs::EntryRows::alpha_shape, crate::proofs::EntryRows::alpha_length, crate::proofs::EntryRows::alpha_global, crate::proofs::EntryRows::alpha_array_is, crate::proofs::EntryRows::alpha_array_rest, crate::proofs::EntryRows::alpha_lone_is, crate::proofs::EntryRows::alpha_lone_rest, b2_expr::proofs::Names::legal_name))]
 fn alpha_entry_at<'t>(e: &Env<'_>, text: &'t [u8]) -> Result<(Entry, &'t [u8]), Code>
     requires part { is_part row.DIMENSIONED_ALPHA text.now ≡ true }
-    requires alone { (surroundings e.now).globals ≡ None }
     ensures entry { Gives (spec.entry_named (in_statement (surroundings e.now)) true (tree_at row.DIMENSIONED_ALPHA text.now)) (after_part row.DIMENSIONED_ALPHA text.now) result }
     ensures named { IfOk result (λ p. is_legal_name p.0.var ≡ true) }
 {
     let (name, width) = alpha_name(text);
-    if name.global {
+    if !has_variables(e, name) {
         return Err(Code::known(X77_NO_PARTITION));
     }
+    let global = name.global;
     let after = rest_after(text, width);
     if !is_at(b'(', after) {
         return match lone_shape_at(e, after) {
             Ok((shape, rest)) => {
                 let var = variable_of(name, false);
-                Ok((Entry { var, shape }, rest))
+                Ok((Entry { global, var, shape }, rest))
             }
             Err(code) => Err(code),
         };
@@ -94,7 +104,7 @@ fn alpha_entry_at<'t>(e: &Env<'_>, text: &'t [u8]) -> Result<(Entry, &'t [u8]), 
     match array_shape_at(e, usual_length(true), true, after) {
         Ok((shape, rest)) => {
             let var = variable_of(name, true);
-            Ok((Entry { var, shape }, rest))
+            Ok((Entry { global, var, shape }, rest))
         }
         Err(code) => Err(code),
     }
@@ -104,24 +114,24 @@ fn alpha_entry_at<'t>(e: &Env<'_>, text: &'t [u8]) -> Result<(Entry, &'t [u8]), 
 #[tactic(auto, using(crate::proofs::EntryRows::number_here, crate::proofs::EntryRows::number_shape, crate::proofs::EntryRows::number_global, crate::proofs::EntryRows::number_array_is, crate::proofs::EntryRows::number_array_rest, crate::proofs::EntryRows::number_lone_is, crate::proofs::EntryRows::number_lone_rest, b2_expr::proofs::Names::legal_name))]
 fn number_entry_at<'t>(e: &Env<'_>, text: &'t [u8]) -> Result<(Entry, &'t [u8]), Code>
     requires part { is_part row.DIMENSIONED_NUMERIC text.now ≡ true }
-    requires alone { (surroundings e.now).globals ≡ None }
     ensures entry { Gives (spec.entry_named (in_statement (surroundings e.now)) false (tree_at row.DIMENSIONED_NUMERIC text.now)) (after_part row.DIMENSIONED_NUMERIC text.now) result }
     ensures named { IfOk result (λ p. is_legal_name p.0.var ≡ true) }
 {
     let (name, width) = numeric_name(text);
-    if name.global {
+    if !has_variables(e, name) {
         return Err(Code::known(X77_NO_PARTITION));
     }
+    let global = name.global;
     let after = rest_after(text, width);
     if !is_at(b'(', after) {
         let var = variable_of(name, false);
         let shape = shape_of_length(0);
-        return Ok((Entry { var, shape }, after));
+        return Ok((Entry { global, var, shape }, after));
     }
     match array_shape_at(e, usual_length(false), false, after) {
         Ok((shape, rest)) => {
             let var = variable_of(name, true);
-            Ok((Entry { var, shape }, rest))
+            Ok((Entry { global, var, shape }, rest))
         }
         Err(code) => Err(code),
     }
@@ -131,7 +141,6 @@ fn number_entry_at<'t>(e: &Env<'_>, text: &'t [u8]) -> Result<(Entry, &'t [u8]),
 #[tactic(auto, using(crate::proofs::EntryRows::by_alpha, crate::proofs::EntryRows::by_alpha_is, crate::proofs::EntryRows::by_alpha_rest, crate::proofs::EntryRows::by_number, crate::proofs::EntryRows::by_number_is, crate::proofs::EntryRows::by_number_rest))]
 fn dimensioned_at<'t>(e: &Env<'_>, text: &'t [u8]) -> Result<(Entry, &'t [u8]), Code>
     requires part { is_part row.DIMENSIONED text.now ≡ true }
-    requires alone { (surroundings e.now).globals ≡ None }
     ensures entry { Gives (spec.entry_in (in_statement (surroundings e.now)) (tree_at row.DIMENSIONED text.now)) (after_part row.DIMENSIONED text.now) result }
     ensures named { IfOk result (λ p. is_legal_name p.0.var ≡ true) }
 {
@@ -142,6 +151,35 @@ fn dimensioned_at<'t>(e: &Env<'_>, text: &'t [u8]) -> Result<(Entry, &'t [u8]), 
     }
 }
 
+/// Makes a variable. Codes come as for `dim` and `com`.
+fn make(vars: &mut Vars, common: bool, entry: Entry) -> Result<(), Fault>
+    requires named { is_legal_name entry.var ≡ true }
+    ensures ok { OnOk result (vars.new ≡ spec.with_entry common entry vars.old) }
+    ensures code { AnswersOrFails (spec.entry_code common entry vars.old) result }
+    ensures err { OnErr result (vars.new ≡ vars.old) }
+{
+    if common {
+        vars.com(entry.var, entry.shape)
+    } else {
+        vars.dim(entry.var, entry.shape)
+    }
+}
+
+/// Makes a variable among the `@` variables. The code with which that ended, or none.
+#[tactic(auto, using(crate::proofs::Changed::kept_lent))]
+fn make_lent(work: &mut Workspace<'_>, common: bool, entry: Entry) -> Result<Option<Code>, NoMemory>
+    requires named { is_legal_name entry.var ≡ true }
+    ensures worked { IfOk result (λ code. record { work = workspace work.new; code = code } ≡ on_lent (spec.makes common entry) (workspace work.old).globals.vars (workspace work.old)) }
+    ensures same_references { SameReferences work.old work.new }
+{
+    if !work.found {
+        return Ok(Some(Code::known(X77_NO_PARTITION)));
+    }
+    let code = code_of(make(work.globals, common, entry))?;
+    work.reached = reached_after(work.reached, &code);
+    Ok(code)
+}
+
 /// Makes a variable. The code with which that ended, or none.
 #[tactic(auto, using(crate::proofs::Changed::kept_work))]
 fn make_entry(
@@ -150,14 +188,13 @@ fn make_entry(
     entry: Entry,
 ) -> Result<Option<Code>, NoMemory>
     requires named { is_legal_name entry.var ≡ true }
-    ensures worked { IfOk result (λ code. record { work = workspace work.new; code = code } ≡ on_own (spec.makes common entry (workspace work.old).own) (workspace work.old)) }
-    ensures same_reference { work.new.own.ghost_name ≡ work.old.own.ghost_name }
+    ensures worked { IfOk result (λ code. record { work = workspace work.new; code = code } ≡ spec.makes_found common (Ok entry) (workspace work.old)) }
+    ensures same_references { SameReferences work.old work.new }
 {
-    if common {
-        code_of(work.own.com(entry.var, entry.shape))
-    } else {
-        code_of(work.own.dim(entry.var, entry.shape))
+    if entry.global {
+        return make_lent(work, common, entry);
     }
+    code_of(make(work.own, common, entry))
 }
 
 /// DIM and COM: makes variables, from left to right. The code with which that ended, or none.
@@ -165,7 +202,7 @@ fn make_entry(
 pub fn dim(work: &mut Workspace<'_>, unit: &[u8]) -> Result<Option<Code>, NoMemory>
     requires part { is_part row.DIM unit.now ≡ true }
     ensures worked { IfOk result (λ code. record { work = workspace work.new; code = code } ≡ spec.dimensions (tree_at row.DIM unit.now) (workspace work.old)) }
-    ensures same_reference { work.new.own.ghost_name ≡ work.old.own.ghost_name }
+    ensures same_references { SameReferences work.old work.new }
 {
     let common = is_at(COM, unit);
     let mut left = rest_after(unit, 1);

@@ -1,12 +1,11 @@
 // What the statement at a partition's place plans, and how it finishes.
-ghost use Rattle.std.specs.Prelude.{◌≡◌, true, IfOk, Option};
+ghost use Rattle.std.specs.Prelude.{◌≡◌, true, IfOk};
 ghost use Rattle.b2_rows.specs.Rows.{is_part, tree_at};
-ghost use Rattle.b2_vars.specs.Tables.{VarsState};
 ghost use Rattle.b2_access.specs.Answering.{can_answer};
 ghost use Rattle.b2_access.specs.Found.{HasRow, seen_found, statement_found};
 ghost use Rattle.b2_access.specs.Lending.{globals_lent, seen_lent};
-ghost use Rattle.b2_access.specs.Working.{ended};
-ghost use Rattle.b2_expr.specs.Workspace.{workspace};
+ghost use Rattle.b2_access.specs.Working.{Ends, as_planned};
+ghost use Rattle.b2_expr.specs.Workspace.{SameReferences, workspace};
 ghost use Rattle.b2_stmt_var.specs.Plan as spec;
 
 use crate::assignments::assign;
@@ -53,7 +52,7 @@ fn change(
 ) -> Result<Option<Code>, NoMemory>
     requires part { is_part row unit.now ≡ true }
     ensures worked { IfOk result (λ code. record { work = workspace work.new; next = next.new; code = code } ≡ spec.changes row own.now.lines (tree_at row unit.now) (workspace work.old) next.old) }
-    ensures same_reference { work.new.own.ghost_name ≡ work.old.own.ghost_name }
+    ensures same_references { SameReferences work.old work.new }
 {
     match row {
         rows::ASSIGNMENT => assign(alloc, work, unit),
@@ -75,15 +74,25 @@ fn change(
 }
 
 /// Executes a statement that its caller has found.
-pub fn execute(alloc: Global, me: &mut Private, found: &Found<'_>) -> Result<Outcome, NoMemory>
+pub fn execute(
+    alloc: Global,
+    me: &mut Private,
+    lent: &mut Lent<'_>,
+    found: &Found<'_>,
+) -> Result<Outcome, NoMemory>
     requires row { HasRow found.now }
-    ensures ended { (globals : Option VarsState) → IfOk result (λ o. record { me = me.new; outcome = o } ≡ ended me.old (spec.ended_of (statement_found found.now) me.old (seen_found found.now globals))) }
+    ensures ended { IfOk result (λ o. record { me = me.new; globals = globals_lent lent.new; planned = Planned.Done o } ≡ as_planned me.old (seen_found found.now (globals_lent lent.old)) (Ends (spec.ended_of (statement_found found.now) me.old (seen_found found.now (globals_lent lent.old))))) }
+    ensures same_texts { (lent.new.own ≡ lent.old.own) × (lent.new.home ≡ lent.old.home) }
+    ensures same_reference { lent.new.globals.ghost_name ≡ lent.old.globals.ghost_name }
     ensures part { me.new.part ≡ me.old.part }
 {
     let home = found.home;
     let setting = setting_of(me);
     let mut work = Workspace {
         own: &mut me.vars,
+        globals: lent.globals,
+        found: lent.found,
+        reached: lent.reached,
         setting,
         home,
     };
@@ -95,6 +104,7 @@ pub fn execute(alloc: Global, me: &mut Private, found: &Found<'_>) -> Result<Out
         found.unit.row,
         found.unit.bytes,
     )?;
+    lent.reached = work.reached;
     Ok(goes_or(Outcome::Next, code))
 }
 
@@ -107,7 +117,6 @@ pub fn plan(
 ) -> Result<Planned, NoMemory>
     ensures planned { IfOk result (λ p. record { me = me.new; globals = globals_lent lent.new; planned = p } ≡ spec.plan me.old (seen_lent lent.old)) }
     ensures same_texts { (lent.new.own ≡ lent.old.own) × (lent.new.home ≡ lent.old.home) }
-    ensures same_globals { lent.new.globals.now ≡ lent.old.globals.now }
     ensures same_reference { lent.new.globals.ghost_name ≡ lent.old.globals.ghost_name }
     ensures part { me.new.part ≡ me.old.part }
 {
@@ -115,13 +124,17 @@ pub fn plan(
         return Ok(Planned::Done(Outcome::Ready));
     };
     let setting = setting_of(me);
-    let Some(unit) = statement_placed(place, &me.immediate, lent.home) else {
+    let home = lent.home;
+    let Some(unit) = statement_placed(place, &me.immediate, home) else {
         return Ok(Planned::Done(Outcome::Ready));
     };
     let mut work = Workspace {
         own: &mut me.vars,
+        globals: lent.globals,
+        found: lent.found,
+        reached: lent.reached,
         setting,
-        home: lent.home,
+        home,
     };
     let code = change(
         alloc,
@@ -131,6 +144,7 @@ pub fn plan(
         unit.row,
         unit.bytes,
     )?;
+    lent.reached = work.reached;
     Ok(Planned::Done(goes_or(Outcome::Next, code)))
 }
 

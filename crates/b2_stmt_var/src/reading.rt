@@ -5,7 +5,7 @@ ghost use Rattle.b2_rows.specs.Rows.{is_part, tree_at};
 ghost use Rattle.b2_vars.specs.Variables.{is_alpha};
 ghost use Rattle.b2_receiver.specs.Assigning.{is_alpha_receiver};
 ghost use Rattle.b2_receiver.specs.Receivers.{IsNamed};
-ghost use Rattle.b2_expr.specs.Workspace.{workspace};
+ghost use Rattle.b2_expr.specs.Workspace.{SameReferences, workspace};
 ghost use Rattle.b2_stmt_var.specs.Reading as spec;
 ghost use Rattle.b2_rows.specs.CommaLists.{are_others, past_first, receivers_at};
 
@@ -52,7 +52,7 @@ fn take_literal(
 ) -> Result<Option<Code>, NoMemory>
     requires named { IsNamed to.now }
     ensures worked { IfOk result (λ code. record { work = workspace work.new; next = next.new; code = code } ≡ spec.takes_literal to.now (Some literal) (workspace work.old) next.old) }
-    ensures same_reference { work.new.own.ghost_name ≡ work.old.own.ghost_name }
+    ensures same_references { SameReferences work.old work.new }
 {
     let value = match value_for(to, literal.value) {
         Ok(value) => value,
@@ -74,7 +74,7 @@ fn read_one(
 ) -> Result<Option<Code>, NoMemory>
     requires part { is_part row.RECEIVER text.now ≡ true }
     ensures worked { IfOk result (λ code. record { work = workspace work.new; next = next.new; code = code } ≡ spec.reads_one own.now.lines (tree_at row.RECEIVER text.now) (workspace work.old) next.old) }
-    ensures same_reference { work.new.own.ghost_name ≡ work.old.own.ghost_name }
+    ensures same_references { SameReferences work.old work.new }
 {
     let to = match any_receiver(&mut Cursor::over(text), &surroundings_of(work)) {
         Ok(to) => to,
@@ -97,7 +97,7 @@ fn read_all(
     requires part { is_part row.RECEIVER text.now ≡ true }
     requires list { are_others (past_first text.now) ≡ true }
     ensures worked { IfOk result (λ code. record { work = workspace work.new; next = next.new; code = code } ≡ spec.read_each (spec.reads_one own.now.lines) (receivers_at text.now) (workspace work.old) next.old) }
-    ensures same_reference { work.new.own.ghost_name ≡ work.old.own.ghost_name }
+    ensures same_references { SameReferences work.old work.new }
 {
     let mut left = text;
     loop {
@@ -123,7 +123,7 @@ pub fn read(
 ) -> Result<Option<Code>, NoMemory>
     requires part { is_part row.READ unit.now ≡ true }
     ensures worked { IfOk result (λ code. record { work = workspace work.new; next = next.new; code = code } ≡ spec.reads_data own.now.lines (tree_at row.READ unit.now) (workspace work.old) next.old) }
-    ensures same_reference { work.new.own.ghost_name ≡ work.old.own.ghost_name }
+    ensures same_references { SameReferences work.old work.new }
 {
     read_all(work, next, own, rest_after(unit, 1))
 }

@@ -15,3 +15,5 @@ pub mod Sound
 pub mod Spares
 pub mod Loans
 pub mod Naming
+pub mod Giving
+pub mod Entries

@@ -10,7 +10,7 @@ use Rattle.b2_base.specs.declared.codes.Fault.TheVariants as fault
 use Rattle.b2_access.specs.declared.accesses.Answer.{Answer}
 use Rattle.b2_access.specs.declared.accesses.Answer.TheVariants as answer
 use Rattle.b2_access.specs.declared.objects.Object.TheVariants as object
-use Rattle.b2_access.specs.AccessRows.{moves, moves_from, moves_to, row}
+use Rattle.b2_access.specs.AccessRows.{holder_at, moves, moves_from, moves_to, row}
 use Rattle.b2_access.specs.Serving.{performs}
 use Rattle.b2_access.specs.Sharing.{Gives}
 use Rattle.b2_access.specs.Store.{StoreState, content}
@@ -41,13 +41,13 @@ module _ (name : Option (List ℕ)) (made : List ℕ → List ℕ → Result (Li
   by_from None = refl
   by_from (Some image) = by_to image (content s (object.Platter to))
 
-pub moves_as : (who : ℕ) (from to : List ℕ) (name : Option (List ℕ)) (s : StoreState) → performs ((row (moving from name to)).does disks who) s ≡ given s (rows_moved name from to s.platters)
+pub moves_as : (who : ℕ) (from to : List ℕ) (name : Option (List ℕ)) (s : StoreState) → performs ((row (moving from name to)).does disks who (holder_at (moving from name to) s)) s ≡ given s (rows_moved name from to s.platters)
 moves_as who from to None s = by_from None disks.move_platter (λ a b. refl) from to s (content s (object.Platter from))
 moves_as who from to (Some name) s = by_from (Some name) (disks.move_file name) (λ a b. refl) from to s (content s (object.Platter from))
 
 -- and where nothing is moved, the answer has the code
 pub refused_as : {E : Type 0} (who : ℕ) (from to : List ℕ) (name : Option (List ℕ)) (s t : StoreState) (f : Fault) (r : Result Answer E) → IfOk r (IsRefusal f) → MoveFails name (rows_moved name from to s.platters) f → t ≡ s
-    → IfOk r (λ a. ◌≡◌ {A = Gives StoreState} (record { after = t; answer = a }) (performs ((row (moving from name to)).does disks who) s))
+    → IfOk r (λ a. ◌≡◌ {A = Gives StoreState} (record { after = t; answer = a }) (performs ((row (moving from name to)).does disks who (holder_at (moving from name to) s)) s))
 refused_as who from to name s t (fault.Code code) (Ok a) is fails same =
     let answered : ◌≡◌ {A = Gives StoreState} (record { after = t; answer = a }) (record { after = s; answer = answer.Refused code }) = cc in
     answered ∙ sym (moves_as who from to name s ∙ ap (given s) fails)

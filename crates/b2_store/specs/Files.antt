@@ -1,5 +1,5 @@
 -- What becomes of the files on a store's platters, whoever asks for what.
-use Rattle.std.specs.Prelude.{◌≡◌, ◌↔◌, ◌≤◌, ◌+◌, ◌-◌, ◌⊎◌, ℕ, true, false, List, [], ◌∷◌, ◌++◌, length, Option, Some}
+use Rattle.std.specs.Prelude.{◌≡◌, ◌↔◌, ◌≤◌, ◌+◌, ◌-◌, ◌⊎◌, ℕ, true, false, List, [], ◌∷◌, ◌++◌, Option, Some}
 use Rattle.std.specs.FinMap.{get}
 use Rattle.b2_base.specs.declared.files.By.{By}
 use Rattle.b2_base.specs.declared.files.Slot.{Slot}

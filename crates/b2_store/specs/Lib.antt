@@ -6,6 +6,8 @@ pub mod Start
 pub mod Changes
 pub mod Holders
 pub mod Names
+pub mod Inside
+pub mod Giving
 pub mod Refusals
 pub mod FileWork
 pub mod TwoRows

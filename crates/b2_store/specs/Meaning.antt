@@ -3,7 +3,7 @@ use Rattle.std.specs.Prelude.{◌≡◌, ℕ, Option, Some, None, refl}
 use Rattle.b2_access.specs.declared.accesses.Access.{Access}
 use Rattle.b2_access.specs.declared.accesses.Answer.{Answer}
 use Rattle.b2_access.specs.declared.lending.At.{At}
-use Rattle.b2_access.specs.AccessRows.{row}
+use Rattle.b2_access.specs.AccessRows.{holder_at, row}
 use Rattle.b2_access.specs.Loans.{left_at, lender_at, with_globals_at, with_globals_of}
 use Rattle.b2_access.specs.Serving.{performs}
 use Rattle.b2_access.specs.Sharing.{Gives}
@@ -34,4 +34,4 @@ means_so home whose s w = by (lender_at home whose (store_of s)) (left_at home w
 
 -- what an access does that nothing stops, by its row, leads from one to another, with an answer
 abbrev pub Does : ℕ → Access → Stores → Stores → Answer → Type 0
-Does who a old new answer = ◌≡◌ {A = Gives StoreState} (record { after = store_of new; answer = answer }) (performs ((row a).does disks who) (store_of old))
+Does who a old new answer = ◌≡◌ {A = Gives StoreState} (record { after = store_of new; answer = answer }) (performs ((row a).does disks who (holder_at a (store_of old))) (store_of old))

@@ -3,27 +3,37 @@
 //!
 //! `Stores` is a store as definitions see it, kept as rows by the numbers of partitions and terminals and the addresses of
 //! devices, and serves the accesses of partitions as `b2_access` defines it. It lends texts by reference, and `@` variables or a
-//! spare where none are found. Until calls into global texts come nobody stands inside the text of another.
+//! spare where none are found.
 //!
 //! Stands on `b2_access` for what a store, its serving and its loans are, on `b2_text`, `b2_vars`, `b2_term` and `b2_platter`
 //! for what objects have, on `b2_catalog` for what a disk does, on `b2_atom` for lines and on `b2_base`. The definitions are in
-//! `specs/`: the store that `Stores` means in `Meaning`, `@` variables and the spare in `Spares`, who holds names in `Names`, how it starts in `Start`, what keys and fronts change in `Changes`, and
-//! what disks do to an image in `DiskWork`. What becomes of files on its platters (`Files`), and that each answer fits what was asked,
-//! stands in `laws`.
+//! `specs/`: the store that `Stores` means in `Meaning`, `@` variables and the spare in `Spares`, who holds names in `Names`, who
+//! stands inside texts in `Inside`, what an edit gives back in `Giving`, how the store starts in `Start`, what keys and fronts change
+//! in `Changes`, and what disks do to an image in `DiskWork`. What becomes of files on its platters (`Files`), and that each answer
+//! fits what was asked, stands in `laws`. What is asked of it is done in a file for each kind: `text_calls`, `name_calls`,
+//! `terminal_calls`, `device_calls` and `disk_calls`; what stops it is in `stops`.
 #![tactic(auto)]
 
 mod boot;
+mod borrows;
 mod data_files;
+mod device_calls;
+mod disk_calls;
 mod disks;
 pub mod laws;
+mod name_calls;
 mod names;
 mod part_list;
 mod printer;
 mod programs;
+mod refusals;
 mod rows;
 mod spared;
 mod start;
+mod stops;
 mod stores;
+mod terminal_calls;
+mod text_calls;
 mod two_rows;
 
 pub use boot::StoreBoot;

@@ -1,7 +1,8 @@
 // A list of partitions.
-ghost use Rattle.std.specs.Prelude.{◌≡◌, slice_get};
+ghost use Rattle.std.specs.Prelude.{◌≡◌, ◌∷◌, [], ◌++◌, OnOk, slice_get};
+ghost use Rattle.b2_access.specs.Borrowers.{without, without_last};
 
-use b2_base::Part;
+use b2_base::{NoMemory, Part};
 use std::marker::Model;
 
 /// Partitions, one of them perhaps more than once. Contracts see the list of their numbers.
@@ -18,6 +19,25 @@ impl Model for PartList {
     ghost view = { λ l. l.parts.items };
 }
 
+/// Takes a partition out of some, at its last place.
+fn take_last(parts: &mut Vec<Part>, p: Part)
+    ensures { parts.new.items ≡ without_last p parts.old.items }
+{
+    for place in (0..parts.len()).rev() {
+        if parts[place] == p {
+            parts.remove(place);
+            return;
+        }
+    }
+}
+
+/// Takes a partition out of some, at each of its places.
+fn take_each(parts: &mut Vec<Part>, p: Part)
+    ensures { parts.new.items ≡ without p parts.old.items }
+{
+    parts.retain(|x| *x != p);
+}
+
 impl PartList {
     /// The list of these partitions. It takes no memory.
     pub fn new(parts: Vec<Part>) -> PartList
@@ -31,5 +51,27 @@ impl PartList {
         ensures { result ≡ slice_get self.now 0 }
     {
         self.parts.first().copied()
+    }
+
+    /// Adds one after the others.
+    pub fn push(&mut self, p: Part) -> Result<(), NoMemory>
+        ensures { OnOk result (self.new ≡ self.old ++ p ∷ []) }
+    {
+        self.parts.push(p)?;
+        Ok(())
+    }
+
+    /// Takes one out, at its last place.
+    pub fn remove_last(&mut self, p: Part)
+        ensures { self.new ≡ without_last p self.old }
+    {
+        take_last(&mut self.parts, p);
+    }
+
+    /// Takes one out, at each of its places.
+    pub fn remove_all(&mut self, p: Part)
+        ensures { self.new ≡ without p self.old }
+    {
+        take_each(&mut self.parts, p);
     }
 }

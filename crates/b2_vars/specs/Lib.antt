@@ -5,5 +5,6 @@ pub mod Variables
 pub mod VariableLending
 pub mod Tables
 pub mod Calls
+pub mod Globals
 pub mod Assigned
 pub mod VarsLending

@@ -3,13 +3,14 @@
 // `new ADDRESS SECTORS NAME` and `again ADDRESS OLD NAME` make a data file, `open ADDRESS NAME` opens one. A FILE is an open one:
 // `ADDRESS,NAME,START,END,PLACE`. `save FILE NUMBER [TEXT]` saves a record, `end FILE` the end mark, `load FILE KINDS` loads values, of
 // which KINDS has an `n` or an `a` each; `over FILE N`, `back FILE N`, `begin FILE` and `last FILE` move its place. `store ADDRESS NAME
-// FROM TO` saves lines as a program, `restore ADDRESS OLD NAME FROM TO` in a scratched file; `merge ADDRESS NAME` and `replace ADDRESS
-// NAME` load one. `move FROM TO` moves all files, `move_file FROM NAME TO` one.
+// FROM TO` saves lines as a program, `restore ADDRESS OLD NAME FROM TO` in a scratched file; `merge ADDRESS NAME [DECLARED [HOMES]]`
+// and `replace ADDRESS NAME [DECLARED [HOMES]]` load one, give up a name, and give texts back. `move FROM TO` moves all files, `move_file FROM NAME TO` one.
 ghost use Rattle.std.specs.Prelude.{◌≡◌, ◌≤◌, IfOk, IfSome, true};
 ghost use Rattle.std.specs.List.{list_all};
 ghost use Rattle.b2_access.specs.Touching.{IsLegal, IsName, is_short};
 
 use crate::pieces::word;
+use crate::texts::homes_of;
 use b2_access::Access;
 use b2_base::{Addr, By, Name8, NoMemory, Slot, cut};
 use b2_cases::{number_of, str_of, whole_of};
@@ -182,8 +183,8 @@ fn at_program(kind: &str, rest: &[u8]) -> Option<Access>
             addr,
             name: Name8::of(first)?,
             replace: matches!(kind, "replace"),
-            declared: None,
-            homes: 0,
+            declared: Name8::of(second),
+            homes: homes_of(third),
         }),
     }
 }

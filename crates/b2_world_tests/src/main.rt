@@ -14,6 +14,7 @@ mod places;
 mod screens;
 mod stores;
 mod terminals;
+mod texts;
 mod worlds;
 
 use b2_base::NoMemory;

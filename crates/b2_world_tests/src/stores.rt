@@ -3,9 +3,9 @@
 // at 215.
 //
 // `store | CALL | ..`: what the calls answer one after another. Accesses begin with the number of the partition that asks: `1 show
-// TERMINAL BYTES`, `1 read TERMINAL`, `1 insert TERMINAL BYTES`, `1 key TERMINAL`, `1 put LINE SOURCE`, `1 take LINE`, `1 erase FROM
-// TO`, `1 clear`, `1 declare NAME [OLD]`, `1 find NAME`, `1 limits ADDRESS [NAME]`, `1 list ADDRESS`, `1 scratch ADDRESS NAME`, `1 format ADDRESS SECTORS END`, those at
-// files, which `files.rt` names, and those of devices, which `devices.rt` names. Others are
+// TERMINAL BYTES`, `1 read TERMINAL`, `1 insert TERMINAL BYTES`, `1 key TERMINAL`, `1 declare NAME [OLD]`, `1 find NAME`, `1 limits
+// ADDRESS [NAME]`, `1 list ADDRESS`, `1 scratch ADDRESS NAME`, `1 format ADDRESS SECTORS END`, those to texts, which `texts.rt` names,
+// those at files, which `files.rt` names, and those of devices, which `devices.rt` names. Others are
 // `press TERMINAL BYTES` and `special TERMINAL N` for keys, `front TERMINAL PARTITION`, `shown TERMINAL` for its transcript,
 // `printed ADDRESS` for what a printer printed, `platter ADDRESS PLACE COUNT` for the sectors of a platter and bytes of it in hexadecimal digits, `lend PARTITION HOME` for the
 // first lines of both texts and whether `@` variables are found where none are asked for, for the partitions 1 and 2,
@@ -20,14 +20,13 @@ ghost use Rattle.b2_world_tests.specs.Texts.{HasTexts, KeepsTexts};
 
 use crate::images::platter_spelled;
 use crate::pieces::{show_named, word};
-use crate::{devices, files};
+use crate::{devices, files, texts};
 use b2_access::{Access, Answer, At, Lent, Object, Shared};
-use b2_atom::Atoms;
 use b2_audit::{Seen, Watched};
 use b2_base::lexical::{first_bytes, rest_after};
 use b2_base::{Addr, ByteList, Fault, Name8, NoMemory, Part, Term};
 use b2_cases::shown::{show_code, show_hex, show_truth};
-use b2_cases::{Cells, bytes_of, number_of, small_of, str_of, whole_of};
+use b2_cases::{Cells, bytes_of, small_of, str_of, whole_of};
 use b2_catalog::enter;
 use b2_platter::Platter;
 use b2_store::{StoreBoot, Stores};
@@ -98,31 +97,6 @@ fn at_terminal(alloc: Global, kind: &str, rest: &[u8]) -> Result<Option<Access>,
     })
 }
 
-/// An access to the own text, None where it is misspelled.
-fn at_text(alloc: Global, kind: &str, rest: &[u8]) -> Result<Option<Access>, NoMemory>
-    ensures { IfOk result (λ found. IfSome found IsLegal) }
-{
-    let (number, text) = word(rest);
-    let line = number_of(number).min(9999);
-    let homes = 0;
-    let atoms = Atoms::of(alloc, text)?;
-    Ok(match kind {
-        "put" if atoms.is_some() => Some(Access::PutLine { line, atoms, homes }),
-        "take" => Some(Access::PutLine {
-            line,
-            atoms: None,
-            homes,
-        }),
-        "erase" => Some(Access::Erase {
-            from: line,
-            to: number_of(text),
-            homes,
-        }),
-        "clear" => Some(Access::ClearAll { name: None, homes }),
-        _ => None,
-    })
-}
-
 /// An access at a disk, None where it is misspelled.
 fn at_disk(kind: &str, rest: &[u8]) -> Option<Access>
     ensures { IfSome result IsLegal }
@@ -177,7 +151,7 @@ fn access_of(alloc: Global, spelled: &[u8]) -> Result<Option<Access>, NoMemory>
         "declare" | "find" => Ok(at_name(kind, rest)),
         _ if files::is_file_access(kind) => files::access_of(alloc, kind, rest),
         _ if devices::is_device_access(kind) => devices::access_of(alloc, kind, rest),
-        _ => at_text(alloc, kind, rest),
+        _ => texts::access_of(alloc, spelled),
     }
 }
 
@@ -212,6 +186,10 @@ fn show_answer(into: &mut String, answer: &Answer) -> Result<(), NoMemory> {
             write!(into, "held by {number}")?;
         }
         Answer::NoPart => into.push_str("held by nobody")?,
+        Answer::Entered(part, spot) => {
+            let (number, line, unit) = (part.number(), spot.line, spot.unit);
+            write!(into, "entered {number} at {line} {unit}")?;
+        }
         Answer::Wait(part) => {
             let number = part.number();
             write!(into, "wait for {number}")?;
@@ -471,21 +449,22 @@ fn set_note(globals: &mut Vars, other: &[u8], into: &mut String) -> Result<(), N
 }
 
 /// Shows the word that N$ has among the `@` variables that are lent, and gives it another one, where one is spelled; or shows that none
-/// are found.
-fn note_lent(lent: Lent<'_>, other: &[u8], into: &mut String) -> Result<(), NoMemory> {
+/// are found. It says whether the other word was given.
+fn note_lent(lent: Lent<'_>, other: &[u8], into: &mut String) -> Result<bool, NoMemory> {
     if !lent.found {
         into.push_str("none found")?;
-        return Ok(());
+        return Ok(false);
     }
     show_noted(lent.globals, into)?;
     if other.is_empty() {
-        return Ok(());
+        return Ok(false);
     }
-    set_note(lent.globals, other, into)
+    set_note(lent.globals, other, into)?;
+    Ok(true)
 }
 
-/// Uses the `@` variables that a store of any kind lends.
-#[tactic(auto, using(crate::proofs::TextsKept::loan_kept))]
+/// Uses the `@` variables that a store of any kind lends, and tells it where a word was given.
+#[tactic(auto, using(crate::proofs::TextsKept::loan_kept, crate::proofs::TextsKept::noted_kept))]
 fn note_in<S: Shared>(
     stores: &mut S,
     who: Part,
@@ -499,7 +478,10 @@ fn note_in<S: Shared>(
     ensures same { S.holds stores.new ≡ S.holds stores.old }
     ensures kept { KeepsTexts (S.store (S.meaning stores.old)) (S.store (S.meaning stores.new)) }
 {
-    note_lent(stores.lend(who, home, at), other, into)
+    if note_lent(stores.lend(who, home, at), other, into)? {
+        stores.note(who, home, at);
+    }
+    Ok(())
 }
 
 /// The same over the watched store.
@@ -565,6 +547,11 @@ fn answered_at_once(stores: &mut Stores, who: Part, access: &Access) -> Option<A
 {
     match access {
         Access::Key { .. }
+        | Access::Erase { .. }
+        | Access::ClearAll { .. }
+        | Access::Leave { .. }
+        | Access::Drop { .. }
+        | Access::FindPart { .. }
         | Access::OpenDevices { .. }
         | Access::CloseDevices { .. }
         | Access::Limits { .. }

@@ -1,16 +1,12 @@
-use Rattle.std.proofs.Common.{◌∙◌, ◌+◌, ◌-◌, ap, sym, subst}
-use Rattle.std.specs.Prelude.{IsSome}
-use Rattle.b2_access.specs.Store.{content}
-use Rattle.b2_access.specs.declared.objects.Object.TheVariants as object
+use Rattle.std.proofs.Common.{◌∙◌, ◌+◌, ◌-◌, ap}
 use Rattle.b2_machine.specs.Turn.{ended_turn, turn_from}
 use Rattle.b2_machine.proofs.Kept.{both_kept}
+use Rattle.b2_machine.proofs.Presence.{presence_kept}
 use Rattle.b2_machine.proofs.Turns.{at_end, ended_by, few_on, carries_on}
 use Rattle.b2_machine.proofs.turning.turn.Goals as goal
 
 pub step-requires : goal.step-requires
-step-requires g c =
-    let shared = g.S.Shared in
-    record { own = subst (λ p. IsSome (content (shared.store (shared.meaning c.loop.s)) (object.Text p))) (sym c.loop.invariant.part) (c.loop.invariant.listed (object.Text c.args.me.now.part) c.requires.own) }
+step-requires g c = record { own = c.loop.invariant.present.part; home = c.loop.invariant.present.place }
 
 pub returns-in-Some-clause-turned : goal.returns-in-Some-clause-turned
 returns-in-Some-clause-turned g c =
@@ -22,6 +18,10 @@ returns-in-Some-clause-turned g c =
 pub loop-preserved : goal.loop-preserved
 loop-preserved g c =
     let shared = g.S.Shared in
+    let laws = g.met.S.Shared in
+    let devices = c.args.d.now in
+    let stay = presence_kept (g.L.Language.ways devices) (g.met.L.Language.lawful devices) shared.store shared.serving shared.lending laws.lends_globals laws.answers_lead laws.names_lead c.loop.me c.step.new.me (shared.meaning c.loop.s) (shared.meaning c.step.new.s) c.in_ok-end.end
+    c.in_ok-end.ensures.stepped c.in_ok-end.ensures.kept.listed c.loop.invariant.present c.loop.invariant.names in
     record {
       told = ap (λ n. turn_from (g.L.Language.ways c.args.d.now) shared.store shared.serving shared.lending (c.args.quota - (c.loop.counter + 1)) c.step.new.me (shared.meaning c.step.new.s) n) c.counted_on-steps.ensures
           ∙ carries_on (g.L.Language.ways c.args.d.now) shared.store shared.serving shared.lending c.args.quota c.loop.counter c.loop.me c.step.new.me (shared.meaning c.loop.s) (shared.meaning c.step.new.s) c.in_ok-end.end c.loop.steps c.loop-test.true c.in_ok-end.ensures.stepped c.in-None.is
@@ -29,6 +29,8 @@ loop-preserved g c =
       few = few_on c.in_ok-end.end.counted c.loop.steps c.counted_on-steps.result c.loop.counter c.counted_on-steps.ensures c.loop.invariant.few;
       same = c.in_ok-end.ensures.kept.same ∙ c.loop.invariant.same;
       part = c.in_ok-end.ensures.kept.part ∙ c.loop.invariant.part;
+      present = stay.0;
+      names = stay.1;
       listed = both_kept _ _ _ c.loop.invariant.listed c.in_ok-end.ensures.kept.listed;
     }
 

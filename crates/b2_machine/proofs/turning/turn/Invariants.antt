@@ -1,4 +1,6 @@
 use Rattle.std.proofs.Common.{◌≡◌, ◌-◌, ◌≤◌}
+use Rattle.b2_access.specs.Homes.{IsWithin}
+use Rattle.b2_access.specs.Leading.{NamesIn, is_present}
 use Rattle.b2_machine.specs.Stays.{KeepsAll}
 use Rattle.b2_machine.specs.Turn.{turn_from}
 use Rattle.b2_machine.proofs.turning.turn.Given as goal
@@ -11,5 +13,7 @@ invariant-loop g l =
       few : l.steps ≤ l.counter;
       same : shared.holds l.s ≡ shared.holds l.fn.s;
       part : l.me.part ≡ l.fn.me.part;
+      present : IsWithin (is_present (shared.store (shared.meaning l.s))) l.me;
+      names : NamesIn (is_present (shared.store (shared.meaning l.s))) (shared.store (shared.meaning l.s));
       listed : KeepsAll (shared.store (shared.meaning l.fn.s)) (shared.store (shared.meaning l.s));
     }

@@ -1,5 +1,6 @@
-use Rattle.std.specs.Prelude.{◌≡◌}
+use Rattle.b2_store.specs.Meaning.{store_of}
+use Rattle.b2_statement_tests.specs.Present.{ArePresent}
 use Rattle.b2_statement_tests.proofs.turning.fill_stack.Given as goal
 
 abbrev pub invariant-loop : goal.invariant-loop
-invariant-loop l = l.me.part ≡ l.fn.me.part
+invariant-loop l = ArePresent l.me (store_of l.fn.store)

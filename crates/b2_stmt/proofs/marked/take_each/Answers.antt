@@ -43,5 +43,5 @@ loop-value-preserved c =
           ∙ sym (ap (λ (ts : List Trees). take_each one ts xs (workspace c.take_value.new.work)) (other_items (past_first left) i.list comma))
           ∙ value_more one (tree_at row.RECEIVER left) (others_at (past_first left)) x xs c.loop-value.values.now (workspace c.loop-value.work) (workspace c.take_value.new.work) c.in_ok-code.code same c.in_ok-code.ensures.worked none
           ∙ i.taken;
-      held = c.take_value.ensures.same_reference ∙ i.held;
+      held = (c.take_value.ensures.same_references.0 ∙ i.held.0, c.take_value.ensures.same_references.1 ∙ i.held.1, c.take_value.ensures.same_references.2 ∙ i.held.2);
     }

@@ -8,7 +8,7 @@ use Rattle.b2_stmt.proofs.planning.plan.Goals as goal
 
 pub returns-in-Some-2-clause-planned : goal.returns-in-Some-2-clause-planned
 returns-in-Some-2-clause-planned c =
-    let globals = globals_lent c.args.lent.now in
+    let globals = globals_lent c.plan_on-in-Some-2.new.lent in
     let s = seen_lent c.args.lent.now in
     let me = c.args.me.now in
     let p = c.in-Some.place in
@@ -16,4 +16,4 @@ returns-in-Some-2-clause-planned c =
     let copied : me.immediate ≡ Some line = search rules in
     let named : line_named me.immediate s.home.lines p.line ≡ Some line = ap (line_named me.immediate s.home.lines) c.in-None.is ∙ copied in
     subst (λ (x : Planning). IfOk c.plan_on-in-Some-2.result (λ planned. ◌≡◌ {A = Planning} (record { me = c.plan_on-in-Some-2.new.me; globals = globals; planned = planned }) x))
-    (line_course is_refused (stops me s) (does me s) p me s (Some line) c.in-Some.is named) (c.plan_on-in-Some-2.ensures.planned globals)
+    (line_course is_refused (stops me s) (does me s) p me s (Some line) c.in-Some.is named) c.plan_on-in-Some-2.ensures.planned

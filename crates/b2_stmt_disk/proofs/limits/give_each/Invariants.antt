@@ -1,5 +1,5 @@
 use Rattle.std.proofs.Common.{◌≡◌, length, drop}
-use Rattle.b2_expr.specs.Workspace.{workspace}
+use Rattle.b2_expr.specs.Workspace.{SameReferences, workspace}
 use Rattle.b2_stmt_disk.specs.Limits.{gives_each}
 use Rattle.b2_stmt_disk.specs.Receivers.{AreReceivers, receivers_at}
 use Rattle.b2_stmt_disk.proofs.limits.give_each.Given as goal
@@ -9,5 +9,5 @@ abbrev pub invariant-loop-n : goal.invariant-loop-n
 invariant-loop-n l = record {
   stand : AreReceivers (length (drop l.n-index l.numbers)) l.left;
   given : gives_each (drop l.n-index l.numbers) (receivers_at (length (drop l.n-index l.numbers)) l.left) (workspace l.work) ≡ gives_each l.numbers (receivers_at (length l.numbers) l.text) (workspace l.fn.work);
-  held : l.work.own.ghost_name ≡ l.fn.work.own.ghost_name;
+  held : SameReferences l.fn.work l.work;
 }

@@ -40,5 +40,5 @@ loop-found-preserved c =
           ap (λ (u : Text). each_takes c.args.values.now (items_at u) (workspace c.take_at.new.work) c.take_at.new.next) moved
           ∙ item_took c.args.values.now at c.in-Ok.found.0 (workspace c.loop-found.work) (workspace c.take_at.new.work) c.loop-found.next c.take_at.new.next c.in_ok-code.code located c.in_ok-code.ensures.worked none c.loop-found.invariant.list comma
           ∙ c.loop-found.invariant.taken;
-      held = c.in_ok-code.ensures.same_reference ∙ c.loop-found.invariant.held;
+      held = (c.in_ok-code.ensures.same_references.0 ∙ c.loop-found.invariant.held.0, c.in_ok-code.ensures.same_references.1 ∙ c.loop-found.invariant.held.1, c.in_ok-code.ensures.same_references.2 ∙ c.loop-found.invariant.held.2);
     }

@@ -2,7 +2,7 @@ use Rattle.std.proofs.Common.{◌≡◌, true, length}
 use Rattle.b2_atom.specs.declared.rows.TheConstants as row
 use Rattle.b2_rows.specs.CommaLists.{commas}
 use Rattle.b2_rows.specs.Rows.{after_part, is_list, is_part}
-use Rattle.b2_expr.specs.Workspace.{workspace}
+use Rattle.b2_expr.specs.Workspace.{SameReferences, workspace}
 use Rattle.b2_stmt_file.specs.LoadedValues.{each_takes, items_at}
 use Rattle.b2_stmt_file.proofs.loaded_values.take_values.Given as goal
 
@@ -12,7 +12,7 @@ invariant-loop-found l = record {
   part : is_part row.LOADED l.left ≡ true;
   list : is_list commas row.COMMA_LOADED (after_part row.LOADED l.left) ≡ true;
   taken : each_takes l.values (items_at l.left) (workspace l.work) l.next ≡ each_takes l.values (items_at l.text) (workspace l.fn.work) 0;
-  held : l.work.own.ghost_name ≡ l.fn.work.own.ghost_name;
+  held : SameReferences l.fn.work l.work;
 }
 
 abbrev pub decreases-loop-found : goal.decreases-loop-found

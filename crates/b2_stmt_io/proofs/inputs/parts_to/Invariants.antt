@@ -1,7 +1,7 @@
 use Rattle.std.proofs.Common.{◌≡◌, true, length}
 use Rattle.b2_atom.specs.declared.rows.TheConstants as row
 use Rattle.b2_rows.specs.Rows.{is_part}
-use Rattle.b2_expr.specs.Workspace.{workspace}
+use Rattle.b2_expr.specs.Workspace.{SameReferences, workspace}
 use Rattle.b2_stmt_io.specs.Inputs.{take_parts, takes_part}
 use Rattle.b2_rows.specs.CommaLists.{are_others, past_first, receivers_at}
 use Rattle.b2_stmt_io.specs.TypedText.{typed_parts}
@@ -13,7 +13,7 @@ invariant-loop-code l = record {
   part : is_part row.RECEIVER l.left ≡ true;
   list : are_others (past_first l.left) ≡ true;
   taken : take_parts takes_part (receivers_at l.left) (typed_parts l.typed) (workspace l.work) ≡ take_parts takes_part (receivers_at l.text) (typed_parts l.line) (workspace l.fn.work);
-  held : l.work.own.ghost_name ≡ l.fn.work.own.ghost_name;
+  held : SameReferences l.fn.work l.work;
 }
 
 abbrev pub decreases-loop-code : goal.decreases-loop-code

@@ -29,5 +29,5 @@ loop-x-preserved c =
       given =
           given_more takes_number c.args.xs.now c.loop-x.x-index c.x-item.result (tree_at row.NUMERIC_RECEIVER c.loop-x.left.now) (others_at row.COMMA_NUMERIC_RECEIVER (after_part row.NUMERIC_RECEIVER c.loop-x.left.now)) (items_at row.COMMA_NUMERIC_RECEIVER row.NUMERIC_RECEIVER c.rest_after-left.result.now) (workspace c.loop-x.work) (workspace c.assign_number_at.new.work) c.in_ok-code.code _
           c.loop-x-test.true c.x-item.is (receiver_items (after_part row.NUMERIC_RECEIVER c.loop-x.left.now) c.loop-x.invariant.list goes ∙ sym (ap (λ (u : Text). items_at row.COMMA_NUMERIC_RECEIVER row.NUMERIC_RECEIVER u) left)) c.in_ok-code.ensures.worked none c.loop-x.invariant.given;
-      held = c.in_ok-code.ensures.same_reference ∙ c.loop-x.invariant.held;
+      held = (c.in_ok-code.ensures.same_references.0 ∙ c.loop-x.invariant.held.0, c.in_ok-code.ensures.same_references.1 ∙ c.loop-x.invariant.held.1, c.in_ok-code.ensures.same_references.2 ∙ c.loop-x.invariant.held.2);
     }

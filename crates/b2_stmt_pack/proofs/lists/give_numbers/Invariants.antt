@@ -2,7 +2,7 @@ use Rattle.std.proofs.Common.{◌≡◌, true, drop}
 use Rattle.b2_atom.specs.declared.rows.TheConstants as row
 use Rattle.b2_rows.specs.CommaLists.{commas}
 use Rattle.b2_rows.specs.Rows.{after_part, is_list, is_part}
-use Rattle.b2_expr.specs.Workspace.{workspace}
+use Rattle.b2_expr.specs.Workspace.{SameReferences, workspace}
 use Rattle.b2_stmt_pack.specs.Lists.{each_takes, items_at, takes_number}
 use Rattle.b2_stmt_pack.proofs.lists.give_numbers.Given as goal
 
@@ -13,5 +13,5 @@ invariant-loop-x l = record {
   list : is_list commas row.COMMA_NUMERIC_RECEIVER (after_part row.NUMERIC_RECEIVER l.left) ≡ true;
   given : each_takes takes_number (items_at row.COMMA_NUMERIC_RECEIVER row.NUMERIC_RECEIVER l.left) (drop l.x-index l.xs) (workspace l.work)
       ≡ each_takes takes_number (items_at row.COMMA_NUMERIC_RECEIVER row.NUMERIC_RECEIVER l.text) l.xs (workspace l.fn.work);
-  held : l.work.own.ghost_name ≡ l.fn.work.own.ghost_name;
+  held : SameReferences l.fn.work l.work;
 }

@@ -29,5 +29,5 @@ loop-value-preserved c =
       given =
           given_more takes_value c.args.values.now c.loop-value.value-index c.value-item.result (tree_at row.RECEIVER c.loop-value.left.now) (others_at row.COMMA_RECEIVER (after_part row.RECEIVER c.loop-value.left.now)) (items_at row.COMMA_RECEIVER row.RECEIVER c.rest_after-left.result.now) (workspace c.loop-value.work) (workspace c.give_value_at.new.work) c.in_ok-code.code _
           c.loop-value-test.true c.value-item.is (any_items (after_part row.RECEIVER c.loop-value.left.now) c.loop-value.invariant.list goes ∙ sym (ap (λ (u : Text). items_at row.COMMA_RECEIVER row.RECEIVER u) left)) c.in_ok-code.ensures.worked none c.loop-value.invariant.given;
-      held = c.in_ok-code.ensures.same_reference ∙ c.loop-value.invariant.held;
+      held = (c.in_ok-code.ensures.same_references.0 ∙ c.loop-value.invariant.held.0, c.in_ok-code.ensures.same_references.1 ∙ c.loop-value.invariant.held.1, c.in_ok-code.ensures.same_references.2 ∙ c.loop-value.invariant.held.2);
     }

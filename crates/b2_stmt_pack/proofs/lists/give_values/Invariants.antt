@@ -2,7 +2,7 @@ use Rattle.std.proofs.Common.{◌≡◌, true, drop}
 use Rattle.b2_atom.specs.declared.rows.TheConstants as row
 use Rattle.b2_rows.specs.CommaLists.{commas}
 use Rattle.b2_rows.specs.Rows.{after_part, is_list, is_part}
-use Rattle.b2_expr.specs.Workspace.{workspace}
+use Rattle.b2_expr.specs.Workspace.{SameReferences, workspace}
 use Rattle.b2_stmt_pack.specs.Lists.{each_takes, items_at, takes_value}
 use Rattle.b2_stmt_pack.proofs.lists.give_values.Given as goal
 
@@ -13,5 +13,5 @@ invariant-loop-value l = record {
   list : is_list commas row.COMMA_RECEIVER (after_part row.RECEIVER l.left) ≡ true;
   given : each_takes takes_value (items_at row.COMMA_RECEIVER row.RECEIVER l.left) (drop l.value-index l.values) (workspace l.work)
       ≡ each_takes takes_value (items_at row.COMMA_RECEIVER row.RECEIVER l.text) l.values (workspace l.fn.work);
-  held : l.work.own.ghost_name ≡ l.fn.work.own.ghost_name;
+  held : SameReferences l.fn.work l.work;
 }

@@ -3,7 +3,7 @@ use Rattle.b2_atom.specs.declared.rows.TheConstants as row
 use Rattle.b2_rows.specs.Rows.{is_part, tree_at}
 use Rattle.b2_receiver.specs.RightSide.{side_seen}
 use Rattle.b2_receiver.specs.Receiving.{assign_side_at}
-use Rattle.b2_expr.specs.Workspace.{workspace}
+use Rattle.b2_expr.specs.Workspace.{SameReferences, workspace}
 use Rattle.b2_stmt_var.specs.Assignments.{assign_each}
 use Rattle.b2_rows.specs.CommaLists.{all_listed, further_listed}
 use Rattle.b2_stmt_var.proofs.SideRows.{are_others, end_at, left_at, past_first}
@@ -16,7 +16,7 @@ invariant-loop-code l = record {
   list : are_others (past_first l.left) ≡ true;
   assigned : assign_each (assign_side_at (side_seen l.side)) (tree_at row.ALPHA_RECEIVER l.left ∷ further_listed (left_at (end_at (past_first l.text)) (past_first l.left))) (workspace l.work)
       ≡ assign_each (assign_side_at (side_seen l.side)) (all_listed (tree_at row.ALPHA_ASSIGNMENT l.text)) (workspace l.fn.work);
-  held : l.work.own.ghost_name ≡ l.fn.work.own.ghost_name;
+  held : SameReferences l.fn.work l.work;
 }
 
 abbrev pub decreases-loop-code : goal.decreases-loop-code

@@ -1,7 +1,7 @@
 use Rattle.std.proofs.Common.{◌≡◌, ◌∷◌, true, length}
 use Rattle.b2_atom.specs.declared.rows.TheConstants as row
 use Rattle.b2_rows.specs.Rows.{is_part, tree_at}
-use Rattle.b2_expr.specs.Workspace.{workspace}
+use Rattle.b2_expr.specs.Workspace.{SameReferences, workspace}
 use Rattle.b2_stmt_var.specs.Assignments.{assign_each}
 use Rattle.b2_rows.specs.CommaLists.{further_listed}
 use Rattle.b2_stmt_var.specs.Buffers.{buffers_of_init, fills_one}
@@ -15,7 +15,7 @@ invariant-loop-to l = record {
   list : are_others (past_first l.left) ≡ true;
   all_filled : assign_each (fills_one l.byte) (tree_at row.BUFFER l.left ∷ further_listed (left_at (past_first l.left))) (workspace l.work)
       ≡ assign_each (fills_one l.byte) (buffers_of_init (tree_at row.INIT l.unit)) (workspace l.fn.work);
-  held : l.work.own.ghost_name ≡ l.fn.work.own.ghost_name;
+  held : SameReferences l.fn.work l.work;
 }
 
 abbrev pub decreases-loop-to : goal.decreases-loop-to

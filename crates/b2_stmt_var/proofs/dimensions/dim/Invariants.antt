@@ -1,7 +1,7 @@
 use Rattle.std.proofs.Common.{◌≡◌, ◌∷◌, true, length}
 use Rattle.b2_atom.specs.declared.rows.TheConstants as row
 use Rattle.b2_rows.specs.Rows.{is_part, tree_at}
-use Rattle.b2_expr.specs.Workspace.{workspace}
+use Rattle.b2_expr.specs.Workspace.{SameReferences, workspace}
 use Rattle.b2_stmt_var.specs.Assignments.{assign_each}
 use Rattle.b2_rows.specs.CommaLists.{further_listed}
 use Rattle.b2_stmt_var.specs.Dimensions.{entries_of, makes_one}
@@ -15,7 +15,7 @@ invariant-loop-found l = record {
   list : are_others (past_first l.left) ≡ true;
   made : assign_each (makes_one l.common) (tree_at row.DIMENSIONED l.left ∷ further_listed (left_at (past_first l.left))) (workspace l.work)
       ≡ assign_each (makes_one l.common) (entries_of (tree_at row.DIM l.unit)) (workspace l.fn.work);
-  held : l.work.own.ghost_name ≡ l.fn.work.own.ghost_name;
+  held : SameReferences l.fn.work l.work;
 }
 
 abbrev pub decreases-loop-found : goal.decreases-loop-found

@@ -1,7 +1,7 @@
 use Rattle.std.proofs.Common.{◌≡◌, true, length}
 use Rattle.b2_atom.specs.declared.rows.TheConstants as row
 use Rattle.b2_rows.specs.Rows.{is_part}
-use Rattle.b2_expr.specs.Workspace.{workspace}
+use Rattle.b2_expr.specs.Workspace.{SameReferences, workspace}
 use Rattle.b2_stmt_var.specs.Reading.{read_each, reads_one}
 use Rattle.b2_rows.specs.CommaLists.{are_others, past_first, receivers_at}
 use Rattle.b2_stmt_var.proofs.reading.read_all.Given as goal
@@ -12,7 +12,7 @@ invariant-loop-code l = record {
   part : is_part row.RECEIVER l.left ≡ true;
   list : are_others (past_first l.left) ≡ true;
   read : read_each (reads_one l.own.lines) (receivers_at l.left) (workspace l.work) l.next ≡ read_each (reads_one l.own.lines) (receivers_at l.text) (workspace l.fn.work) l.fn.next;
-  held : l.work.own.ghost_name ≡ l.fn.work.own.ghost_name;
+  held : SameReferences l.fn.work l.work;
 }
 
 abbrev pub decreases-loop-code : goal.decreases-loop-code

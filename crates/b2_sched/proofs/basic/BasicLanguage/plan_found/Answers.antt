@@ -11,14 +11,14 @@ pub returns-in-Printing-clause-planned : goal.returns-in-Printing-clause-planned
 returns-in-Printing-clause-planned c =
     let f = c.args.found.now in
     let found = c.requires.found in
-    let globals = globals_lent c.args.lent.now in
-    let family = ap (λ (k : Family). plan_by c.args.devices.now k c.args.me.now (seen_lent c.args.lent.now)) (sym c.family_of.ensures ∙ c.in-Printing.is) in
-    ok_map c.plan_found.result _ _ (λ p is. planned_where_found c.args.devices.now f.place c.args.me.now (seen_lent c.args.lent.now) f.line.now (statement_found f) (record { me = c.plan_found.new.me; globals = globals; planned = p }) found.stands found.program found.line found.statement family is) (c.plan_found.ensures.planned c.args.lent.now.own.now globals)
+    let seen = seen_lent c.args.lent.now in
+    let family = ap (λ (k : Family). plan_by c.args.devices.now k c.args.me.now seen) (sym c.family_of.ensures ∙ c.in-Printing.is) in
+    ok_map c.plan_found.result _ _ (λ p is. planned_where_found c.args.devices.now f.place c.args.me.now seen f.line.now (statement_found f) (record { me = c.plan_found.new.me; globals = globals_lent c.plan_found.new.lent; planned = p }) found.stands found.program found.line found.statement family is) c.plan_found.ensures.planned
 
 pub returns-in-Terminal-clause-planned : goal.returns-in-Terminal-clause-planned
 returns-in-Terminal-clause-planned c =
     let f = c.args.found.now in
     let found = c.requires.found in
-    let globals = globals_lent c.args.lent.now in
-    let family = ap (λ (k : Family). plan_by c.args.devices.now k c.args.me.now (seen_lent c.args.lent.now)) (sym c.family_of.ensures ∙ c.in-Terminal.is) in
-    ok_map c.plan_found-in-Terminal.result _ _ (λ p is. planned_where_found c.args.devices.now f.place c.args.me.now (seen_lent c.args.lent.now) f.line.now (statement_found f) (record { me = c.plan_found-in-Terminal.new.me; globals = globals; planned = p }) found.stands found.program found.line found.statement family is) (c.plan_found-in-Terminal.ensures.planned c.args.lent.now.own.now globals)
+    let seen = seen_lent c.args.lent.now in
+    let family = ap (λ (k : Family). plan_by c.args.devices.now k c.args.me.now seen) (sym c.family_of.ensures ∙ c.in-Terminal.is) in
+    ok_map c.plan_found-in-Terminal.result _ _ (λ p is. planned_where_found c.args.devices.now f.place c.args.me.now seen f.line.now (statement_found f) (record { me = c.plan_found-in-Terminal.new.me; globals = globals_lent c.plan_found-in-Terminal.new.lent; planned = p }) found.stands found.program found.line found.statement family is) c.plan_found-in-Terminal.ensures.planned

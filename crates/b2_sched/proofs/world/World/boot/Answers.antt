@@ -16,6 +16,6 @@ invariant_of-result c =
     sym (c.in_ok-areas_of.ensures ∙ ap (map areas_of) (c.deref-4.ensures.value ∙ sym c.deref.ensures.value)) in
     let s = store_of c.in_ok-stores.stores in
     let texts = ap (λ (areas : List Areas). map text_row areas) areas ∙ sym (ap (λ (s : StoreState). s.texts) c.in_ok-stores.ensures.at_start) in
-    let here = booted_present partitions s c.in_ok-privates.ensures.numbered texts in
+    let here = booted_present partitions s c.in_ok-privates.ensures.numbered texts (ap (λ (s : StoreState). s.names) c.in_ok-stores.ensures.at_start) in
     let marks = subst (λ (m : Marks). ArePresent (map private_row partitions) s m) (sym c.new-seen.ensures) here in
     subst (λ (rows : List (ℕ × Private)). ArePresent rows s c.new-seen.result) (sym c.in_ok-privates.ensures.started) marks

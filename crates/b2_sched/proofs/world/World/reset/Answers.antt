@@ -1,9 +1,11 @@
-use Rattle.std.proofs.Common.{sym, ap, subst, ◌∙◌}
+use Rattle.std.proofs.Common.{true, sym, ap, subst, ◌∙◌}
 use Rattle.std.specs.Option.{option_copied_mut}
+use Rattle.b2_access.specs.Homes.{IsWithin}
+use Rattle.b2_access.specs.Leading.{is_present}
 use Rattle.b2_access.specs.declared.private.Private.{Private}
 use Rattle.b2_store.specs.Meaning.{store_of}
 use Rattle.b2_sched.specs.Presence.{IsSettled}
-use Rattle.b2_sched.proofs.Present.{still_present, with_own}
+use Rattle.b2_sched.proofs.Present.{flagged, still_present}
 use Rattle.b2_sched.proofs.Settled.{reset_settled}
 use Rattle.b2_sched.proofs.world.World.reset.Goals as goal
 
@@ -15,4 +17,6 @@ invariant_of-self-2 c =
     let me = c.in-Some.me.now in
     let was = c.self.invariant p me (sym (ap option_copied_mut (sym c.in-Some.is) ∙ c.get_mut.ensures.there)) in
     let settled = subst (λ (you : Private). IsSettled p you) (sym c.flag_reset.ensures.reset) (reset_settled p me was.settled) in
-    still_present p c.flag_reset.new.self c.self.inside.privates s s m m (with_own p me c.flag_reset.new.self s m settled was) (λ q you is. is) c.self.invariant
+    let same : IsWithin (is_present s) (record me { reset = true }) = record { part = was.homes.part; place = was.homes.place; kept = was.homes.kept; frames = was.homes.frames } in
+    let homes = subst (λ (you : Private). IsWithin (is_present s) you) (sym c.flag_reset.ensures.reset) same in
+    still_present p c.flag_reset.new.self c.self.inside.privates s s m m (flagged p me c.flag_reset.new.self s m settled homes was) (λ q you is. is) c.self.invariant

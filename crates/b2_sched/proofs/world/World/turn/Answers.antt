@@ -1,13 +1,13 @@
 use Rattle.std.proofs.Common.{rules, refl, sym, ap, subst, ◌∙◌}
 use Rattle.std.specs.Option.{option_copied_mut}
-use Rattle.std.specs.Prelude.{ℕ, IsSome}
-use Rattle.b2_access.specs.Store.{StoreState, content}
+use Rattle.b2_access.specs.Homes.{IsWithin}
+use Rattle.b2_access.specs.Leading.{NamesIn, is_present}
+use Rattle.b2_access.specs.Store.{StoreState}
 use Rattle.b2_audit.specs.Marks.{Marks}
 use Rattle.b2_sched.specs.Presence.{ArePresent}
-use Rattle.b2_access.specs.declared.objects.Object.TheVariants as object
 use Rattle.b2_store.specs.Meaning.{store_of}
 use Rattle.b2_sched.specs.World.{WorldState}
-use Rattle.b2_sched.proofs.Numbers.{same_number}
+use Rattle.b2_sched.proofs.Present.{there_present}
 use Rattle.b2_sched.proofs.WatchedTurns.{turned_present, turned_world}
 use Rattle.b2_sched.proofs.world.World.turn.Goals as goal
 
@@ -15,8 +15,12 @@ pub turn-requires : goal.turn-requires
 turn-requires c =
     let me = c.in-Some.me.now in
     let was = c.self.invariant c.args.part me (sym (ap option_copied_mut (sym c.in-Some.is) ∙ c.get_mut.ensures.there)) in
-    let own = subst (λ (p : ℕ). IsSome (content (store_of c.self.inside.stores) (object.Text p))) (sym (same_number me.part c.args.part was.settled.home.part)) was.text in
-    record { own = subst (λ (s : StoreState). IsSome (content s (object.Text me.part))) (sym (ap store_of c.new-watched.ensures.inner)) own }
+    let same = sym (ap store_of c.new-watched.ensures.inner) in
+    let s = store_of c.self.inside.stores in
+    record {
+      present = subst (λ (t : StoreState). IsWithin (is_present t) me) same was.homes;
+      names = subst (λ (t : StoreState). NamesIn (is_present t) t) same (λ n p leads. there_present s p (was.names n p leads));
+    }
 
 pub invariant_of-self-in-Ok : goal.invariant_of-self-in-Ok
 invariant_of-self-in-Ok c =

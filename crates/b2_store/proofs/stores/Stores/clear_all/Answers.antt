@@ -1,13 +1,15 @@
-use Rattle.std.proofs.Common.{ap, ◌∙◌, None}
-use Rattle.b2_access.specs.AccessRows.{clears}
+use Rattle.std.proofs.Common.{ap, ◌∙◌}
+use Rattle.b2_access.specs.Borrowers.{homes_marked}
 use Rattle.b2_access.specs.Rows.{NameRows}
-use Rattle.b2_access.specs.Serving.{performs}
+use Rattle.b2_access.proofs.Holders.{gone}
+use Rattle.b2_store.specs.Inside.{InsideRows, given_back}
 use Rattle.b2_store.specs.Meaning.{store_of}
-use Rattle.b2_store.proofs.Naming.{cleared}
+use Rattle.b2_store.proofs.Giving.{all_cleared}
 use Rattle.b2_store.proofs.stores.Stores.clear_all.Goals as goal
 
--- the name is given up first, and then all else is cleared
 pub returns : goal.returns
-returns c homes =
-    let s = store_of c.args.self.now in
-    c.clear_own.ensures homes ∙ ap (λ (rows : NameRows). performs (clears c.args.who None) (record s { names = rows })) c.give_up.ensures ∙ cleared c.args.who s c.args.name
+returns c =
+    let m = store_of c.clear_own.new.self in
+    ap (λ (rows : InsideRows). gone (record m { borrows = rows; names = c.give_up.new.self })) c.give_back.ensures
+    ∙ ap (λ (names : NameRows). gone (record m { borrows = given_back c.args.who (homes_marked c.args.homes) m.borrows; names = names })) c.give_up.ensures
+    ∙ all_cleared c.args.who (store_of c.args.self.now) c.args.homes c.args.name m c.clear_own.ensures

@@ -10,14 +10,14 @@ returns-in-Key-clause-done c = subst (λ a. Does c.args.who a c.args.self.now c.
 pub returns-in-None-clause-done : goal.returns-in-None-clause-done
 returns-in-None-clause-done c =
     let out = c.in-PutLine.is ∙ ap (λ atoms. access.PutLine c.in-PutLine.line atoms c.in-PutLine.homes) c.in-None.is in
-    subst (λ a. Does c.args.who a c.args.self.now c.erase.new.self c.erase.result) (sym out) (c.erase.ensures c.in-PutLine.homes)
+    subst (λ a. Does c.args.who a c.args.self.now c.erase.new.self c.erase.result) (sym out) c.erase.ensures
 
 pub returns-in-Erase-clause-done : goal.returns-in-Erase-clause-done
-returns-in-Erase-clause-done c = subst (λ a. Does c.args.who a c.args.self.now c.erase-in-Erase.new.self c.erase-in-Erase.result) (sym c.in-Erase.is) (c.erase-in-Erase.ensures c.in-Erase.homes)
+returns-in-Erase-clause-done c = subst (λ a. Does c.args.who a c.args.self.now c.erase-in-Erase.new.self c.erase-in-Erase.result) (sym c.in-Erase.is) c.erase-in-Erase.ensures
 
 pub returns-in-ClearAll-clause-done : goal.returns-in-ClearAll-clause-done
 returns-in-ClearAll-clause-done c =
-    subst (λ a. Does c.args.who a c.args.self.now c.clear_all.new.self c.clear_all.result) (sym c.in-ClearAll.is) (c.clear_all.ensures c.in-ClearAll.homes)
+    subst (λ a. Does c.args.who a c.args.self.now c.clear_all.new.self c.clear_all.result) (sym c.in-ClearAll.is) c.clear_all.ensures
 
 pub returns-in-Limits-clause-done : goal.returns-in-Limits-clause-done
 returns-in-Limits-clause-done c = subst (λ a. Does c.args.who a c.args.self.now c.args.self.now c.limits.result) (sym c.in-Limits.is) (c.limits.ensures c.args.who)
@@ -50,3 +50,9 @@ returns-in-CloseDevices-clause-done c = subst (λ a. Does c.args.who a c.args.se
 
 pub returns-in-FindPart-clause-done : goal.returns-in-FindPart-clause-done
 returns-in-FindPart-clause-done c = subst (λ a. Does c.args.who a c.args.self.now c.args.self.now c.find_part.result) (sym c.in-FindPart.is) (c.find_part.ensures c.args.who)
+
+pub returns-in-Leave-clause-done : goal.returns-in-Leave-clause-done
+returns-in-Leave-clause-done c = subst (λ a. Does c.args.who a c.args.self.now c.leave.new.self c.leave.result) (sym c.in-Leave.is) c.leave.ensures
+
+pub returns-in-Drop-clause-done : goal.returns-in-Drop-clause-done
+returns-in-Drop-clause-done c = subst (λ a. Does c.args.who a c.args.self.now c.give_texts_back.new.self c.give_texts_back.result) (sym c.in-Drop.is) c.give_texts_back.ensures

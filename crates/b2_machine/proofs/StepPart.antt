@@ -1,0 +1,110 @@
+-- A step leaves which partition it is.
+use Rattle.std.proofs.Common.{◌≡◌, ◌∙◌, refl, ap, ℕ, false, if◌then◌else◌, List, Option, Some, None, is_some}
+use Rattle.b2_flow.specs.declared.frame.Place.{Place}
+use Rattle.b2_syntax.specs.Reading.{reads}
+use Rattle.b2_text.specs.Program.{Lines}
+use Rattle.b2_text.specs.Spots.{first_opening, is_mark}
+use Rattle.b2_access.specs.Lending.{SeenLent}
+use Rattle.b2_access.specs.Loans.{Loan}
+use Rattle.b2_access.specs.Marks.{typed_by_mark}
+use Rattle.b2_access.specs.Partition.{is_ready}
+use Rattle.b2_access.specs.Placed.{Statement, statement_placed}
+use Rattle.b2_access.specs.Sharing.{ServingOf}
+use Rattle.b2_access.specs.Store.{StoreState}
+use Rattle.b2_access.specs.declared.accesses.Access.{Access}
+use Rattle.b2_access.specs.declared.accesses.Access.TheVariants as access
+use Rattle.b2_access.specs.declared.accesses.Answer.{Answer}
+use Rattle.b2_access.specs.declared.accesses.Answer.TheVariants as answer
+use Rattle.b2_access.specs.declared.lending.At.{At}
+use Rattle.b2_access.specs.declared.planned.Planned.{Planned}
+use Rattle.b2_access.specs.declared.planned.Planned.TheVariants as planned
+use Rattle.b2_access.specs.declared.private.Private.{Private}
+use Rattle.b2_access.proofs.Choice.{either}
+use Rattle.b2_language.specs.Languages.{AreLawful, Ways}
+use Rattle.b2_machine.specs.Endings.{counts, repeats}
+use Rattle.b2_machine.specs.Keys.{pressed}
+use Rattle.b2_machine.specs.Moving.{ends_by, ends_onward}
+use Rattle.b2_machine.specs.Statements.{begins, begins_where, begun_by, builder_of, finish_by, finishes, leaves, plan_by}
+use Rattle.b2_machine.specs.Step.{StepEnd, carries_out, enters_or_goes_on, halts_or_acts, lent_to_begin, line_read, runs_or_reads, seen_by, shows_or_goes_on, text_in, types_or_goes_on, whose_by}
+use Rattle.b2_machine.specs.Touched.{StepsKeepPart}
+use Rattle.b2_machine.specs.Typing.{put_by, puts_numbered, shown_by, shows_pending, takes_or_refuses, typed_by_key}
+use Rattle.b2_machine.proofs.OwnRules.{Own, StaysOwn, ended_stays, line_stays, listed_stays, onward_stays, pressed_stays, put_stays, shown_stays, typed_stays}
+use Rattle.b2_machine.specs.declared.moving.Onward.{Onward}
+use Rattle.b2_machine.specs.declared.statements.Builder.{Builder}
+use Rattle.b2_machine.specs.declared.statements.Builder.TheVariants as builder
+use Rattle.b2_machine.specs.declared.statements.Progress.{Progress}
+use Rattle.b2_machine.specs.declared.statements.Progress.TheVariants as progress
+
+abbrev SamePart : Private → Private → Type 0
+SamePart me after = after.part ≡ me.part
+
+same_part : (me after : Private) → StaysOwn me after → SamePart me after
+same_part me after is = ap (λ (o : Own). o.part) is
+
+module _ (ways : Ways) (lawful : AreLawful ways) where
+  plan_same : (b : Builder) (p : Place) (me : Private) (s : SeenLent) → SamePart me (plan_by ways b p me s).me
+  plan_same (builder.Listing from to) p me s = same_part me (plan_by ways (builder.Listing from to) p me s).me (listed_stays (is_some p.line) (from, to) me s)
+  plan_same (builder.Language r) p me s = lawful.plans_keep_part r me s
+  plan_same builder.Nobody p me s = refl
+
+  begun : (x : Planned) (b : Builder) (p : Place) (me : Private) (home : Lines) → SamePart me (begun_by x b p me home).me
+  begun (planned.Done o) b p me home = same_part me (ends_by counts o p me home).me (ended_stays counts o p me home)
+  begun (planned.Ask a) b p me home = refl
+
+  begins_same : (u : Option Statement) (p : Place) (me : Private) (s : SeenLent) → SamePart me (begins_where ways u p me s).me
+  begins_same None p me s = refl
+  begins_same (Some u) p me s = let x = plan_by ways (builder_of ways u) p me s in begun x.planned (builder_of ways u) p x.me s.home.lines ∙ plan_same (builder_of ways u) p me s
+
+  finish_same : (b : Builder) (x : Access) (a : Answer) (me : Private) (s : SeenLent) → SamePart me (finish_by ways b x a me s).me
+  finish_same (builder.Listing from to) x a me s = refl
+  finish_same (builder.Language r) x a me s = lawful.finishes_keep_part r x a me s
+  finish_same builder.Nobody x a me s = refl
+
+  finished : (b : Builder) (x : Access) (a : Answer) (w : Onward) (p : Place) (me : Private) (s : SeenLent) → SamePart me (finishes ways b x a w p me s).me
+  finished b x a w p me s =
+      let y = finish_by ways b x a me s in
+      same_part y.me (ends_onward (repeats a) y.outcome w p y.me s.home.lines).me (onward_stays (repeats a) y.outcome w p y.me s.home.lines) ∙ finish_same b x a me s
+
+  module _ {M : Type 0} (store : M → StoreState) (serving : ServingOf M) (lending : Loan M) where
+    abbrev Same : Private → StepEnd M → Type 0
+    Same me e = e.me.part ≡ me.part
+
+    read : (x : Answer) (me : Private) (m : M) → Same me (line_read store serving lending x me m)
+    read (answer.Line bytes) me m = same_part me (takes_or_refuses (reads bytes) (record me { term_column = 0 })) (line_stays (reads bytes) (record me { term_column = 0 }))
+    read (answer.Special n) me m =
+        let own = (text_in (store m) me.part).lines in
+        same_part me (pressed n own me) (pressed_stays (typed_by_mark n own) (first_opening (is_mark n) own) me)
+    read x me m = refl
+
+    carried : (who : ℕ) (c : Progress) (p : Place) (whose : At) (me : Private) (m : M) → Same me (carries_out ways store serving lending who c p whose me m)
+    carried who (progress.Ended e) p whose me m = refl
+    carried who (progress.Asks a b w) p whose me m = let g = serving m who a in finished b a g.answer w p me (seen_by who p.home whose (store g.after))
+
+    at_place : (x : Option Place) (me : Private) (m : M) → Same me (runs_or_reads ways store serving lending x me m)
+    at_place None me m = let g = serving m me.part (access.ReadLine me.term) in read g.answer me g.after
+    at_place (Some p) me m =
+        let whose = whose_by p me (store m) in
+        let s = seen_by me.part p.home whose (store m) in
+        let b = begins ways p me s in
+        carried me.part b.progress p whose b.me (lent_to_begin store serving lending me.part p.home whose m (leaves ways p me s)) ∙ begins_same (statement_placed p me.immediate s.home.lines) p me s
+
+    at_number : (x : Option (ℕ × Option (List ℕ))) (me : Private) (m : M) → Same me (enters_or_goes_on ways store serving lending x me m)
+    at_number (Some line) me m = let a = (serving m me.part (puts_numbered line)).answer in same_part me (put_by a me).me (put_stays a me)
+    at_number None me m = at_place me.place me m
+
+    at_literal : (x : Option (List ℕ)) (me : Private) (m : M) → Same me (types_or_goes_on ways store serving lending x me m)
+    at_literal (Some text) me m = let a = (serving m me.part (access.Insert me.term text)).answer in same_part me (typed_by_key a me).me (typed_stays a me)
+    at_literal None me m = at_number me.numbered me m
+
+    at_output : (x : Option (List ℕ × List ℕ)) (me : Private) (m : M) → Same me (shows_or_goes_on ways store serving lending x me m)
+    at_output (Some text) me m =
+        let a = shows_pending text.0 text.1 me in
+        let x = (serving m me.part a).answer in
+        same_part me (shown_by a x me).me (shown_stays a x me)
+    at_output None me m = at_literal me.literal me m
+
+    at_halt : (me : Private) (m : M) → Same me (halts_or_acts ways store serving lending me m)
+    at_halt me m = either (Same me) (is_ready me) _ _ (at_output me.pending (record me { halt = false }) m) refl
+
+    pub steps_keep_part : StepsKeepPart ways store serving lending
+    steps_keep_part me m = either (Same me) me.reset _ _ refl (either (Same me) me.halt _ _ (at_halt me m) (at_output me.pending me m))
