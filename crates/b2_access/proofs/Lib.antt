@@ -13,6 +13,7 @@ pub mod Fitting
 pub mod Held
 pub mod Statements
 pub mod Homes
+pub mod EnteredHomes
 pub mod OwnTerminal
 pub mod OwnDevices
 pub mod Choice

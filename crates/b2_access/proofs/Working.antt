@@ -18,7 +18,7 @@ use Rattle.b2_access.specs.declared.planned.Planned.TheVariants as planned
 use Rattle.b2_access.specs.declared.private.Private.{Private}
 
 -- what holds of a partition whatever is put back into it holds of it after a plan
-after_plan : (P : Private → Type 0) (me : Private) (s : SeenLent) (k : Working) → ((w : Work) → P (put_back w me)) → P (as_planned me s k).me
+pub after_plan : (P : Private → Type 0) (me : Private) (s : SeenLent) (k : Working) → ((w : Work) → P (put_back w me)) → P (as_planned me s k).me
 after_plan P me s (Ends w) h = h w.work
 after_plan P me s (Plans p) h = h (work_of me)
 

@@ -1,7 +1,9 @@
 -- Who stands inside a text: a list of partitions in order of entering, each as often as it has entered and not left.
-use Rattle.std.specs.Prelude.{ℕ, ◌+◌, ◌-◌, ◌==◌, Bool, not, List, [], ◌∷◌, ◌++◌, filter, if◌then◌else◌}
+use Rattle.std.specs.Prelude.{ℕ, ◌+◌, ◌*◌, ◌-◌, ◌==◌, Bool, not, List, [], ◌∷◌, ◌++◌, filter, if◌then◌else◌}
 use Rattle.std.specs.Int.{bit_at}
 use Rattle.std.specs.List.{list_any}
+use Rattle.b2_flow.specs.Frames.{enters}
+use Rattle.b2_flow.specs.declared.frame.Frame.{Frame}
 
 -- how often a partition is in it
 abbrev pub times : ℕ → List ℕ → ℕ
@@ -36,3 +38,12 @@ marked_among homes (h ∷ parts) = if_marked homes h ++ marked_among homes parts
 
 abbrev pub homes_marked : ℕ → List ℕ
 homes_marked homes = marked_among homes all_partitions
+
+-- the mask that marks those of some partitions that pass, the first by its lowest bit
+abbrev pub mask_among : (ℕ → Bool) → List ℕ → ℕ
+mask_among passes [] = 0
+mask_among passes (h ∷ parts) = (if passes h then 1 else 0) + 2 * mask_among passes parts
+
+-- and that of the partitions whose texts some calls entered
+abbrev pub homes_entered : List Frame → ℕ
+homes_entered frames = mask_among (λ h. list_any (enters h) frames) all_partitions

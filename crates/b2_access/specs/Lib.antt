@@ -20,6 +20,7 @@ pub mod Answering
 pub mod Views
 pub mod Causes
 pub mod Entering
+pub mod Standing
 pub mod Holding
 pub mod Objects
 pub mod Contents

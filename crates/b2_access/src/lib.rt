@@ -43,7 +43,7 @@ pub use devices::{Device, DeviceTable};
 pub use ending::{failing, goes_or};
 pub use going::{failed, named_at, to_found, to_goal, to_line, to_place};
 pub use lending::{At, Lent};
-pub use marked_homes::{all_parts, is_marked};
+pub use marked_homes::{all_parts, homes_entered, is_marked};
 pub use marks::typed_by_mark;
 pub use objects::Object;
 pub use placed::{Found, line_named, statement_on, statement_placed};

@@ -1,8 +1,9 @@
 // The partitions that a mask marks.
 ghost use Rattle.std.specs.Prelude.{◌≡◌};
-ghost use Rattle.b2_access.specs.Borrowers.{all_partitions, is_marked};
+ghost use Rattle.b2_access.specs.Borrowers.{all_partitions, homes_entered, is_marked};
 
 use b2_base::Part;
+use b2_flow::Stack;
 
 /// All sixteen partitions.
 pub fn all_parts() -> [Part; 16]
@@ -33,4 +34,12 @@ pub fn is_marked(homes: u16, p: Part) -> bool
     ensures { result ≡ is_marked p homes }
 {
     homes >> (p.number() - 1) & 1 == 1
+}
+
+/// The mask of the partitions whose texts some calls entered.
+#[tactic(auto, using(crate::proofs::EnteredHomes::mask_of_marks))]
+pub fn homes_entered(stack: &Stack) -> u16
+    ensures { result ≡ homes_entered stack.now }
+{
+    stack.homes()
 }

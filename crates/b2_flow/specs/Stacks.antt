@@ -1,5 +1,5 @@
 -- Lists of frames, the highest first: what each call finds and what it leaves.
-use Rattle.std.specs.Prelude.{ℕ, Bool, List, [], ◌∷◌, Option, Some, None, if◌then◌else◌}
+use Rattle.std.specs.Prelude.{ℕ, nat_lt, length, Bool, List, [], ◌∷◌, Option, Some, None, if◌then◌else◌}
 use Rattle.std.specs.List.{list_any, take_while}
 use Rattle.b2_dec.specs.Number.{Number}
 use Rattle.b2_flow.specs.declared.frame.Frame.{Frame}
@@ -46,3 +46,17 @@ top_loop (Call back entered ∷ below) = None
 abbrev pub without_top_loop : List Frame → List Frame
 without_top_loop [] = []
 without_top_loop (frame ∷ below) = if is_loop frame then below else frame ∷ below
+
+-- the partition whose text the frame on top entered, where it is a call that did so
+abbrev pub entered_on_top : List Frame → Option ℕ
+entered_on_top [] = None
+entered_on_top (For v limit step body ∷ below) = None
+entered_on_top (Call back entered ∷ below) = entered
+
+-- and the one whose text the nearest call entered
+abbrev pub entered_last : List Frame → Option ℕ
+entered_last frames = entered_on_top (from_call frames)
+
+-- whether there is room for one more
+abbrev pub has_room : List Frame → Bool
+has_room frames = nat_lt (length frames) most_frames

@@ -6,7 +6,7 @@ ghost use Rattle.std.specs.List.{filter, list_any, slice_get};
 ghost use Rattle.b2_base.specs.declared.codes.TheConstants.{A04_TOO_DEEP, P40_NO_FOR, P41_NO_CALL};
 ghost use Rattle.b2_flow.specs.declared.frame.Frame.TheVariants.{Call};
 ghost use Rattle.b2_flow.specs.Frames.{is_immediate_loop, enters};
-ghost use Rattle.b2_flow.specs.Stacks.{most_frames, has_loop, from_loop, has_call, from_call, top_loop, without_top_loop};
+ghost use Rattle.b2_flow.specs.Stacks.{entered_last, has_room, most_frames, has_loop, from_loop, has_call, from_call, top_loop, without_top_loop};
 
 use crate::frame::{Frame, Place, Var2};
 use crate::search;
@@ -118,6 +118,31 @@ impl Stack {
             }
             None => Err(Code::known(P41_NO_CALL)),
         }
+    }
+
+    /// The partition whose text the nearest call entered, None where it entered none or there is no call.
+    #[tactic(auto, using(crate::proofs::Calls::no_call_left))]
+    pub fn entered_last(&self) -> Option<Part>
+        ensures { result ≡ entered_last self.now }
+    {
+        match search::nearest_call(&self.frames) {
+            Some((_, (_, entered))) => entered,
+            None => None,
+        }
+    }
+
+    /// Whether there is a call.
+    pub fn has_call(&self) -> bool
+        ensures { result ≡ has_call self.now }
+    {
+        search::nearest_call(&self.frames).is_some()
+    }
+
+    /// Whether there is room for one more frame.
+    pub fn has_room(&self) -> bool
+        ensures { result ≡ has_room self.now }
+    {
+        self.frames.len() < MOST_FRAMES
     }
 
     /// How many frames there are, at most 200.

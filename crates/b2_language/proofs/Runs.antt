@@ -1,5 +1,5 @@
 -- A run of units by its next statement.
-use Rattle.std.proofs.Common.{◌≡◌, ℕ, suc, zero, ◌+◌, ◌-◌, ◌<◌, ◌≤◌, refl, sym, ap, ◌∙◌, arith, Bool, Option, Some, None}
+use Rattle.std.proofs.Common.{◌≡◌, ℕ, suc, zero, ◌+◌, ◌-◌, ◌<◌, ◌≤◌, refl, sym, ap, ◌∙◌, arith, Bool, Some, None}
 use Rattle.b2_vars.specs.Globals.{Globals}
 use Rattle.b2_access.specs.Lending.{SeenLent}
 use Rattle.b2_access.specs.declared.planned.Planned.{Planned}

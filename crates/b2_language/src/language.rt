@@ -1,9 +1,10 @@
 // What the statements of a language do.
-ghost use Rattle.std.specs.Prelude.{◌≡◌, ℕ, Bool, true, List, IfOk};
+ghost use Rattle.std.specs.Prelude.{◌≡◌, ℕ, Bool, true, List, IfNone, IfOk};
 ghost use Rattle.b2_access.specs.declared.devices.Device.{Device};
 ghost use Rattle.b2_access.specs.Answering.{can_answer};
 ghost use Rattle.b2_access.specs.Found.{IsFound, seen_found};
 ghost use Rattle.b2_access.specs.Lending.{globals_lent, seen_lent};
+ghost use Rattle.b2_access.specs.Planning.{tried};
 ghost use Rattle.b2_language.specs.Languages.{AreLawful, AskForListed, KeepOpenFiles, Ways};
 
 use b2_access::{Access, Answer, DeviceTable, Found, Lent, Outcome, Planned, Private};
@@ -49,21 +50,23 @@ pub trait Language {
         ensures same_reference { lent.new.globals.ghost_name ≡ lent.old.globals.ghost_name }
         ensures part { me.new.part ≡ me.old.part };
 
-    /// Whether statements of a row are planned at once where their unit was found in a line of the program: they ask for
+    /// Whether statements of a row are planned at once where their unit was found in a line of the program: they mostly ask for
     /// nothing there.
     fn is_at_once(row: u16) -> bool
         ensures at_once { result ≡ at_once row };
 
-    /// What `plan` says of such a statement, at its place in a line of the program.
+    /// What `plan` says of such a statement, at its place in a line of the program: how it has ended. None where it asks for an access
+    /// after all: nothing has changed then, and `plan` says for which.
     fn plan_at_once(
         alloc: Global,
         me: &mut Private,
         lent: &mut Lent<'_>,
         found: &Found<'_>,
-    ) -> Result<Outcome, NoMemory>
+    ) -> Result<Option<Outcome>, NoMemory>
         requires at_once { at_once found.now.unit.now.row ≡ true }
         requires found { IsFound found.now found.now.home.now.lines me.old }
-        ensures planned { (devices : List Device) → IfOk result (λ o. record { me = me.new; globals = globals_lent lent.new; planned = Planned.Done o } ≡ (ways devices).plan found.now.unit.now.row me.old (seen_found found.now (globals_lent lent.old))) }
+        ensures planned { (devices : List Device) → IfOk result (λ o. record { me = me.new; globals = globals_lent lent.new; ended = o } ≡ tried ((ways devices).plan found.now.unit.now.row me.old (seen_found found.now (globals_lent lent.old)))) }
+        ensures unchanged { IfOk result (λ o. IfNone o ((me.new ≡ me.old) × (globals_lent lent.new ≡ globals_lent lent.old))) }
         ensures same_texts { (lent.new.own ≡ lent.old.own) × (lent.new.home ≡ lent.old.home) }
         ensures same_reference { lent.new.globals.ghost_name ≡ lent.old.globals.ghost_name }
         ensures part { me.new.part ≡ me.old.part };

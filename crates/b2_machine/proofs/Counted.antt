@@ -23,9 +23,9 @@ use Rattle.b2_language.specs.Following.{following_place}
 use Rattle.b2_machine.specs.Counting.{CountsOrEnds, StepsCountOrEnd}
 use Rattle.b2_machine.specs.Endings.{counts, ends_turn, repeats}
 use Rattle.b2_machine.specs.Moving.{ends_by, ends_onward, error_place, faults, goes_to, onward_from, place_onward}
-use Rattle.b2_machine.specs.Readiness.{halted, resets}
+use Rattle.b2_machine.specs.Readiness.{halted}
 use Rattle.b2_machine.specs.Statements.{begins_where, begun_by, builder_of, finish_by, finishes, leaves, plan_by}
-use Rattle.b2_machine.specs.Step.{acts, by_itself, enters_or_goes_on, executes, goes_through, halts_or_acts, lent_to_begin, line_read, runs_or_reads, seen_by, shows_or_goes_on, types_or_goes_on, whose_by}
+use Rattle.b2_machine.specs.Step.{acts, by_itself, enters_or_goes_on, executes, goes_through, halts_or_acts, lent_to_begin, line_read, resets_by, runs_or_reads, seen_by, shows_or_goes_on, types_or_goes_on, whose_by}
 use Rattle.b2_machine.specs.Typing.{put_by, shown_by, shows_pending, typed_by_key}
 use Rattle.b2_machine.specs.declared.ends.Stepped.{Stepped}
 use Rattle.b2_machine.specs.declared.ends.Why.{Why}
@@ -134,7 +134,7 @@ module _ (ways : Ways) {M : Type 0} (store : M → StoreState) (serving : Servin
   reset false = ending reason.Ready
 
   any : (b : Bool) (me : Private) (m : M)
-      → CountsOrEnds (if b then by_itself store serving lending (resets me) m else (if me.halt then halts_or_acts ways store serving lending me m else acts ways store serving lending me m)).end
+      → CountsOrEnds (if b then resets_by store serving lending me m else (if me.halt then halts_or_acts ways store serving lending me m else acts ways store serving lending me m)).end
   any true me m = reset (is_ready me)
   any false me m = act me.halt me m
 

@@ -38,11 +38,11 @@ use Rattle.b2_language.specs.Following.{following_place, moves_to, units_at}
 use Rattle.b2_machine.specs.Keys.{calls, calls_where, pressed_by}
 use Rattle.b2_machine.specs.Listed.{lists}
 use Rattle.b2_machine.specs.Moving.{ends_by, ends_onward, enters_program, error_place, faults, goes_to, is_continue, is_taken, onward_from, place_onward}
-use Rattle.b2_machine.specs.Readiness.{halted, resets}
+use Rattle.b2_machine.specs.Readiness.{halted}
 use Rattle.b2_machine.specs.Statements.{begins_where, begun_by, builder_of, finish_by, finishes, leaves, plan_by}
 use Rattle.b2_access.specs.Marks.{typed_by_mark}
 use Rattle.b2_access.proofs.Choice.{either}
-use Rattle.b2_machine.specs.Step.{acts, by_itself, enters_or_goes_on, executes, goes_through, halts_or_acts, lent_to_begin, line_read, runs_or_reads, seen_by, shows_or_goes_on, step, text_in, types_or_goes_on, whose_by}
+use Rattle.b2_machine.specs.Step.{acts, by_itself, enters_or_goes_on, executes, goes_through, halts_or_acts, lent_to_begin, line_read, resets_by, runs_or_reads, seen_by, shows_or_goes_on, step, text_in, types_or_goes_on, whose_by}
 use Rattle.b2_machine.specs.Typing.{put_by, shown_by, shows_pending, takes, takes_or_refuses, typed_by_key}
 use Rattle.b2_machine.specs.Turn.{TurnEnd, counted_on, ended_turn as turn_ended, turn, turn_from, unless_ended}
 use Rattle.b2_machine.specs.declared.ends.Stepped.{Stepped}
@@ -267,7 +267,7 @@ module _ (ways : Ways) (lawful : AreLawful ways) {M : Type 0} (store : M → Sto
   act_by false me m h = show_keeps me.pending me m h
 
   step_by : (b : Bool) (me : Private) (m : M) → KeepsNone me
-      → KeepsNone (if b then by_itself store serving lending (resets me) m else (if me.halt then halts_or_acts ways store serving lending me m else acts ways store serving lending me m)).me
+      → KeepsNone (if b then resets_by store serving lending me m else (if me.halt then halts_or_acts ways store serving lending me m else acts ways store serving lending me m)).me
   step_by true me m h = λ r. absurd (false_is_true r)
   step_by false me m h = act_by me.halt me m h
 

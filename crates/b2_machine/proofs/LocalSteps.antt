@@ -4,7 +4,6 @@ use Rattle.std.proofs.Common.{sym, ap, subst, ◌∙◌, inl, inr}
 use Rattle.b2_flow.specs.declared.frame.Place.{Place}
 use Rattle.b2_text.specs.Program.{TextState}
 use Rattle.b2_vars.specs.Globals.{Globals}
-use Rattle.b2_vars.specs.Tables.{VarsState}
 use Rattle.b2_access.specs.Lending.{SeenLent}
 use Rattle.b2_access.specs.Loans.{Loan, LoansGlobals, lender_at, loan_touched}
 use Rattle.b2_access.specs.Objects.{Decided, same_object}
@@ -26,7 +25,7 @@ use Rattle.b2_language.specs.Languages.{AreLawful, Ways}
 use Rattle.b2_language.specs.Wanted.{wanted_at}
 use Rattle.b2_machine.specs.Endings.{Ending}
 use Rattle.b2_machine.specs.Keys.{pressed}
-use Rattle.b2_machine.specs.Readiness.{halted, resets}
+use Rattle.b2_machine.specs.Readiness.{gives_back, halted, resets}
 use Rattle.b2_machine.specs.Statements.{Begun, begins, finish_by, finishes, leaves}
 use Rattle.b2_machine.specs.Step.{StepEnd, acts, carries_out, enters_or_goes_on, executes, executes_by, goes_through, halts_or_acts, lent_to_begin, line_read, reads_line, runs_or_reads, seen_by, shows_or_goes_on, text_in, types_or_goes_on, whose_by}
 use Rattle.b2_machine.specs.Touched.{GoesAlike, GoesLocally, StepsAreLocal, Told, begin_touched, reached_objects, tells, tells_both, tells_carrying, tells_executing, told_acting, told_at, told_entering, told_showing, told_typing, told_unless_halted}
@@ -336,7 +335,7 @@ module _ (ways : Ways) (lawful : AreLawful ways) {M : Type 0} (store : M → Sto
   by_place (Some p) me = by_statement p me
 
   by_number : (x : Option (ℕ × Option (List ℕ))) (me : Private) → Goes (λ m. told_entering ways store serving lending x me m) (λ m. enters_or_goes_on ways store serving lending x me m)
-  by_number (Some line) me = by_answer me (puts_numbered line) (λ a. put_by a me)
+  by_number (Some line) me = by_answer me (puts_numbered line me) (λ a. put_by a me)
   by_number None me = by_place me.place me
 
   by_literal : (x : Option (List ℕ)) (me : Private) → Goes (λ m. told_typing ways store serving lending x me m) (λ m. types_or_goes_on ways store serving lending x me m)
@@ -356,5 +355,5 @@ module _ (ways : Ways) (lawful : AreLawful ways) {M : Type 0} (store : M → Sto
 
   pub steps_are_local : StepsAreLocal ways store serving lending
   steps_are_local me =
-      by_test me.reset _ _ _ _ (by_itself me.part (resets me))
+      by_test me.reset _ _ _ _ (by_answer me (gives_back me) (λ _. resets me))
       (by_test me.halt _ _ _ _ (by_halt me) (by_acting me))

@@ -16,8 +16,9 @@ use Rattle.b2_access.specs.declared.lending.At.TheVariants as at
 use Rattle.b2_access.specs.declared.objects.Object.TheVariants as object
 use Rattle.b2_access.specs.declared.private.Private.{Private}
 use Rattle.b2_language.specs.Languages.{Ways}
+use Rattle.b2_machine.specs.Readiness.{gives_back}
 use Rattle.b2_machine.specs.Statements.{begins, finish_by, leaves}
-use Rattle.b2_machine.specs.Step.{StepEnd, carries_out, enters_or_goes_on, halts_or_acts, lent_to_begin, line_read, runs_or_reads, seen_by, shows_or_goes_on, step, types_or_goes_on, whose_by}
+use Rattle.b2_machine.specs.Step.{StepEnd, carries_out, enters_or_goes_on, halts_or_acts, lent_to_begin, line_read, runs_or_reads, seen_by, shows_or_goes_on, types_or_goes_on, whose_by}
 use Rattle.b2_machine.specs.Touched.{StepsLeadNames}
 use Rattle.b2_machine.specs.Typing.{puts_numbered, shows_pending}
 use Rattle.b2_machine.specs.declared.statements.Progress.{Progress}
@@ -73,7 +74,7 @@ module _ (ways : Ways) {M : Type 0} (store : M → StoreState) (serving : Servin
       both_lead me.part m u (carries_out ways store serving lending me.part b.progress place whose b.me u).after (lent_first me.part place.home whose left m) (carried me.part b.progress place whose b.me u)
 
   at_number : (x : Option (ℕ × Option (List ℕ))) (me : Private) (m : M) → Leads me.part m (enters_or_goes_on ways store serving lending x me m).after
-  at_number (Some line) me m = names me.part (puts_numbered line) m
+  at_number (Some line) me m = names me.part (puts_numbered line me) m
   at_number None me m = at_place me.place me m
 
   at_literal : (x : Option (List ℕ)) (me : Private) (m : M) → Leads me.part m (types_or_goes_on ways store serving lending x me m).after
@@ -92,4 +93,4 @@ module _ (ways : Ways) {M : Type 0} (store : M → StoreState) (serving : Servin
   at_halt me m = by_test me.part m (is_ready me) _ _ (at_output me.pending (record me { halt = false }) m) (λ n p is. inl is)
 
   pub steps_lead_names : StepsLeadNames ways store serving lending
-  steps_lead_names me m = by_test me.part m me.reset _ _ (λ n p is. inl is) (by_test me.part m me.halt _ _ (at_halt me m) (at_output me.pending me m))
+  steps_lead_names me m = by_test me.part m me.reset _ _ (names me.part (gives_back me) m) (by_test me.part m me.halt _ _ (at_halt me m) (at_output me.pending me m))

@@ -1,5 +1,5 @@
 -- What a statement may leave of the `@` variables, whoever executes it.
-use Rattle.std.proofs.Common.{◌≡◌, ℕ, Bool, true, false, Option, Some, None, is_some, refl, sym, subst}
+use Rattle.std.proofs.Common.{ℕ, Bool, true, false, Option, Some, None, is_some, refl, sym, subst}
 use Rattle.b2_flow.specs.declared.frame.Place.{Place}
 use Rattle.b2_vars.specs.Globals.{Globals, MayBecome}
 use Rattle.b2_access.specs.Lending.{SeenLent}

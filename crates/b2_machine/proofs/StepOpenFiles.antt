@@ -123,7 +123,7 @@ module _ (ways : List Device → Ways) (lawful : (devices : List Device) → Are
         carried_open me.part b.progress p whose b.me (lent_to_begin store serving lending me.part p.home whose m left) (fits p.home whose left) k.1 k.0
 
     at_number : (x : Option (ℕ × Option (List ℕ))) (me : Private) (m : M) → Fits me m → Open me → StepOpen (enters_or_goes_on (ways devices) store serving lending x me m)
-    at_number (Some line) me m fits h = still me (enters_or_goes_on (ways devices) store serving lending (Some line) me m).me (put_stays (serving m me.part (puts_numbered line)).answer me) h
+    at_number (Some line) me m fits h = still me (enters_or_goes_on (ways devices) store serving lending (Some line) me m).me (put_stays (serving m me.part (puts_numbered line me)).answer me) h
     at_number None me m fits h = at_place me.place me m fits h
 
     at_literal : (x : Option (List ℕ)) (me : Private) (m : M) → Fits me m → Open me → StepOpen (types_or_goes_on (ways devices) store serving lending x me m)

@@ -1,5 +1,5 @@
 -- What waits to be shown after a step, and after a turn, waited before, or is for the terminal.
-use Rattle.std.proofs.Common.{◌≡◌, ◌∙◌, refl, inl, inr, sym, subst, ℕ, zero, suc, ◌&&◌, not, nat_lt, Bool, true, false, if◌then◌else◌, List, length, Option, Some, None, is_some, Result, Ok, Err}
+use Rattle.std.proofs.Common.{◌∙◌, refl, inl, inr, sym, subst, ℕ, zero, suc, ◌&&◌, not, nat_lt, Bool, true, false, List, length, Option, Some, None, is_some, Result, Ok, Err}
 use Rattle.b2_flow.specs.Stacks.{most_frames}
 use Rattle.b2_flow.specs.declared.frame.Place.{Place}
 use Rattle.b2_syntax.specs.Reading.{reads}
@@ -179,7 +179,7 @@ module _ (ways : Ways) (lawful : AreLawful ways) {M : Type 0} (store : M → Sto
       (carried_shows me.part b.progress p whose b.me (lent_to_begin store serving lending me.part p.home whose m (leaves ways p me s)))
 
   at_number : (x : Option (ℕ × Option (List ℕ))) (me : Private) (m : M) → StepShows me (enters_or_goes_on ways store serving lending x me m)
-  at_number (Some line) me m = put_shows (serving m me.part (puts_numbered line)).answer me
+  at_number (Some line) me m = put_shows (serving m me.part (puts_numbered line me)).answer me
   at_number None me m = at_place me.place me m
 
   at_literal : (x : Option (List ℕ)) (me : Private) (m : M) → StepShows me (types_or_goes_on ways store serving lending x me m)

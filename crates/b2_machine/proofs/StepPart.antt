@@ -1,5 +1,5 @@
 -- A step leaves which partition it is.
-use Rattle.std.proofs.Common.{◌≡◌, ◌∙◌, refl, ap, ℕ, false, if◌then◌else◌, List, Option, Some, None, is_some}
+use Rattle.std.proofs.Common.{◌≡◌, ◌∙◌, refl, ap, ℕ, false, List, Option, Some, None, is_some}
 use Rattle.b2_flow.specs.declared.frame.Place.{Place}
 use Rattle.b2_syntax.specs.Reading.{reads}
 use Rattle.b2_text.specs.Program.{Lines}
@@ -89,7 +89,7 @@ module _ (ways : Ways) (lawful : AreLawful ways) where
         carried me.part b.progress p whose b.me (lent_to_begin store serving lending me.part p.home whose m (leaves ways p me s)) ∙ begins_same (statement_placed p me.immediate s.home.lines) p me s
 
     at_number : (x : Option (ℕ × Option (List ℕ))) (me : Private) (m : M) → Same me (enters_or_goes_on ways store serving lending x me m)
-    at_number (Some line) me m = let a = (serving m me.part (puts_numbered line)).answer in same_part me (put_by a me).me (put_stays a me)
+    at_number (Some line) me m = let a = (serving m me.part (puts_numbered line me)).answer in same_part me (put_by a me).me (put_stays a me)
     at_number None me m = at_place me.place me m
 
     at_literal : (x : Option (List ℕ)) (me : Private) (m : M) → Same me (types_or_goes_on ways store serving lending x me m)

@@ -17,7 +17,6 @@ use Rattle.b2_access.specs.declared.accesses.Access.{Access}
 use Rattle.b2_access.specs.declared.accesses.Access.TheVariants as access
 use Rattle.b2_access.specs.declared.accesses.Answer.{Answer}
 use Rattle.b2_access.specs.declared.accesses.Answer.TheVariants as answer
-use Rattle.b2_access.specs.declared.planned.Outcome.TheVariants as outcome
 use Rattle.b2_access.specs.declared.lending.At.{At}
 use Rattle.b2_access.specs.declared.planned.Planned.{Planned}
 use Rattle.b2_access.specs.declared.planned.Planned.TheVariants as planned
@@ -31,6 +30,7 @@ use Rattle.b2_machine.specs.Keys.{pressed}
 use Rattle.b2_machine.specs.Listed.{range_listed, lists}
 use Rattle.b2_machine.specs.Messages.{prints_text, shows_text}
 use Rattle.b2_machine.specs.Moving.{ends_by, ends_onward}
+use Rattle.b2_machine.specs.Readiness.{gives_back}
 use Rattle.b2_machine.specs.Statements.{Begun, begins, begins_where, begun_by, builder_of, finish_by, finishes, leaves, plan_by}
 use Rattle.b2_machine.specs.Step.{StepEnd, carries_out, enters_or_goes_on, halts_or_acts, lent_to_begin, line_read, runs_or_reads, seen_by, shows_or_goes_on, step, text_in, types_or_goes_on, whose_by}
 use Rattle.b2_machine.specs.Touched.{StepsAskAtTerminal, access_asked, asking, asks_at, asks_to_enter, asks_to_show, asks_to_type, asks_unless_halted}
@@ -128,8 +128,8 @@ module _ (ways : Ways) (lawful : AreLawful ways) {M : Type 0} (store : M → Sto
 
   at_number : (x : Option (ℕ × Option (List ℕ))) (me : Private) (m : M) → StepAt me.term (enters_or_goes_on ways store serving lending x me m) (asks_to_enter ways x me (store m))
   at_number (Some line) me m =
-      let a = (serving m me.part (puts_numbered line)).answer in
-      (same_terminal me (put_by a me).me (put_stays a me), names_none me.term (puts_numbered line) refl)
+      let a = (serving m me.part (puts_numbered line me)).answer in
+      (same_terminal me (put_by a me).me (put_stays a me), names_none me.term (puts_numbered line me) refl)
   at_number None me m = at_place me.place me m
 
   at_literal : (x : Option (List ℕ)) (me : Private) (m : M) → StepAt me.term (types_or_goes_on ways store serving lending x me m) (asks_to_type ways x me (store m))
@@ -149,7 +149,7 @@ module _ (ways : Ways) (lawful : AreLawful ways) {M : Type 0} (store : M → Sto
   at_halt me m = by_test me.term (is_ready me) _ _ _ _ (at_output me.pending (record me { halt = false }) m) (refl, tt)
 
   step_at : (me : Private) (m : M) → StepAt me.term (step ways store serving lending me m) (asking ways me (store m))
-  step_at me m = by_test me.term me.reset _ _ _ _ (refl, tt) (by_test me.term me.halt _ _ _ _ (at_halt me m) (at_output me.pending me m))
+  step_at me m = by_test me.term me.reset _ _ _ _ (refl, names_none me.term (gives_back me) refl) (by_test me.term me.halt _ _ _ _ (at_halt me m) (at_output me.pending me m))
 
 pub steps_ask_at_terminal : (ways : Ways) (lawful : AreLawful ways) {M : Type 0} (store : M → StoreState) (serving : ServingOf M) (lending : Loan M) → StepsAskAtTerminal ways store serving lending
 steps_ask_at_terminal ways lawful store serving lending me m = step_at ways lawful store serving lending me m

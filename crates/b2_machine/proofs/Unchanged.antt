@@ -28,9 +28,9 @@ use Rattle.b2_machine.specs.Counting.{UncountedStepsChangeNothing}
 use Rattle.b2_machine.specs.Endings.{counts, ends_turn, repeats}
 use Rattle.b2_machine.specs.Listed.{lists}
 use Rattle.b2_machine.specs.Moving.{ends_by, ends_onward, error_place, faults, goes_to, onward_from, place_onward}
-use Rattle.b2_machine.specs.Readiness.{halted, resets}
+use Rattle.b2_machine.specs.Readiness.{halted}
 use Rattle.b2_machine.specs.Statements.{begins_where, begun_by, builder_of, finish_by, finishes, leaves, plan_by}
-use Rattle.b2_machine.specs.Step.{acts, by_itself, enters_or_goes_on, executes, goes_through, halts_or_acts, lent_to_begin, line_read, runs_or_reads, seen_by, shows_or_goes_on, types_or_goes_on, whose_by}
+use Rattle.b2_machine.specs.Step.{acts, by_itself, enters_or_goes_on, executes, goes_through, halts_or_acts, lent_to_begin, line_read, resets_by, runs_or_reads, seen_by, shows_or_goes_on, types_or_goes_on, whose_by}
 use Rattle.b2_machine.specs.Typing.{put_by, shown_by, shows_pending, typed_by_key}
 use Rattle.b2_machine.specs.declared.ends.Stepped.{Stepped}
 use Rattle.b2_machine.specs.declared.ends.Why.TheVariants as reason
@@ -168,8 +168,8 @@ module _ (ways : Ways) (lawful : AreLawful ways) {M : Type 0} (store : M → Sto
   reset_counts false = refl
 
   any : (b : Bool) (me : Private) (m : M)
-      → ButForHalt me (if b then by_itself store serving lending (resets me) m else (if me.halt then halts_or_acts ways store serving lending me m else acts ways store serving lending me m)).end
-      (if b then by_itself store serving lending (resets me) m else (if me.halt then halts_or_acts ways store serving lending me m else acts ways store serving lending me m)).me
+      → ButForHalt me (if b then resets_by store serving lending me m else (if me.halt then halts_or_acts ways store serving lending me m else acts ways store serving lending me m)).end
+      (if b then resets_by store serving lending me m else (if me.halt then halts_or_acts ways store serving lending me m else acts ways store serving lending me m)).me
   any true me m h = let counted = reset_counts (is_ready me) in cc
   any false me m h = act me.halt me m h
 

@@ -3,7 +3,10 @@ use Rattle.std.specs.Prelude.{ℕ, false, not, List, [], ◌∷◌, ◌++◌, fi
 use Rattle.b2_base.specs.Byte as byte
 use Rattle.b2_flow.specs.Frames.{is_immediate_loop}
 use Rattle.b2_flow.specs.declared.frame.Frame.{Frame}
+use Rattle.b2_access.specs.Borrowers.{homes_entered}
 use Rattle.b2_access.specs.Partition.{is_ready, ready_text, runs_program, terminal_address, without_frames}
+use Rattle.b2_access.specs.declared.accesses.Access.{Access}
+use Rattle.b2_access.specs.declared.accesses.Access.TheVariants as access
 use Rattle.b2_access.specs.declared.private.Private.{Private}
 use Rattle.b2_machine.specs.Endings.{Ending, counts, ends_turn}
 use Rattle.b2_machine.specs.Messages.{error_text, halt_text}
@@ -56,6 +59,10 @@ halts me = readies halt_text (record me { halt = false; kept = if runs_program m
 
 abbrev pub halted : Private → Ending
 halted me = record { me = halts me; end = ends_turn reason.Ready }
+
+-- Before a reset the texts that calls entered are given back, of which the frames tell.
+abbrev pub gives_back : Private → Access
+gives_back me = access.Drop (homes_entered me.stack)
 
 -- A reset clears both flags, the frames, the arguments, a numbered line, a literal and the kept place.
 abbrev pub reset_state : Private → Private

@@ -20,7 +20,7 @@ use Rattle.b2_language.specs.Languages.{Ways}
 use Rattle.b2_language.specs.Wanted.{wanted_at}
 use Rattle.b2_machine.specs.Endings.{Ending, again, carries_on}
 use Rattle.b2_machine.specs.Keys.{pressed}
-use Rattle.b2_machine.specs.Readiness.{halted, resets}
+use Rattle.b2_machine.specs.Readiness.{gives_back, halted, resets}
 use Rattle.b2_machine.specs.Statements.{Begun, begins, finish_by, finishes, leaves}
 use Rattle.b2_machine.specs.declared.moving.Onward.{Onward}
 use Rattle.b2_machine.specs.declared.statements.Builder.{Builder}
@@ -74,7 +74,11 @@ module _ {M : Type 0} (store : M → StoreState) (serving : ServingOf M) (lendin
   abbrev pub asks_for : Access → (Answer → Ending) → Private → M → StepEnd M
   asks_for a finishes me m = served (serving m me.part a) finishes
 
-  -- the third rule: output that is pending is shown at its device
+  -- the first rule: a reset, before which all texts are given back that calls entered
+  abbrev pub resets_by : Private → M → StepEnd M
+  resets_by me m = asks_for (gives_back me) (λ _. resets me) me m
+
+  -- the third: output that is pending is shown at its device
   abbrev pub shows : Access → Private → M → StepEnd M
   shows x me m = asks_for x (λ a. shown_by x a me) me m
 
@@ -96,7 +100,7 @@ module _ {M : Type 0} (store : M → StoreState) (serving : ServingOf M) (lendin
 
   -- the fifth: a numbered line that was read is put into the own text
   abbrev pub enters_line : ℕ × Option (List ℕ) → Private → M → StepEnd M
-  enters_line line me m = asks_for (puts_numbered line) (λ a. put_by a me) me m
+  enters_line line me m = asks_for (puts_numbered line me) (λ a. put_by a me) me m
 
 module _ (ways : Ways) {M : Type 0} (store : M → StoreState) (serving : ServingOf M) (lending : Loan M) where
   -- the sixth: the statement at its place is executed. It ends at once over what is lent, or over what is lent again after
@@ -156,6 +160,6 @@ module _ (ways : Ways) {M : Type 0} (store : M → StoreState) (serving : Servin
   -- the first: a reset
   abbrev pub step : Private → M → StepEnd M
   step me m =
-      if me.reset then by_itself store serving lending (resets me) m
+      if me.reset then resets_by store serving lending me m
       else (if me.halt then halts_or_acts me m
       else acts me m)

@@ -1,6 +1,6 @@
 -- What a step asks for, and what it touches and writes: the own text, and what its access touches and writes; and where a statement is
 -- executed, the text of its home, and the name and the `@` variables that are lent to it.
-use Rattle.std.specs.Prelude.{◌≡◌, ◌⊎◌, ℕ, Bool, true, false, List, [], ◌∷◌, ◌++◌, Option, Some, None, if◌then◌else◌}
+use Rattle.std.specs.Prelude.{◌≡◌, ◌⊎◌, ℕ, Bool, false, List, [], ◌∷◌, ◌++◌, Option, Some, None, if◌then◌else◌}
 use Rattle.b2_flow.specs.declared.frame.Place.{Place}
 use Rattle.b2_access.specs.Homes.{IsWithin}
 use Rattle.b2_access.specs.Leading.{LeadsTo, TouchedNamesIn}
@@ -22,6 +22,7 @@ use Rattle.b2_access.specs.declared.objects.Object.{Object}
 use Rattle.b2_access.specs.declared.objects.Object.TheVariants as object
 use Rattle.b2_access.specs.declared.private.Private.{Private}
 use Rattle.b2_language.specs.Languages.{Ways}
+use Rattle.b2_machine.specs.Readiness.{gives_back}
 use Rattle.b2_machine.specs.Statements.{begins, finish_by, leaves}
 use Rattle.b2_machine.specs.Step.{StepEnd, lent_to_begin, seen_at, seen_by, step, whose_by}
 use Rattle.b2_machine.specs.Typing.{puts_numbered, shows_pending}
@@ -41,7 +42,7 @@ asks_at ways (Some p) me s = access_asked (begins ways p me (seen_at p me s)).pr
 
 -- the fifth: a numbered line is put
 abbrev pub asks_to_enter : Ways → Option (ℕ × Option (List ℕ)) → Private → StoreState → Option Access
-asks_to_enter ways (Some line) me s = Some (puts_numbered line)
+asks_to_enter ways (Some line) me s = Some (puts_numbered line me)
 asks_to_enter ways None me s = asks_at ways me.place me s
 
 -- the fourth: a literal is typed
@@ -57,14 +58,14 @@ asks_to_show ways None me s = asks_to_type ways me.literal me s
 abbrev pub asks_as_it_acts : Ways → Private → StoreState → Option Access
 asks_as_it_acts ways me s = asks_to_show ways me.pending me s
 
--- the second and the first: a halt and a reset ask for nothing
+-- the second: a halt asks for nothing
 abbrev pub asks_unless_halted : Ways → Private → StoreState → Option Access
 asks_unless_halted ways me s = if is_ready me then asks_as_it_acts ways (record me { halt = false }) s else None
 
--- WHAT A STEP ASKS FOR, for its partition: None where it asks for nothing
+-- WHAT A STEP ASKS FOR, for its partition: None where it asks for nothing. A reset gives back the texts that calls entered.
 abbrev pub asking : Ways → Private → StoreState → Option Access
 asking ways me s =
-    if me.reset then None
+    if me.reset then Some (gives_back me)
     else (if me.halt then asks_unless_halted ways me s
     else asks_as_it_acts ways me s)
 
@@ -129,7 +130,7 @@ module _ (ways : Ways) {M : Type 0} (store : M → StoreState) (serving : Servin
   told_at (Some p) me m = tells_executing (whose_by p me (store m)) p me m
 
   abbrev pub told_entering : Option (ℕ × Option (List ℕ)) → Private → M → Told
-  told_entering (Some line) me m = tells store serving lending me.part (Some (puts_numbered line)) m
+  told_entering (Some line) me m = tells store serving lending me.part (Some (puts_numbered line me)) m
   told_entering None me m = told_at me.place me m
 
   abbrev pub told_typing : Option (List ℕ) → Private → M → Told
@@ -149,7 +150,7 @@ module _ (ways : Ways) {M : Type 0} (store : M → StoreState) (serving : Servin
   -- WHAT A STEP TOUCHES AND WRITES
   abbrev pub told : Private → M → Told
   told me m =
-      if me.reset then tells store serving lending me.part None m
+      if me.reset then tells store serving lending me.part (Some (gives_back me)) m
       else (if me.halt then told_unless_halted me m
       else told_acting me m)
 

@@ -8,6 +8,7 @@ use Rattle.b2_syntax.specs.declared.Entered.{Entered}
 use Rattle.b2_syntax.specs.declared.Entered.TheVariants as entered
 use Rattle.b2_syntax.specs.declared.LineErr.{LineErr}
 use Rattle.b2_syntax.specs.declared.LineErr.TheVariants as refusal
+use Rattle.b2_access.specs.Borrowers.{homes_entered}
 use Rattle.b2_access.specs.declared.accesses.Access.{Access}
 use Rattle.b2_access.specs.declared.accesses.Access.TheVariants as access
 use Rattle.b2_access.specs.declared.accesses.Answer.{Answer}
@@ -59,9 +60,13 @@ takes_or_refuses (Err refusal.NoMemory) me = me
 abbrev pub line_taken : List ℕ → Private → Private
 line_taken bytes me = takes_or_refuses (reads bytes) (record me { term_column = 0 })
 
--- a numbered line goes into the own text; lines have numbers up to 9999
-abbrev pub puts_numbered : ℕ × Option (List ℕ) → Access
-puts_numbered line = access.PutLine (min line.0 9999) line.1 0
+-- A numbered line goes into the own text; lines have numbers up to 9999. The frames go with it, and the texts that their calls entered
+-- are given back.
+abbrev pub puts_line : ℕ × Option (List ℕ) → ℕ → Access
+puts_line line homes = access.PutLine (min line.0 9999) line.1 homes
+
+abbrev pub puts_numbered : ℕ × Option (List ℕ) → Private → Access
+puts_numbered line me = puts_line line (homes_entered me.stack)
 
 -- the line that an access puts, back from it
 abbrev pub atoms_put : Access → Option (List ℕ)

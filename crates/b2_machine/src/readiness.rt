@@ -4,7 +4,7 @@ ghost use Rattle.b2_machine.specs.Readiness as spec;
 
 use crate::ends::{Stepped, Why, counts, ends_turn};
 use crate::messages::plain_error;
-use b2_access::{Private, drop_frames};
+use b2_access::{Access, Private, drop_frames, homes_entered};
 use b2_base::{Addr, ByteList, Code, NoMemory};
 use std::alloc::Global;
 
@@ -86,7 +86,16 @@ pub fn halt(alloc: Global, me: &mut Private) -> Result<Stepped, NoMemory>
     become_ready(me, text)
 }
 
-/// A reset.
+/// What gives back the texts that calls of a partition entered.
+pub fn give_back(me: &Private) -> Access
+    ensures { result ≡ spec.gives_back me.now }
+{
+    Access::Drop {
+        homes: homes_entered(&me.stack),
+    }
+}
+
+/// A reset of a partition that has given back the texts which its calls entered.
 pub fn reset(alloc: Global, me: &mut Private) -> Result<Stepped, NoMemory>
     ensures ended { IfOk result (λ e. record { me = me.new; end = e } ≡ spec.resets me.old) }
     ensures part { me.new.part ≡ me.old.part }

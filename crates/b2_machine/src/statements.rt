@@ -5,7 +5,7 @@ ghost use Rattle.b2_rows.specs.Laws.{IsRow};
 ghost use Rattle.b2_rows.specs.Rows.{tree_at};
 ghost use Rattle.b2_access.specs.declared.devices.Device.{Device};
 ghost use Rattle.b2_access.specs.Answering.{can_answer};
-ghost use Rattle.b2_access.specs.Found.{IsFound, seen_found, statement_found};
+ghost use Rattle.b2_access.specs.Found.{IsFound, statement_found};
 ghost use Rattle.b2_access.specs.Lending.{globals_lent, seen_lent, SeenLent};
 ghost use Rattle.b2_access.specs.Placed.{line_named as line_of_place, statement_placed as named_at};
 ghost use Rattle.b2_language.specs.Running.{IsFoundAtOnce};
@@ -217,22 +217,6 @@ fn plan_found<L: Language>(
     }
 }
 
-/// A statement that was found in a line of the program begins, where the language plans it at once.
-fn begin_at_once<L: Language>(
-    alloc: Global,
-    me: &mut Private,
-    lent: Lent<'_>,
-    found: &Found<'_>,
-) -> Result<Stepped, NoMemory>
-    requires found { IsFoundAtOnce L.at_once found.now me.old }
-    ensures begun { (devices : List Device) → IfOk result (λ e. spec.has_ended (record { me = me.new; end = e }) ≡ spec.begins (L.ways devices) found.now.place me.old (seen_found found.now (globals_lent lent.entry))) }
-    ensures part { me.new.part ≡ me.old.part }
-{
-    let mut lent = lent;
-    let outcome = L::plan_at_once(alloc, me, &mut lent, found)?;
-    settle_on(alloc, me, found.home, found.line, found.place, outcome)
-}
-
 /// A statement that was found in a line of the program begins.
 fn begin_found<L: Language>(
     alloc: Global,
@@ -250,6 +234,31 @@ fn begin_found<L: Language>(
     let mut lent = lent;
     let planned = plan_found::<L>(alloc, me, &mut lent, devices, found, builder)?;
     begun_on(alloc, me, home, found.line, found.place, planned, builder)
+}
+
+/// A statement that was found in a line of the program begins, where the language plans it at once. Where it asks for an access after
+/// all, for which nothing has changed, it is planned again as others are.
+fn begin_at_once<L: Language>(
+    alloc: Global,
+    me: &mut Private,
+    lent: Lent<'_>,
+    devices: &DeviceTable,
+    found: &Found<'_>,
+) -> Result<Progress, NoMemory>
+    requires found { IsFoundAtOnce L.at_once found.now me.old }
+    requires texts { (found.now.own.now ≡ lent.own.now) × (found.now.home.now ≡ lent.home.now) }
+    ensures begun { IfOk result (λ c. record { me = me.new; progress = c } ≡ spec.begins (L.ways devices.now) found.now.place me.old (seen_lent lent.entry)) }
+    ensures part { me.new.part ≡ me.old.part }
+{
+    let mut lent = lent;
+    let ended = L::plan_at_once(alloc, me, &mut lent, found)?;
+    match ended {
+        Some(outcome) => {
+            let end = settle_on(alloc, me, found.home, found.line, found.place, outcome)?;
+            Ok(Progress::Ended(end))
+        }
+        None => begin_found::<L>(alloc, me, lent, devices, found),
+    }
 }
 
 /// The statement at a place begins, over texts and `@` variables.
@@ -357,8 +366,7 @@ fn begin_unit<L: Language>(
     ensures part { me.new.part ≡ me.old.part }
 {
     if !names_globals(found.unit) && L::is_at_once(found.unit.row) {
-        let end = begin_at_once::<L>(alloc, me, lent, found)?;
-        return Ok(Progress::Ended(end));
+        return begin_at_once::<L>(alloc, me, lent, devices, found);
     }
     begin_found::<L>(alloc, me, lent, devices, found)
 }

@@ -15,12 +15,12 @@ ghost use Rattle.b2_machine.specs.Step as spec;
 use crate::ends::{Stepped, counts, repeats};
 use crate::keys::press_over;
 use crate::moving::Onward;
-use crate::readiness::{halt, reset};
+use crate::readiness::{give_back, halt, reset};
 use crate::statements::{Builder, Opening, Progress, begin_with, finish_with, open_over};
 use crate::typing::{
-    after_literal, after_pending, after_put, ask_to_show, atoms_put, put_numbered, take_line,
+    after_literal, after_pending, after_put, ask_to_show, atoms_put, put_line, take_line,
 };
-use b2_access::{Access, Answer, At, DeviceTable, Lent, Object, Private, Shared};
+use b2_access::{Access, Answer, At, DeviceTable, Lent, Object, Private, Shared, homes_entered};
 use b2_base::{ByteList, NoMemory, Part};
 use b2_flow::Place;
 use b2_language::Language;
@@ -34,6 +34,20 @@ fn ask_store<S: Shared>(s: &mut S, who: Part, access: &Access) -> Result<Answer,
     ensures kept { Keeps result (S.holds s.old) (S.holds s.new) who who (S.store (S.meaning s.old)) (S.store (S.meaning s.new)) }
 {
     s.serve(who, access)
+}
+
+/// A reset, before which the texts are given back that calls of the partition entered.
+fn give_back_and_reset<S: Shared>(
+    alloc: Global,
+    me: &mut Private,
+    s: &mut S,
+) -> Result<Stepped, NoMemory>
+    ensures ended { IfOk result (λ e. record { me = me.new; after = S.meaning s.new; end = e } ≡ spec.resets_by S.store S.serving S.lending me.old (S.meaning s.old)) }
+    ensures kept { Keeps result (S.holds s.old) (S.holds s.new) me.old.part me.new.part (S.store (S.meaning s.old)) (S.store (S.meaning s.new)) }
+{
+    let access = give_back(me);
+    let _answer = ask_store(s, me.part, &access)?;
+    reset(alloc, me)
 }
 
 /// Pending output is shown, by what it asks for.
@@ -94,7 +108,8 @@ fn read_line<S: Shared>(alloc: Global, me: &mut Private, s: &mut S) -> Result<St
     }
 }
 
-/// A numbered line is put into the own text; where it has to wait, it is kept.
+/// A numbered line is put into the own text, and the texts are given back that calls of the partition entered, whose frames go with it.
+/// Where it has to wait, it is kept.
 fn enter_line<L: Language, S: Shared>(
     alloc: Global,
     me: &mut Private,
@@ -104,10 +119,11 @@ fn enter_line<L: Language, S: Shared>(
     ensures ended { (devices : List Device) → IfOk result (λ e. record { me = me.new; after = S.meaning s.new; end = e } ≡ spec.enters_or_goes_on (L.ways devices) S.store S.serving S.lending me.old.numbered me.old (S.meaning s.old)) }
     ensures kept { Keeps result (S.holds s.old) (S.holds s.new) me.old.part me.new.part (S.store (S.meaning s.old)) (S.store (S.meaning s.new)) }
 {
+    let homes = homes_entered(&me.stack);
     let Some((line, atoms)) = me.numbered.take() else {
         unreachable!();
     };
-    let access = put_numbered(line, atoms);
+    let access = put_line(line, atoms, homes);
     let answer = ask_store(s, me.part, &access)?;
     me.numbered = Some((line, atoms_put(access)));
     after_put(alloc, me, &answer)
@@ -385,7 +401,7 @@ pub fn step<L: Language, S: Shared>(
     ensures kept { Keeps result (S.holds s.old) (S.holds s.new) me.old.part me.new.part (S.store (S.meaning s.old)) (S.store (S.meaning s.new)) }
 {
     if me.reset {
-        return reset(alloc, me);
+        return give_back_and_reset(alloc, me, s);
     }
     if me.halt {
         return halt_or_act::<L, S>(alloc, me, s, d);

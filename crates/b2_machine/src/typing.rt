@@ -145,14 +145,14 @@ pub fn take_line(alloc: Global, me: &mut Private, line: &[u8]) -> Result<(), NoM
     }
 }
 
-/// What puts a numbered line into the own text.
-pub fn put_numbered(line: u16, atoms: Option<Atoms>) -> Access
-    ensures { result ≡ spec.puts_numbered (line, atoms) }
+/// What puts a numbered line into the own text, and gives back the texts of the homes that a mask marks.
+pub fn put_line(line: u16, atoms: Option<Atoms>, homes: u16) -> Access
+    ensures { result ≡ spec.puts_line (line, atoms) homes }
 {
     Access::PutLine {
         line: line.min(9999),
         atoms,
-        homes: 0,
+        homes,
     }
 }
 

@@ -3,6 +3,7 @@ pub mod OperationRows
 pub mod Portions
 pub mod Reaching
 pub mod Ended
+pub mod Changed
 pub mod OneKind
 pub mod ReceiverLists
 pub mod Reached

@@ -7,14 +7,13 @@ use Rattle.b2_dec.specs.declared.values.Value.TheVariants as value
 use Rattle.b2_alpha.specs.Values.{padded}
 use Rattle.b2_atom.specs.Tree.{Trees}
 use Rattle.b2_vars.specs.Assigned.{Assigned}
-use Rattle.b2_vars.specs.Globals.{MayBecome}
 use Rattle.b2_vars.specs.Calls.{set_code, with_change, with_scalar}
 use Rattle.b2_vars.specs.Shapes.{cell_at}
 use Rattle.b2_vars.specs.Tables.{VarsState, shape_at}
 use Rattle.b2_vars.specs.Variables.{with_number}
 use Rattle.b2_expr.specs.Answers.{Answer, TextAnswer}
 use Rattle.b2_expr.specs.Value.{context_of}
-use Rattle.b2_expr.specs.Workspace.{ChangesWhereReached, Reaches, WorkState, counts_as_reached}
+use Rattle.b2_expr.specs.Workspace.{ChangesWhereReached, Reaches, counts_as_reached}
 use Rattle.b2_expr.specs.declared.named.Element.{Element}
 use Rattle.b2_expr.proofs.Reached.{among_reaches, stay}
 use Rattle.b2_receiver.specs.Assigning.{assigned_bytes, assigned_number, assigned_side, assigned_value, is_global_receiver, portion_in, reached_by, receiver_code, unless_refused, with_made, with_portion}

@@ -94,6 +94,10 @@ Ends assigned old new (Ok done) = (assigned.code ≡ None) × (new ≡ assigned.
 Ends assigned old new (Err (fault.Code code)) = (assigned.code ≡ Some code) × (new ≡ assigned.vars)
 Ends assigned old new (Err fault.NoMemory) = new ≡ old
 
+-- a change of variables that ends so wherever it is made
+abbrev pub AssignsAs : (VarsState → Assigned) → (VarsState → Result (Unit {0}) Fault → VarsState → Type 0) → Type 0
+AssignsAs does changes = (old : VarsState) (r : Result (Unit {0}) Fault) (new : VarsState) → changes old r new → Ends (does old) old new r
+
 -- whether a receiver counts as reached: where there was no code, and where an operation refused
 abbrev pub is_refusal : Fault → Bool
 is_refusal (fault.Code code) = code == X75_NOT_DECIMAL
@@ -125,6 +129,15 @@ abbrev pub ChangesBuffer : (List ℕ → List ℕ → Type 0) → Buffer → Var
 ChangesBuffer gives (buffer_kind.Value to) old new =
     ChangesPart gives to.element.var (part_place to.element.var to.element.row to.element.column to.portion.from (reached_by to old).table) to.portion.count (reached_by to old) new
 ChangesBuffer gives (buffer_kind.Array a) old new = ChangesPart gives a.var 0 (length (variable_at a.var old.table).bytes) old new
+
+-- the bytes that a buffer names are changed; a scalar that isn't there is made first
+abbrev pub with_changed : (List ℕ → List ℕ) → Buffer → VarsState → VarsState
+with_changed change (buffer_kind.Value to) old = with_portion to (reached_by to old) (change (portion_in to (reached_by to old)))
+with_changed change (buffer_kind.Array a) old = with_bytes_of a.var 0 old (change (variable_at a.var old.table).bytes)
+
+-- or nothing is, where it has a code
+abbrev pub bytes_changed : (List ℕ → List ℕ) → Buffer → VarsState → Assigned
+bytes_changed change to old = unless_refused (buffer_code to old) old (record { vars = with_changed change to old; code = None })
 
 -- how an assignment ended: without a code, or with one; where memory failed it did not
 abbrev pub HasCode : Fault → Option ℕ → Type 0

@@ -1,13 +1,16 @@
 // Receivers that take what they are given, also at the place where they are written.
 ghost use Rattle.std.specs.Prelude.{◌≡◌, true, IfOk, Ok};
+ghost use Rattle.std.specs.Fn.{FnOnceReturnsAtMut};
 ghost use Rattle.b2_atom.specs.declared.rows.TheConstants as row;
 ghost use Rattle.b2_rows.specs.Rows.{is_part, tree_at};
+ghost use Rattle.b2_vars.specs.Assigned.{Assigned};
+ghost use Rattle.b2_vars.specs.Tables.{VarsState};
 ghost use Rattle.b2_vars.specs.Variables.{is_alpha};
-ghost use Rattle.b2_receiver.specs.Assigning.{assigned_bytes, assigned_number, assigned_side, assigned_value, is_alpha_receiver};
+ghost use Rattle.b2_receiver.specs.Assigning.{AssignsAs, is_alpha_receiver};
 ghost use Rattle.b2_receiver.specs.Receivers.{IsAlpha, IsNamed, IsNumeric};
 ghost use Rattle.b2_receiver.specs.Receiving as spec;
 ghost use Rattle.b2_receiver.specs.RightSide.{side_seen};
-ghost use Rattle.b2_expr.specs.Workspace.{SameReferences, on_lent, workspace};
+ghost use Rattle.b2_expr.specs.Workspace.{SameReferences, among, workspace};
 
 use crate::assign::{assign_bytes, assign_number, assign_side, assign_value, code_of};
 use crate::operations::RightSide;
@@ -15,99 +18,43 @@ use crate::receiver::{AlphaReceiver, Receiver};
 use crate::receivers::{alpha_receiver, number_receiver};
 use b2_atom::Cursor;
 use b2_base::codes::X77_NO_PARTITION;
-use b2_base::{Code, NoMemory};
+use b2_base::{Code, Fault, NoMemory};
 use b2_dec::{Dec, Value};
 use b2_expr::{Element, Workspace, reached_after, surroundings_of};
+use b2_vars::Vars;
 
-/// Assigns a number among the `@` variables.
-#[tactic(auto, using(crate::proofs::Ended::lent_so))]
-fn give_lent_number(work: &mut Workspace<'_>, to: Element, x: Dec) -> Result<Option<Code>, NoMemory>
-    requires named { IsNumeric to.var }
-    ensures worked { IfOk result (λ code. record { work = workspace work.new; code = code } ≡ on_lent (assigned_number to x) (workspace work.old).globals.vars (workspace work.old)) }
-    ensures same_references { SameReferences work.old work.new }
-{
-    if !work.found {
-        return Ok(Some(Code::known(X77_NO_PARTITION)));
-    }
-    let code = code_of(assign_number(work.globals, to, x))?;
-    work.reached = reached_after(work.reached, &code);
-    Ok(code)
-}
-
-/// Assigns bytes among the `@` variables.
-#[tactic(auto, using(crate::proofs::Ended::lent_so))]
-fn give_lent_bytes(
+/// Hands the own variables of a workspace, or its `@` variables, to a closure that assigns among them. Gives the code with
+/// which that ended, or none; X77 where there are no `@` variables.
+pub fn change_among<F: FnOnce(&mut Vars) -> Result<(), Fault>>(
     work: &mut Workspace<'_>,
-    to: &AlphaReceiver,
-    bytes: &[u8],
+    global: bool,
+    assign: F,
 ) -> Result<Option<Code>, NoMemory>
-    requires named { IsAlpha to.now.element.var }
-    ensures worked { IfOk result (λ code. record { work = workspace work.new; code = code } ≡ on_lent (assigned_bytes to.now bytes.now) (workspace work.old).globals.vars (workspace work.old)) }
+    requires callable { F.IsAlwaysCallable assign }
+    ensures worked { (does : VarsState → Assigned) → AssignsAs does (λ old r new. FnOnceReturnsAtMut F.FnOnce assign old r new) → IfOk result (λ code. record { work = workspace work.new; code = code } ≡ among global does (workspace work.old)) }
     ensures same_references { SameReferences work.old work.new }
 {
+    if !global {
+        return code_of(assign(work.own));
+    }
     if !work.found {
         return Ok(Some(Code::known(X77_NO_PARTITION)));
     }
-    let code = code_of(assign_bytes(work.globals, to, bytes))?;
-    work.reached = reached_after(work.reached, &code);
-    Ok(code)
-}
-
-/// Assigns a value of a receiver's kind among the `@` variables.
-#[tactic(auto, using(crate::proofs::Ended::lent_so))]
-fn give_lent_value(
-    work: &mut Workspace<'_>,
-    to: &Receiver,
-    value: &Value,
-) -> Result<Option<Code>, NoMemory>
-    requires named { IsNamed to.now }
-    requires kind { is_alpha value.now ≡ is_alpha_receiver to.now }
-    ensures worked { IfOk result (λ code. record { work = workspace work.new; code = code } ≡ on_lent (assigned_value to.now value.now) (workspace work.old).globals.vars (workspace work.old)) }
-    ensures same_references { SameReferences work.old work.new }
-{
-    if !work.found {
-        return Ok(Some(Code::known(X77_NO_PARTITION)));
-    }
-    let code = code_of(assign_value(work.globals, to, value))?;
-    work.reached = reached_after(work.reached, &code);
-    Ok(code)
-}
-
-/// Assigns the right side of an alpha assignment among the `@` variables.
-#[tactic(auto, using(crate::proofs::Ended::lent_so))]
-fn give_lent_side(
-    work: &mut Workspace<'_>,
-    to: &AlphaReceiver,
-    side: &RightSide,
-) -> Result<Option<Code>, NoMemory>
-    requires named { IsAlpha to.now.element.var }
-    ensures worked { IfOk result (λ code. record { work = workspace work.new; code = code } ≡ on_lent (assigned_side to.now (side_seen side.now)) (workspace work.old).globals.vars (workspace work.old)) }
-    ensures same_references { SameReferences work.old work.new }
-{
-    if !work.found {
-        return Ok(Some(Code::known(X77_NO_PARTITION)));
-    }
-    let code = code_of(assign_side(work.globals, to, side))?;
+    let code = code_of(assign(work.globals))?;
     work.reached = reached_after(work.reached, &code);
     Ok(code)
 }
 
 /// Assigns a number to a numeric receiver. Gives the code with which that ended, or none (`assign_number`).
-#[tactic(auto, using(crate::proofs::Ended::worked_so))]
 fn give_number(work: &mut Workspace<'_>, to: Element, x: Dec) -> Result<Option<Code>, NoMemory>
     requires named { IsNumeric to.var }
     ensures worked { IfOk result (λ code. record { work = workspace work.new; code = code } ≡ spec.given_number to x (workspace work.old)) }
     ensures same_references { SameReferences work.old work.new }
 {
-    if to.global {
-        give_lent_number(work, to, x)
-    } else {
-        code_of(assign_number(work.own, to, x))
-    }
+    change_among(work, to.global, |vars| assign_number(vars, to, x))
 }
 
 /// Assigns bytes to an alpha receiver. Gives the code with which that ended, or none (`assign_bytes`).
-#[tactic(auto, using(crate::proofs::Ended::worked_so))]
 pub fn give_bytes(
     work: &mut Workspace<'_>,
     to: &AlphaReceiver,
@@ -117,15 +64,14 @@ pub fn give_bytes(
     ensures worked { IfOk result (λ code. record { work = workspace work.new; code = code } ≡ spec.given_bytes to.now bytes.now (workspace work.old)) }
     ensures same_references { SameReferences work.old work.new }
 {
-    if to.element.global {
-        give_lent_bytes(work, to, bytes)
-    } else {
-        code_of(assign_bytes(work.own, to, bytes))
-    }
+    change_among(
+        work,
+        to.element.global,
+        |vars| assign_bytes(vars, to, bytes),
+    )
 }
 
 /// Assigns the right side of an alpha assignment (`assign_side`).
-#[tactic(auto, using(crate::proofs::Ended::worked_so))]
 fn give_side(
     work: &mut Workspace<'_>,
     to: &AlphaReceiver,
@@ -135,15 +81,10 @@ fn give_side(
     ensures worked { IfOk result (λ code. record { work = workspace work.new; code = code } ≡ spec.given_side to.now (side_seen side.now) (workspace work.old)) }
     ensures same_references { SameReferences work.old work.new }
 {
-    if to.element.global {
-        give_lent_side(work, to, side)
-    } else {
-        code_of(assign_side(work.own, to, side))
-    }
+    change_among(work, to.element.global, |vars| assign_side(vars, to, side))
 }
 
 /// Assigns a value to a receiver of its kind. Gives the code with which that ended, or none (`assign_value`).
-#[tactic(auto, using(crate::proofs::Ended::worked_so))]
 pub fn give_value(
     work: &mut Workspace<'_>,
     to: &Receiver,
@@ -154,11 +95,7 @@ pub fn give_value(
     ensures worked { IfOk result (λ code. record { work = workspace work.new; code = code } ≡ spec.given_value to.now value.now (workspace work.old)) }
     ensures same_references { SameReferences work.old work.new }
 {
-    if to.is_global() {
-        give_lent_value(work, to, value)
-    } else {
-        code_of(assign_value(work.own, to, value))
-    }
+    change_among(work, to.is_global(), |vars| assign_value(vars, to, value))
 }
 
 /// Assigns bytes to the alpha receiver at a text, located among the variables as they are. Gives the first code: of the

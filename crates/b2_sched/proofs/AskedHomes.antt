@@ -14,6 +14,7 @@ use Rattle.b2_access.specs.declared.planned.Planned.{Planned}
 use Rattle.b2_access.specs.declared.planned.Planned.TheVariants as planned
 use Rattle.b2_access.specs.declared.private.Private.{Private}
 use Rattle.b2_access.proofs.Choice.{either}
+use Rattle.b2_access.proofs.EnteredHomes.{entered_within}
 use Rattle.b2_access.proofs.Homes.{marks_none}
 use Rattle.b2_language.specs.Languages.{AreLawful, Ways}
 use Rattle.b2_machine.specs.Listed.{lists, range_listed}
@@ -21,7 +22,7 @@ use Rattle.b2_machine.specs.Messages.{prints_text, shows_text}
 use Rattle.b2_machine.specs.Statements.{begins_where, begun_by, builder_of, plan_by}
 use Rattle.b2_machine.specs.Step.{seen_at}
 use Rattle.b2_machine.specs.Touched.{access_asked, asking, asks_at, asks_to_enter, asks_to_show, asks_to_type, asks_unless_halted}
-use Rattle.b2_machine.specs.Typing.{on_own_line, puts_numbered}
+use Rattle.b2_machine.specs.Typing.{on_own_line}
 use Rattle.b2_machine.specs.declared.statements.Builder.{Builder}
 use Rattle.b2_machine.specs.declared.statements.Builder.TheVariants as builder
 
@@ -66,7 +67,7 @@ module _ (ways : Ways) (lawful : AreLawful ways) (among : ℕ → Bool) where
       begins_asks (statement_placed p me.immediate seen.home.lines) p me seen w
 
   entering : (x : Option (ℕ × Option (List ℕ))) (me : Private) (s : StoreState) → IsWithin among me → Asks (asks_to_enter ways x me s)
-  entering (Some line) me s w = marks_none among (puts_numbered line) refl
+  entering (Some line) me s w = entered_within among me.stack w.frames
   entering None me s w = at_place me.place me s w
 
   typing : (x : Option (List ℕ)) (me : Private) (s : StoreState) → IsWithin among me → Asks (asks_to_type ways x me s)
@@ -84,4 +85,4 @@ module _ (ways : Ways) (lawful : AreLawful ways) (among : ℕ → Bool) where
   halting me s w = by_test (is_ready me) _ _ (showing me.pending (record me { halt = false }) s (record { part = w.part; place = w.place; kept = w.kept; frames = w.frames })) tt
 
   pub asks_within : (me : Private) (s : StoreState) → IsWithin among me → HomesIfAny among (asking ways me s)
-  asks_within me s w = by_test me.reset _ _ tt (by_test me.halt _ _ (halting me s w) (showing me.pending me s w))
+  asks_within me s w = by_test me.reset _ _ (entered_within among me.stack w.frames) (by_test me.halt _ _ (halting me s w) (showing me.pending me s w))

@@ -1,6 +1,6 @@
 -- The statements of each crate keep the list of devices: those that take and free devices finish so by the access alone, and all others leave
 -- the list and ask for no device to be taken or freed.
-use Rattle.std.specs.Prelude.{◌≡◌, ℕ, Bool, true, false, List, [], ◌∷◌, Option, Some, None, refl}
+use Rattle.std.specs.Prelude.{◌≡◌, ℕ, Bool, true, false, List, [], ◌∷◌, refl}
 use Rattle.std.proofs.Common.{sym, ap, subst, ◌∙◌}
 use Rattle.std.proofs.lemmas.Bool.{true≢false}
 use Rattle.b2_access.specs.AccessRows.{reach}
@@ -9,7 +9,6 @@ use Rattle.b2_access.specs.Lending.{SeenLent}
 use Rattle.b2_access.specs.OwnDevices.{AreListed, IsAtDisk, PlannedListed, is_listed_for}
 use Rattle.b2_access.specs.Planning.{Finishing, Planning}
 use Rattle.b2_access.specs.Reach.{DevicePart, DeviceReach, HoldFreed, HoldTaken, Reach, WithPlatter, WithPrinter}
-use Rattle.b2_access.specs.Steering.{Steered}
 use Rattle.b2_access.specs.declared.accesses.Access.{Access}
 use Rattle.b2_access.specs.declared.accesses.Access.TheVariants as access
 use Rattle.b2_access.specs.declared.accesses.Answer.{Answer}
@@ -18,10 +17,9 @@ use Rattle.b2_access.specs.declared.devices.Device.{Device}
 use Rattle.b2_access.specs.declared.planned.Planned.{Planned}
 use Rattle.b2_access.specs.declared.planned.Planned.TheVariants as planned
 use Rattle.b2_access.specs.declared.private.Private.{Private}
-use Rattle.b2_access.proofs.Courses.{each_course}
 use Rattle.b2_access.proofs.Working.{as_it_comes, plans_keep_held}
-use Rattle.b2_stmt.specs.Clearing.{asked_access}
 use Rattle.b2_stmt.specs.Plan as stmt
+use Rattle.b2_stmt.proofs.EachPlan.{each_plan}
 use Rattle.b2_stmt_device.specs.Held.{held_after, with_devices, without_devices}
 use Rattle.b2_stmt_device.specs.Plan as stmt_device
 use Rattle.b2_stmt_disk.specs.Plan as stmt_disk
@@ -105,11 +103,7 @@ none_planned who (planned.Ask x) are = none_changed x (nothing_listed who (reach
 
 -- statements of control leave the list as they plan
 control_leaves : (me : Private) (s : SeenLent) → (stmt.plan me s).me.held ≡ me.held
-control_leaves me s = each_course stmt.is_refused (stmt.stops me s) (stmt.does me s) me s (λ (x : Planning). x.me.held ≡ me.held) refl refl (λ p is u. by (asked_access u.row u.tree me.declared) (stmt.lent_left u me s) _)
-  where
-    by : (o : Option Access) (t : SeenLent) (e : Steered) → (stmt.by_access o t me e).me.held ≡ me.held
-    by None t e = refl
-    by (Some x) t e = refl
+control_leaves me s = each_plan me s (λ (x : Planning). x.me.held ≡ me.held) (λ a may. refl) (λ l e. refl)
 
 plans_leave : (devices : List Device) (f : Family) (me : Private) (s : SeenLent) → (plan_by devices f me s).me.held ≡ me.held
 plans_leave devices family.Variables me s = (plans_keep_held stmt_var.works me s).1

@@ -143,7 +143,7 @@ module _ (ways : Ways) (keep : KeepTheList ways) where
       carried me.held me.part b.progress p whose b.me u so.same so.goes ∙ lent_same (access_asked b.progress) me.part me.held s u (λ o is. begun_stays me.part p.home whose left s o is)
 
   at_number : (x : Option (ℕ × Option (List ℕ))) (me : Private) (s : StoreState) → SoLeft me.held (enters_or_goes_on ways itself serves lends x me s) (asks_to_enter ways x me s) me.part s
-  at_number (Some line) me s = same_list (put_stays (serves s me.part (puts_numbered line)).answer me)
+  at_number (Some line) me s = same_list (put_stays (serves s me.part (puts_numbered line me)).answer me)
   at_number None me s = at_place me.place me s
 
   at_literal : (x : Option (List ℕ)) (me : Private) (s : StoreState) → SoLeft me.held (types_or_goes_on ways itself serves lends x me s) (asks_to_type ways x me s) me.part s

@@ -31,9 +31,9 @@ use Rattle.b2_audit.specs.Watching.{watched_loan, watching}
 use Rattle.b2_flow.specs.declared.frame.Place.{Place}
 use Rattle.b2_language.specs.Languages.{Ways}
 use Rattle.b2_machine.specs.Endings.{Ending}
-use Rattle.b2_machine.specs.Readiness.{halted, resets}
+use Rattle.b2_machine.specs.Readiness.{gives_back, halted, resets}
 use Rattle.b2_machine.specs.Statements.{begins, finish_by, finishes, leaves}
-use Rattle.b2_machine.specs.Step.{StepEnd, acts, carries_out, enters_or_goes_on, executes, goes_through, halts_or_acts, lent_to_begin, line_read, reads_line, runs_or_reads, seen_by, shows_or_goes_on, step, texts_lent, types_or_goes_on, whose_by}
+use Rattle.b2_machine.specs.Step.{StepEnd, acts, carries_out, enters_or_goes_on, executes, goes_through, halts_or_acts, lent_to_begin, line_read, reads_line, resets_by, runs_or_reads, seen_by, shows_or_goes_on, step, texts_lent, types_or_goes_on, whose_by}
 use Rattle.b2_machine.specs.Touched.{Told, begin_touched, step_touched, step_written, tells, tells_carrying, told, told_at, told_entering, told_showing, told_typing, told_unless_halted, written_where}
 use Rattle.b2_machine.specs.Turn.{TurnEnd, counted_on, ended_turn, turn_from, unless_ended}
 use Rattle.b2_machine.specs.Typing.{put_by, puts_numbered, shown_by, shows_pending, typed_by_key}
@@ -172,7 +172,7 @@ module _ (devices : List Device) where
 
   by_number : (x : Option (ℕ × Option (List ℕ))) (me : Private) → IsMarkedBy me.part (λ s. told_entering (basic devices) itself serves lends x me s) (λ s. enters_or_goes_on (basic devices) itself serves lends x me s)
       (λ m. enters_or_goes_on (basic devices) store_in (watching itself serves) (watched_loan itself lends) x me m)
-  by_number (Some line) me = by_answer me (puts_numbered line) (λ a. put_by a me)
+  by_number (Some line) me = by_answer me (puts_numbered line me) (λ a. put_by a me)
   by_number None me = by_place me.place me
 
   by_literal : (x : Option (List ℕ)) (me : Private) → IsMarkedBy me.part (λ s. told_typing (basic devices) itself serves lends x me s) (λ s. types_or_goes_on (basic devices) itself serves lends x me s)
@@ -195,9 +195,9 @@ module _ (devices : List Device) where
       (λ m. step (basic devices) store_in (watching itself serves) (watched_loan itself lends) me m)
   step_is_marked me =
       by_test me.part me.reset _ _ _ _
-      (λ m. record { me = (resets me).me; after = m; end = (resets me).end })
+      (λ m. resets_by store_in (watching itself serves) (watched_loan itself lends) me m)
       (λ m. if me.halt then halts_or_acts (basic devices) store_in (watching itself serves) (watched_loan itself lends) me m else acts (basic devices) store_in (watching itself serves) (watched_loan itself lends) me m)
-      (by_itself me (resets me))
+      (by_answer me (gives_back me) (λ _. resets me))
       (by_test me.part me.halt _ _ _ _ (halts_or_acts (basic devices) store_in (watching itself serves) (watched_loan itself lends) me) (acts (basic devices) store_in (watching itself serves) (watched_loan itself lends) me) (by_halt me) (by_output me.pending me))
 
   -- A turn, with marks

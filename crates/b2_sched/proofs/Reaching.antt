@@ -21,6 +21,7 @@ use Rattle.b2_access.specs.declared.objects.Object.TheVariants as object
 use Rattle.b2_access.specs.declared.private.Private.{Private}
 use Rattle.b2_access.proofs.Leading.{names_lead_to_who_asks}
 use Rattle.b2_language.specs.Languages.{Ways}
+use Rattle.b2_machine.specs.Readiness.{gives_back}
 use Rattle.b2_machine.specs.Statements.{begins, leaves}
 use Rattle.b2_machine.specs.Step.{lent_to_begin, seen_by, whose_by}
 use Rattle.b2_machine.specs.Touched.{Told, access_asked, asking, asks_at, asks_to_enter, asks_to_show, asks_to_type, asks_as_it_acts, asks_unless_halted, begin_touched, tells, tells_carrying, told, told_acting, told_at, told_entering, told_showing, told_typing, told_unless_halted, touched_where}
@@ -172,5 +173,6 @@ module _ (among : ℕ → Bool) (may : ℕ → Access → Type 0) (Fine : Object
     stepped me s w =
         let halted = told_unless_halted ways itself serves lends me s in
         let goes = told_acting ways itself serves lends me s in
-        by_test me.part me.reset (nothing_told me s) (if me.halt then halted else goes) None (if me.halt then asks_unless_halted ways me s else asks_as_it_acts ways me s) s (by_rule me.part None s w.part)
+        let back = Some (gives_back me) in
+        by_test me.part me.reset (tells itself serves lends me.part back s) (if me.halt then halted else goes) back (if me.halt then asks_unless_halted ways me s else asks_as_it_acts ways me s) s (by_rule me.part back s w.part)
         (by_test me.part me.halt halted goes (asks_unless_halted ways me s) (asks_as_it_acts ways me s) s (at_halt me s w) (acting me s w))

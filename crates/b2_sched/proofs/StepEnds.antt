@@ -30,7 +30,7 @@ use Rattle.b2_language.specs.Languages.{Ways}
 use Rattle.b2_language.specs.Wanted.{wanted_at}
 use Rattle.b2_machine.specs.Endings.{Ending, carries_on}
 use Rattle.b2_machine.specs.Keys.{pressed}
-use Rattle.b2_machine.specs.Readiness.{halted, resets}
+use Rattle.b2_machine.specs.Readiness.{gives_back, halted, resets}
 use Rattle.b2_machine.specs.Statements.{begins, finish_by, finishes, leaves}
 use Rattle.b2_machine.specs.Step.{StepEnd, acts, asks_for, carries_out, enters_or_goes_on, executes_by, goes_through, halts_or_acts, lent_to_begin, line_read, reads_line, runs_or_reads, seen_by, shows_or_goes_on, step, types_or_goes_on, whose_by}
 use Rattle.b2_machine.specs.Touched.{Told, access_asked, asking, asks_as_it_acts, asks_at, asks_to_enter, asks_to_show, asks_to_type, asks_unless_halted, begin_touched, tells, tells_carrying, tells_executing, told, told_at, told_entering, told_showing, told_typing, told_unless_halted}
@@ -125,7 +125,7 @@ module _ (ways : Ways) where
   left_halting me s = left_by_test (is_ready me) _ _ me.part _ _ s (left_acting (record me { halt = false }) s) (by_rule None me.part s _ refl)
 
   pub step_left : (me : Private) (s : StoreState) → Left (asking ways me s) me.part s (step ways itself serves lends me s).after
-  step_left me s = left_by_test me.reset _ _ me.part _ _ s (by_rule None me.part s _ refl) (left_by_test me.halt _ _ me.part _ _ s (left_halting me s) (left_acting me s))
+  step_left me s = left_by_test me.reset _ _ me.part _ _ s (by_rule (Some (gives_back me)) me.part s _ refl) (left_by_test me.halt _ _ me.part _ _ s (left_halting me s) (left_acting me s))
 
 -- ---- from two stores
 
@@ -306,7 +306,7 @@ module _ (ways : Ways) (R : StoreState → StoreState → Type 0) where
 
     at_number : (x : Option (ℕ × Option (List ℕ))) (s t : StoreState) → R s t
         → GoAlike R (asks_to_enter ways x me s) (asks_to_enter ways x me t) (told_entering ways itself serves lends x me s) (told_entering ways itself serves lends x me t) (enters_or_goes_on ways itself serves lends x me s) (enters_or_goes_on ways itself serves lends x me t)
-    at_number (Some line) s t r = by_answer (puts_numbered line) (λ a. put_by a me) s t r
+    at_number (Some line) s t r = by_answer (puts_numbered line me) (λ a. put_by a me) s t r
     at_number None s t r = at_place me.place s t r
 
     at_literal : (x : Option (List ℕ)) (s t : StoreState) → R s t
@@ -330,5 +330,5 @@ module _ (ways : Ways) (R : StoreState → StoreState → Type 0) where
   pub step_alike : (me : Private) → IsLikeness me.part R → (s t : StoreState) → R s t
       → GoAlike R (asking ways me s) (asking ways me t) (told ways itself serves lends me s) (told ways itself serves lends me t) (step ways itself serves lends me s) (step ways itself serves lends me t)
   step_alike me is s t r =
-      by_test me.reset _ _ _ _ _ _ _ _ _ _ _ _ (by_itself me.part (resets me) s t r)
+      by_test me.reset _ _ _ _ _ _ _ _ _ _ _ _ (by_answer me is (gives_back me) (λ _. resets me) s t r)
       (by_test me.halt _ _ _ _ _ _ _ _ _ _ _ _ (at_halt me is s t r) (at_output me is me.pending s t r))

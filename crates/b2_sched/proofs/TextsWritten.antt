@@ -14,6 +14,7 @@ use Rattle.b2_access.specs.declared.objects.Object.TheVariants as object
 use Rattle.b2_access.specs.declared.private.Private.{Private}
 use Rattle.b2_audit.proofs.Accesses.{accesses_write_own_texts}
 use Rattle.b2_language.specs.Languages.{Ways}
+use Rattle.b2_machine.specs.Readiness.{gives_back}
 use Rattle.b2_machine.specs.Statements.{begins, finish_by, leaves}
 use Rattle.b2_machine.specs.Step.{lent_to_begin, seen_by, whose_by}
 use Rattle.b2_machine.specs.Touched.{Told, asks_at, asks_to_enter, asks_to_show, asks_to_type, step_written, tells, tells_carrying, told_acting, told_at, told_entering, told_showing, told_typing, told_unless_halted, written_where}
@@ -89,4 +90,5 @@ module _ (ways : Ways) where
   writes_own_text me s =
       let halted = told_unless_halted ways itself serves lends me s in
       let goes = told_acting ways itself serves lends me s in
-      by_test me.part me.reset (nothing_told me s) (if me.halt then halted else goes) (asked_own me.part None s) (by_test me.part me.halt halted goes (at_halt me s) (acting me s))
+      let back = Some (gives_back me) in
+      by_test me.part me.reset (tells itself serves lends me.part back s) (if me.halt then halted else goes) (asked_own me.part back s) (by_test me.part me.halt halted goes (at_halt me s) (acting me s))

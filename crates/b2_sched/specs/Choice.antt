@@ -23,7 +23,7 @@ use Rattle.b2_sched.specs.declared.choice.Family.TheVariants as family
 abbrev pub is_built : ℕ → Bool
 is_built r = stmt_var.is_built r || stmt.is_built r || stmt_io.is_built r || stmt_mat.is_built r || stmt_pack.is_built r || stmt_file.is_built r || stmt_program.is_built r || stmt_device.is_built r || stmt_disk.is_built r
 
--- a statement on variables, and one of control that asks for nothing, is planned at once where it was found
+-- a statement on variables, and one of control that asks for nothing by its row, is planned at once where it was found
 abbrev pub is_at_once : ℕ → Bool
 is_at_once r = stmt_var.is_built r || (stmt.is_built r && not (asks_access r))
 

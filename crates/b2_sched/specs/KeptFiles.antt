@@ -1,18 +1,11 @@
 -- Statements leave the files that a partition has open as they are, each by its form; CLEAR closes all; and those on data files have a law of
 -- their own.
-use Rattle.std.proofs.Common.{List, Option, Some, None}
-use Rattle.b2_access.specs.Lending.{SeenLent}
 use Rattle.b2_access.specs.OpenFiles.{FinishesKeepOpenFiles, HasOpenFiles, PlansKeepOpenFiles}
 use Rattle.b2_access.specs.Planning.{Planning}
-use Rattle.b2_access.specs.Steering.{Steered}
-use Rattle.b2_access.specs.declared.accesses.Access.{Access}
-use Rattle.b2_access.specs.declared.devices.Device.{Device}
-use Rattle.b2_access.specs.declared.private.Private.{Private}
-use Rattle.b2_access.proofs.Courses.{each_course}
 use Rattle.b2_access.proofs.OpenFiles.{finishes_keep_open, plans_keep_open, steered_open}
 use Rattle.b2_access.proofs.Working as form
-use Rattle.b2_stmt.specs.Clearing.{asked_access, edit_finishes}
 use Rattle.b2_stmt.specs.Plan as stmt
+use Rattle.b2_stmt.proofs.EachPlan.{each_plan}
 use Rattle.b2_stmt_device.specs.Plan as stmt_device
 use Rattle.b2_stmt_disk.specs.Plan as stmt_disk
 use Rattle.b2_stmt_io.specs.Plan as stmt_io
@@ -74,14 +67,10 @@ pub programs_finish_open : FinishesKeepOpenFiles stmt_program.finish
 programs_finish_open devices x a me s listed fits h = steered_open devices me (stmt_program.ends x a s.own.lines me) h
 
 -- of control
-by_any : (devices : List Device) (a : Option Access) (s : SeenLent) (me : Private) (e : Steered) → HasOpenFiles devices me → HasOpenFiles devices (stmt.by_access a s me e).me
-by_any devices None s me e h = steered_open devices me e h
-by_any devices (Some a) s me e h = h
-
 pub control_plans_open : PlansKeepOpenFiles (λ devices. stmt.plan)
 control_plans_open devices me s h =
     let Kept : Planning → Type 0 = λ x. HasOpenFiles devices x.me in
-    each_course stmt.is_refused (stmt.stops me s) (stmt.does me s) me s Kept h h (λ p is u. by_any devices (asked_access u.row u.tree me.declared) (stmt.lent_left u me s) me _ h)
+    each_plan me s Kept (λ a may. h) (λ l e. steered_open devices me e h)
 
 pub control_finishes_open : FinishesKeepOpenFiles stmt.finish
-control_finishes_open devices x a me s listed fits h = steered_open devices me (edit_finishes x a me) h
+control_finishes_open devices x a me s listed fits h = steered_open devices me (stmt.ends_at me.place x a me s) h

@@ -1,5 +1,5 @@
 -- What holds of the statements of each crate holds of the language: by the family of their row, and by nothing else.
-use Rattle.std.proofs.Common.{◌≡◌, ℕ, Bool, true, false, true≢false, ◌&&◌, ◌||◌, not, List, Option, Some, None, refl, sym}
+use Rattle.std.proofs.Common.{◌≡◌, ℕ, Bool, true, false, true≢false, ◌&&◌, ◌||◌, not, List, refl, sym}
 use Rattle.b2_access.specs.LeftAlone.{LeaveTheRest}
 use Rattle.b2_access.specs.OpenFiles.{FinishesKeepOpenFiles, PlansKeepOpenFiles}
 use Rattle.b2_access.specs.OwnDevices.{PlansListed}
@@ -7,15 +7,14 @@ use Rattle.b2_access.specs.declared.devices.Device.{Device}
 use Rattle.b2_access.specs.LegalPlans.{PlansLegally}
 use Rattle.b2_access.specs.Lending.{SeenLent}
 use Rattle.b2_access.specs.Planning.{Planning}
-use Rattle.b2_access.specs.Steering.{Steered}
 use Rattle.b2_access.specs.Working.{Working, Ends, Plans, as_planned}
 use Rattle.b2_access.specs.declared.accesses.Access.{Access}
 use Rattle.b2_access.specs.declared.accesses.Answer.{Answer}
 use Rattle.b2_access.specs.declared.private.Private.{Private}
-use Rattle.b2_access.proofs.Courses.{each_course}
 use Rattle.b2_language.specs.Languages.{AreLawful, AskForListed, KeepOpenFiles}
-use Rattle.b2_stmt.specs.Clearing.{asked_access, asks_access}
+use Rattle.b2_stmt.specs.Clearing.{asks_access}
 use Rattle.b2_stmt.specs.Plan as stmt
+use Rattle.b2_stmt.proofs.EachPlan.{each_plan}
 use Rattle.b2_stmt.proofs.LeftAlone as stmt_laws
 use Rattle.b2_stmt_device.specs.Plan as stmt_device
 use Rattle.b2_stmt_device.proofs.LeftAlone as stmt_device_laws
@@ -76,12 +75,7 @@ planned_part me s (Ends w) = refl
 planned_part me s (Plans p) = refl
 
 control_part : (me : Private) (s : SeenLent) → (stmt.plan me s).me.part ≡ me.part
-control_part me s =
-    each_course stmt.is_refused (stmt.stops me s) (stmt.does me s) me s (λ (x : Planning). x.me.part ≡ me.part) refl refl (λ p is u. by (asked_access u.row u.tree me.declared) (stmt.lent_left u me s) _)
-  where
-    by : (o : Option Access) (t : SeenLent) (e : Steered) → (stmt.by_access o t me e).me.part ≡ me.part
-    by None t e = refl
-    by (Some x) t e = refl
+control_part me s = each_plan me s (λ (x : Planning). x.me.part ≡ me.part) (λ a may. refl) (λ l e. refl)
 
 plan_part : (devices : List Device) (f : Family) (me : Private) (s : SeenLent) → (plan_by devices f me s).me.part ≡ me.part
 plan_part devices family.Variables me s = planned_part me s (stmt_var.works me s)

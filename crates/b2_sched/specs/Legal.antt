@@ -1,20 +1,16 @@
 -- What statements ask for may be asked for: no line above 9999, and what disks can do.
-use Rattle.std.proofs.Common.{ℕ, List, Option, Some, None}
-use Rattle.b2_atom.specs.Tree.{Trees}
-use Rattle.b2_atom.specs.Tree.Trees.{Done, Put, In}
+use Rattle.std.proofs.Common.{List}
 use Rattle.b2_access.specs.LegalPlans.{IsLegalPlan, PlansLegally}
-use Rattle.b2_access.specs.Lending.{SeenLent}
 use Rattle.b2_access.specs.Planning.{Planning}
 use Rattle.b2_access.specs.Touching.{IsLegal}
 use Rattle.b2_access.specs.Working.{planned_of, stops}
 use Rattle.b2_access.specs.declared.accesses.Access.{Access}
+use Rattle.b2_access.specs.declared.accesses.Access.TheVariants as access
 use Rattle.b2_access.specs.declared.devices.Device.{Device}
-use Rattle.b2_access.specs.declared.private.Private.{Private}
 use Rattle.b2_access.proofs.Courses.{each_course}
 use Rattle.b2_access.proofs.Working.{as_it_comes}
-use Rattle.b2_stmt.specs.Clearing.{asked_access, asks_to_erase}
 use Rattle.b2_stmt.specs.Plan as stmt
-use Rattle.b2_stmt.proofs.PartsCame.{each_asked}
+use Rattle.b2_stmt.proofs.EachPlan.{MayAsk, each_plan}
 use Rattle.b2_stmt_mat.specs.Plan as stmt_mat
 use Rattle.b2_stmt_pack.specs.Plan as stmt_pack
 use Rattle.b2_stmt_var.specs.Plan as stmt_var
@@ -29,31 +25,23 @@ use Rattle.b2_stmt_io.proofs.Legal as stmt_io_laws
 use Rattle.b2_stmt_program.specs.Plan as stmt_program
 use Rattle.b2_stmt_program.proofs.Legal as stmt_program_laws
 
-abbrev IsLegalIfAny : Option Access → Type 0
-IsLegalIfAny None = Unit {0}
-IsLegalIfAny (Some a) = IsLegal a
-
 abbrev Fine : Planning → Type 0
 Fine x = IsLegalPlan x.planned
 
--- CLEAR P
-erased : (t : Trees) → IsLegal (asks_to_erase t)
-erased Done = tt
-erased (Put w Done) = tt
-erased (Put w (Put l t)) = tt
-erased (Put w (In m i t)) = tt
-erased (In m i t) = tt
-
-accessed : (r : ℕ) (t : Trees) (declared : Option (List ℕ)) → IsLegalIfAny (asked_access r t declared)
-accessed r t declared = each_asked IsLegalIfAny tt (λ name. tt) erased (λ name old. tt) (λ name. tt) r t declared
-
 -- statements of control
-by_any : (a : Option Access) (s : SeenLent) (me : Private) (e : _) → IsLegalIfAny a → Fine (stmt.by_access a s me e)
-by_any None s me e h = tt
-by_any (Some a) s me e h = h
+legally : (a : Access) → MayAsk a → IsLegal a
+unfolding MayAsk
+legally (access.ClearAll name homes) may = tt
+legally (access.Erase from to homes) may = tt
+legally (access.Declare name old) may = tt
+legally (access.FindPart name) may = tt
+legally (access.Enter name mark) may = tt
+legally (access.Leave home) may = tt
+legally (access.Drop homes) may = tt
+legally a may = absurd may
 
 pub control_legally : PlansLegally stmt.plan
-control_legally me s = each_course stmt.is_refused (stmt.stops me s) (stmt.does me s) me s Fine tt tt (λ p is u. by_any (asked_access u.row u.tree me.declared) (stmt.lent_left u me s) me _ (accessed u.row u.tree me.declared))
+control_legally me s = each_plan me s Fine legally (λ l e. tt)
 
 -- statements on variables
 pub variables_legally : PlansLegally stmt_var.plan

@@ -81,9 +81,10 @@ impl Language for Basic {
         me: &mut Private,
         lent: &mut Lent<'_>,
         found: &Found<'_>,
-    ) -> Result<Outcome, NoMemory> {
+    ) -> Result<Option<Outcome>, NoMemory> {
         if b2_stmt_var::is_built(found.unit.row) {
-            b2_stmt_var::execute(alloc, me, lent, found)
+            let outcome = b2_stmt_var::execute(alloc, me, lent, found)?;
+            Ok(Some(outcome))
         } else {
             b2_stmt::execute(alloc, me, lent, found)
         }

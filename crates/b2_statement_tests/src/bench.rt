@@ -9,7 +9,7 @@ use b2_access::{
 };
 use b2_atom::Atoms;
 use b2_atom::words::Origin;
-use b2_base::codes::X78_NAME_HELD;
+use b2_base::codes::{P38_NO_DEFFN, X78_NAME_HELD};
 use b2_base::lexical::{capped_value, digits_width, first, is_digit, rest_after};
 use b2_base::{ByteList, Code, NoMemory, Part, Term, cut};
 use b2_cases::answers::Unanswered;
@@ -119,6 +119,7 @@ fn answer_of(alloc: Global, item: &[u8]) -> Result<Answer, Unanswered> {
         "locked" => Ok(Answer::Locked(Part::known(2))),
         "done" => Ok(Answer::Done),
         "taken" => Ok(Answer::Refused(Code::known(X78_NAME_HELD))),
+        "without" => Ok(Answer::Refused(Code::known(P38_NO_DEFFN))),
         "held" => Ok(Answer::Holder(Part::known(2))),
         "nobody" => Ok(Answer::NoPart),
         _ => Err(Unanswered::Misread),
@@ -364,19 +365,31 @@ impl Bench {
                 let bytes = name.bytes();
                 write!(self.told, "looks for {}, ", str_of(&bytes))?;
             }
+            Access::Enter { name, mark } => {
+                let bytes = name.bytes();
+                write!(self.told, "enters {} at {mark}, ", str_of(&bytes))?;
+            }
+            Access::Drop { homes } => {
+                if *homes != 0 {
+                    write!(self.told, "gives back {homes} homes, ")?;
+                }
+            }
             _ => {}
         }
         Ok(())
     }
 
     /// The answer to an access, None where it is not there yet. What is shown is shown at once, and so is what is printed where
-    /// no answer is left.
+    /// no answer is left; and texts are left and given back at once.
     fn next_answer(
         &mut self,
         alloc: Global,
         access: &Access,
     ) -> Result<Option<Answer>, Unanswered> {
-        if matches!(access, Access::Show { .. }) {
+        if matches!(
+            access,
+            Access::Show { .. } | Access::Leave { .. } | Access::Drop { .. }
+        ) {
             return Ok(Some(Answer::Done));
         }
         let (item, _) = cut(rest_after(&self.answers, self.read), MARK);

@@ -1,5 +1,5 @@
 -- The lines that CLEAR P names stand after its letter.
-use Rattle.std.proofs.Common.{◌≡◌, true, List, [], ◌∷◌, drop, refl, ap}
+use Rattle.std.proofs.Common.{◌≡◌, ℕ, true, List, [], ◌∷◌, drop, refl, ap}
 use Rattle.b2_base.specs.Byte as byte
 use Rattle.b2_base.specs.declared.codes.TheConstants.{S22_WORD}
 use Rattle.b2_atom.specs.Words.{Text}
@@ -26,6 +26,6 @@ clear_row = refl
 pub clear_lines : (t : Text) → is_part row.CLEAR_P t ≡ true → maybe_part start.Line row.LINE_NUMBERS (drop 1 (drop 1 t)) ≡ true
 clear_lines t ok = maybe_stands _ _ _ (stands_of row.CLEAR_P clear_items t clear_row ok).0.1.1
 
-pub clear_is : (t : Text) → is_part row.CLEAR_P t ≡ true → asks_to_erase (tree_at row.CLEAR_P t) ≡ erases_lines (named_lines (maybe_tree start.Line row.LINE_NUMBERS (drop 1 (drop 1 t))))
+pub clear_is : (homes : ℕ) (t : Text) → is_part row.CLEAR_P t ≡ true → asks_to_erase homes (tree_at row.CLEAR_P t) ≡ erases_lines homes (named_lines (maybe_tree start.Line row.LINE_NUMBERS (drop 1 (drop 1 t))))
 unfolding maybe_tree
-clear_is t ok = ap asks_to_erase (stands_of row.CLEAR_P clear_items t clear_row ok).1
+clear_is homes t ok = ap (asks_to_erase homes) (stands_of row.CLEAR_P clear_items t clear_row ok).1

@@ -1,5 +1,5 @@
 -- A statement names no partition as a home but its own and those that were named before.
-use Rattle.std.proofs.Common.{◌≡◌, ℕ, ◌==◌, ◌&&◌, not, refl, subst, nat_lt, Bool, true, false, if◌then◌else◌, List, [], ◌∷◌, length, Option, Some, None, is_some, Result, Ok, Err}
+use Rattle.std.proofs.Common.{◌≡◌, ◌∙◌, ◌||◌, ℕ, ◌==◌, ◌&&◌, not, refl, sym, ap, subst, nat_lt, Bool, true, false, List, [], ◌∷◌, length, Option, Some, None, is_some, Result, Ok, Err, if◌then◌else◌}
 use Rattle.std.specs.Prelude.{unwrap_or, ◌+◌}
 use Rattle.std.specs.Option.{option_map, option_and_then}
 use Rattle.b2_atom.specs.Tree.{Trees}
@@ -14,7 +14,13 @@ use Rattle.b2_text.specs.declared.spots.Spot.{Spot}
 use Rattle.b2_dec.specs.Number.{Number}
 use Rattle.b2_dec.specs.declared.values.Value.{Value}
 use Rattle.b2_flow.specs.Frames.{is_call, is_loop, is_loop_of}
-use Rattle.b2_flow.specs.Stacks.{from_call, from_first, from_loop, has_call, has_loop, most_frames, top_loop, without_top_loop}
+use Rattle.b2_flow.specs.Stacks.{entered_last, entered_on_top, from_call, from_first, from_loop, has_call, has_loop, has_room, most_frames, top_loop, without_top_loop}
+use Rattle.std.specs.Cmp.{unsigned_Decides}
+use Rattle.b2_access.specs.Borrowers.{homes_entered, is_inside}
+use Rattle.b2_access.specs.declared.accesses.Answer.TheVariants as answer
+use Rattle.b2_access.proofs.EnteredHomes.{entered_within}
+use Rattle.b2_stmt.specs.Borrowing.{asks_of_others, enters, lent_came, lent_ends}
+use Rattle.b2_stmt.proofs.EachPlan.{each_of_others}
 use Rattle.b2_flow.specs.declared.frame.Frame.{Frame}
 use Rattle.b2_flow.specs.declared.frame.Frame.TheVariants.{For, Call}
 use Rattle.b2_flow.specs.declared.frame.Place.{Place}
@@ -34,21 +40,21 @@ use Rattle.b2_access.specs.declared.private.Private.{Private}
 use Rattle.b2_expr.specs.Workspace.{WorkLeft}
 use Rattle.b2_stmt.specs.Asked.{Asks, Leads, asked_of, asking_rows, asks_choice, asks_loop, asks_mark, asks_nothing, asks_on, body_place, carried, is_still, left_out, line_chosen, place_after, still, still_rows}
 use Rattle.b2_stmt.specs.Arguments.{arguments, operands_of}
-use Rattle.b2_stmt.specs.Marked.{calls_mark, ends_taken, mark_in, mark_place, number_called, place_in, takes_args}
+use Rattle.b2_stmt.specs.Marked.{calls_into, calls_mark, ends_taken, ends_with_args, mark_in, mark_place, number_called, place_in, takes_args}
 use Rattle.b2_stmt.specs.Parts.{part_came}
 use Rattle.b2_stmt.proofs.PartsCame.{each_asked, each_part}
 use Rattle.b2_stmt.specs.Branches.{goto_goal, if_goal, passed_function}
-use Rattle.b2_stmt.specs.Calls.{back_from, called_where, forgets, leaves_call}
+use Rattle.b2_stmt.specs.Calls.{back_from, called_where, forgets, leaves_call, may_forget_all}
 use Rattle.b2_stmt.specs.Choices.{calls_a_line, choice_in}
 use Rattle.b2_stmt.specs.Clearing.{asked_access, clearing_ends, edit_finishes}
 use Rattle.b2_stmt.specs.Course.{continues, runs, runs_from, runs_where}
 use Rattle.b2_stmt.specs.Frames.{with_frame}
 use Rattle.b2_access.specs.Going.{to_found, to_goal, to_place, where_there}
-use Rattle.b2_access.specs.Homes.{FinishesWithin, FrameIn, FramesIn, HomesIn, IsWithin, OutcomeIn, PlaceIn, PlannedIn, PlansWithin}
+use Rattle.b2_access.specs.Homes.{AnswerIn, FinishesWithin, FrameIn, FramesIn, HomesIn, IsWithin, OutcomeIn, PartIn, PlaceIn, PlannedIn, PlansWithin}
 use Rattle.b2_stmt.specs.Loops.{loop_begins, loop_element, loop_counts, goes_round, is_over, loop_in, made_loop, next_value, nexts, tested, without_loop}
 use Rattle.b2_access.specs.Courses.{Here, here}
 use Rattle.b2_access.specs.Placed.{Statement}
-use Rattle.b2_stmt.specs.Plan.{around, by_access, does, ended_of, finish, is_refused, lent_left, plan, stops}
+use Rattle.b2_stmt.specs.Plan.{acts, acts_unless, around, asked_at, asked_by, by_access, does, ends_at, finish, is_refused, plan, plans_asked, stops}
 use Rattle.b2_access.specs.Planning.{Planning, done, goes_or}
 use Rattle.b2_access.specs.Views.{ClearCame, AllCleared, LinesErased, TextLocked, ClearLater, clear_came}
 use Rattle.b2_access.proofs.Choice.{either}
@@ -145,7 +151,7 @@ module _ (among : ℕ → Bool) where
   passed_in (Put w (In n a t)) = either (OutcomeIn among) (n == 1) _ _ tt tt
 
   -- what is asked for
-  AskedIn : Asked → Type 0
+  unfoldable pub AskedIn : Asked → Type 0
   AskedIn (asked.Nothing o) = OutcomeIn among o
   AskedIn (asked.Begin l body) = among body.home ≡ true
   AskedIn (asked.Call n back) = PlaceIn among back
@@ -153,7 +159,7 @@ module _ (among : ℕ → Bool) where
   AskedIn (asked.Stop shown after) = PlaceIn among after
   AskedIn a = Unit {0}
 
-  still_in : (r : ℕ) (t : Trees) (h : Here) (s : Context) (lines : Lines) → among h.place.home ≡ true → OutcomeIn among (still r t h s lines)
+  pub still_in : (r : ℕ) (t : Trees) (h : Here) (s : Context) (lines : Lines) → among h.place.home ≡ true → OutcomeIn among (still r t h s lines)
   still_in r t h s lines k =
       let F : Leads → Type 0 = λ leads. OutcomeIn among (leads t h s lines) in
       each_row F still_rows left_out r (
@@ -200,7 +206,7 @@ module _ (among : ℕ → Bool) where
   body_by None p h k = k
   body_by (Some q) p h k = h
 
-  asked_in : (r : ℕ) (t : Trees) (h : Here) (s : Context) (lines : Lines) → among h.place.home ≡ true → AskedIn (asked_of r t h s lines)
+  pub asked_in : (r : ℕ) (t : Trees) (h : Here) (s : Context) (lines : Lines) → among h.place.home ≡ true → AskedIn (asked_of r t h s lines)
   unfolding AskedIn
   asked_in r t h s lines k =
       let after : PlaceIn among (place_after h lines) = goal_in lines h.place (unit_or_next (h.place.unit + 1) h.units) k in
@@ -282,20 +288,24 @@ module _ (among : ℕ → Bool) where
   called_in None q back me w h k = (left me w, tt)
   called_in (Some line) q back me w h k = framed (Call back None) (outcome.Jump q) me w (k, tt) h
 
-  spot_in : (part : ℕ) (o : Option Spot) → among part ≡ true → PlaceIn among (option_map (place_in part) o)
+  pub spot_in : (part : ℕ) (o : Option Spot) → among part ≡ true → PlaceIn among (option_map (place_in part) o)
   spot_in part None h = tt
   spot_in part (Some spot) h = h
 
-  either_in : (o q : Option Place) → PlaceIn among o → PlaceIn among q → PlaceIn among (or_else o q)
+  pub either_in : (o q : Option Place) → PlaceIn among o → PlaceIn among q → PlaceIn among (or_else o q)
   either_in None q h k = k
   either_in (Some p) q h k = h
+
+  called_into : (entered : Option ℕ) (q : Place) (args : List Value) (back : Option Place) (me : Private) → Within me → PartIn among entered → among q.home ≡ true → PlaceIn among back → EndedIn (calls_into entered q args back me)
+  unfolding EndedIn
+  called_into entered q args back me w g h k =
+      either EndedIn (has_room me.stack) (record { control = record (control_of me) { work = record (work_of me) { args = Some args }; stack = Call back entered ∷ me.stack }; outcome = outcome.Jump q }) _
+      ((w.kept, ((k, g), w.frames)), h) (left me w, tt)
 
   mark_called : (to : Option Place) (args : List Value) (back : Option Place) (me : Private) → Within me → PlaceIn among to → PlaceIn among back → EndedIn (calls_mark to args back me)
   unfolding EndedIn
   mark_called None args back me w h k = (left me w, tt)
-  mark_called (Some q) args back me w h k =
-      either EndedIn (nat_lt (length me.stack) most_frames) (record { control = record (control_of me) { work = record (work_of me) { args = Some args }; stack = Call back None ∷ me.stack }; outcome = outcome.Jump q }) _
-      ((w.kept, ((k, tt), w.frames)), h) (left me w, tt)
+  mark_called (Some q) args back me w h k = called_into None q args back me w tt h k
 
   args_in : (o : Option (List Value)) (r : WorkLeft) (me : Private) → Within me → EndedIn (ends_taken o r me)
   unfolding EndedIn
@@ -314,8 +324,8 @@ module _ (among : ℕ → Bool) where
 
   forgets_in : (all : Bool) (p : Place) (me : Private) → Within me → EndedIn (forgets all p me)
   unfolding EndedIn
-  forgets_in false p me w = leaves_in (λ back. outcome.Next) me (λ b h. tt) w
-  forgets_in true p me w = either EndedIn (has_call me.stack && (p.home == me.part)) _ _ ((tt, tt), tt) (left me w, tt)
+  forgets_in false p me w = either EndedIn (is_some (entered_last me.stack)) _ _ (left me w, tt) (leaves_in (λ back. outcome.Next) me (λ b h. tt) w)
+  forgets_in true p me w = either EndedIn (may_forget_all p me) _ _ ((tt, tt), tt) (left me w, tt)
 
   -- the course of the program
   kept_in : (b : Bool) (after kept : Option Place) → PlaceIn among after → PlaceIn among kept → PlaceIn among (if b then after else kept)
@@ -357,14 +367,39 @@ module _ (among : ℕ → Bool) where
       mark_called (mark_place n p me.part own home) args back me w
       (either_in (mark_in p.home n home) (mark_in me.part n own) (spot_in p.home (first_opening (is_mark n) home) h) (spot_in me.part (first_opening (is_mark n) own) w.part)) k
 
-  -- a statement
-  ended_in : (u : Statement) (h : Here) (me : Private) (s : SeenLent) → among h.place.home ≡ true → Within me → EndedIn (ended_of u h me s)
-  unfolding EndedIn
-  ended_in u h me s k w =
-      either EndedIn (is_still u.row) _ _ (left me w, still_in u.row u.tree h (around me s) s.home.lines k)
-      (either EndedIn (u.row == row.DEFFN_MARKED) _ _ (args_in me.args (takes_args u.tree me s) me w)
-      (carried_in (asked_of u.row u.tree h (around me s) s.home.lines) h.place me s.own.lines s.home.lines k w (asked_in u.row u.tree h (around me s) s.home.lines k)))
+  -- what is asked for marks the partitions whose texts were entered, and no others
+  top_entered : (fs : List Frame) → FramesIn among fs → PartIn among (entered_on_top fs)
+  top_entered [] w = tt
+  top_entered (For v limit step body ∷ fs) w = tt
+  top_entered (Call back entered ∷ fs) w = w.0.1
 
+  AccessIn : Option Access → Type 0
+  AccessIn None = Unit {0}
+  AccessIn (Some a) = HomesIn among a
+
+  row_in : (me : Private) (r : ℕ) (t : Trees) → Within me → AccessIn (asked_access r t me.declared (homes_entered me.stack))
+  unfolding AccessIn
+  row_in me r t w =
+      let homes = homes_entered me.stack in
+      let given = entered_within among me.stack w.frames in
+      each_asked AccessIn tt homes (λ name. given) (λ t. each_erased (HomesIn among) homes (λ from to. given) t)
+      (λ name old. marks_none among (access.Declare name old) refl) (λ name. marks_none among (access.FindPart name) refl) r t me.declared
+
+  only_one : (home h : ℕ) → among home ≡ true → is_inside h (home ∷ []) ≡ true → among h ≡ true
+  only_one home h w is = by (home == h) refl is
+    where
+      by : (b : Bool) → (home == h) ≡ b → (b || false) ≡ true → among h ≡ true
+      by true same one = ap among (sym ((unsigned_Decides home h).0 same)) ∙ w
+      by false same one = cc
+
+  others_in : (x : Asked) (p : Place) (me : Private) (own home : Lines) → Within me → AccessIn (asks_of_others x p me own home)
+  unfolding AccessIn
+  others_in x p me own home w =
+      each_of_others AccessIn tt me
+      (λ g is h inside. only_one g h (subst (PartIn among) is (top_entered (from_first is_call me.stack) (from is_call me.stack w.frames))) inside)
+      (entered_within among me.stack w.frames) (λ name mark. marks_none among (access.Enter name mark) refl) x p own home
+
+  -- a statement
   PlanningIn : Planning → Type 0
   PlanningIn p = IsWithin among p.me × PlannedIn among p.planned
 
@@ -375,29 +410,54 @@ module _ (among : ℕ → Bool) where
   unfolding EndedIn PlanningIn
   done_in s me e w h = (put_in me e w h.0, h.1)
 
-  AccessIn : Option Access → Type 0
-  AccessIn None = Unit {0}
-  AccessIn (Some a) = HomesIn among a
-
-  asked_of_in : (r : ℕ) (t : Trees) (declared : Option (List ℕ)) → AccessIn (asked_access r t declared)
-  unfolding AccessIn
-  asked_of_in r t declared =
-      each_asked AccessIn tt (λ name. marks_none among (access.ClearAll name 0) refl) (λ t. each_erased (HomesIn among) (λ from to. marks_none among (access.Erase from to 0) refl) t)
-      (λ name old. marks_none among (access.Declare name old) refl) (λ name. marks_none among (access.FindPart name) refl) r t declared
-
   access_in : (o : Option Access) (s : SeenLent) (me : Private) (e : Steered) → Within me → EndedIn e → AccessIn o → PlanningIn (by_access o s me e)
   unfolding PlanningIn AccessIn
   access_in None s me e w h k = done_in s me e w h
   access_in (Some a) s me e w h k = (w, k)
 
+  acts_in : (u : Statement) (h : Here) (me : Private) (s : SeenLent) → among h.place.home ≡ true → Within me → PlanningIn (acts u h me s)
+  unfolding EndedIn PlanningIn
+  acts_in u h me s k w =
+      let x = asked_by u h me s in
+      either PlanningIn (is_still u.row) _ _ (w, still_in u.row u.tree h (around me s) s.home.lines k)
+      (either PlanningIn (u.row == row.DEFFN_MARKED) (ends_with_args (takes_args u.tree me s) me s) (plans_asked x h.place me s)
+      (done_in (record s { globals = (takes_args u.tree me s).work.globals }) me (ends_taken me.args (takes_args u.tree me s) me) w (args_in me.args (takes_args u.tree me s) me w))
+      (access_in (asks_of_others x h.place me s.own.lines s.home.lines) s me (carried x h.place me s.own.lines s.home.lines) w
+      (carried_in x h.place me s.own.lines s.home.lines k w (asked_in u.row u.tree h (around me s) s.home.lines k)) (others_in x h.place me s.own.lines s.home.lines w)))
+
+  unless_in : (o : Option Access) (u : Statement) (h : Here) (me : Private) (s : SeenLent) → among h.place.home ≡ true → Within me → AccessIn o → PlanningIn (acts_unless o u h me s)
+  unfolding PlanningIn AccessIn
+  unless_in None u h me s k w i = acts_in u h me s k w
+  unless_in (Some a) u h me s k w i = (w, i)
+
+  stands_in : (p : Place) (me : Private) → me.place ≡ Some p → Within me → among p.home ≡ true
+  stands_in p me is w = subst (λ (o : Option Place). PlaceIn among o) is w.place
+
   planned_in : (me : Private) (s : SeenLent) → Within me → PlanningIn (plan me s)
   unfolding PlanningIn
   planned_in me s w =
-      each_course is_refused (stops me s) (does me s) me s PlanningIn (w, tt) (w, tt) (λ p is u.
-      let k : among p.home ≡ true = subst (λ (o : Option Place). PlaceIn among o) is w.place in
-      access_in (asked_access u.row u.tree me.declared) (lent_left u me s) me (ended_of u (here p me s) me s) w (ended_in u (here p me s) me s k w) (asked_of_in u.row u.tree me.declared))
+      each_course is_refused (stops me s) (does me s) me s PlanningIn (w, tt) (w, tt)
+      (λ p is u. unless_in (asked_access u.row u.tree me.declared (homes_entered me.stack)) u (here p me s) me s (stands_in p me is w) w (row_in me u.row u.tree w))
 
   -- how it finishes
+  asked_there : (me : Private) (s : SeenLent) → Within me → AskedIn (asked_at me s)
+  unfolding AskedIn
+  asked_there me s w = each_course is_refused asked.Nothing (λ u h. asked_by u h me s) me s AskedIn tt tt (λ p is u. asked_in u.row u.tree (here p me s) (around me s) s.home.lines (stands_in p me is w))
+
+  enters_in : (g : ℕ) (spot : Spot) (x : Asked) (me : Private) → Within me → among g ≡ true → AskedIn x → EndedIn (enters g spot x me)
+  unfolding EndedIn AskedIn
+  enters_in g spot (asked.CallMark n args back) me w h k = called_into (Some g) (place_in g spot) args back me w h h k
+  enters_in g spot (asked.Nothing o) me w h k = (left me w, tt)
+  enters_in g spot (asked.Begin l body) me w h k = (left me w, tt)
+  enters_in g spot (asked.Next v) me w h k = (left me w, tt)
+  enters_in g spot (asked.Call n back) me w h k = (left me w, tt)
+  enters_in g spot asked.Return me w h k = (left me w, tt)
+  enters_in g spot (asked.Forget all) me w h k = (left me w, tt)
+  enters_in g spot (asked.Stop shown after) me w h k = (left me w, tt)
+  enters_in g spot (asked.Select mode) me w h k = (left me w, tt)
+  enters_in g spot (asked.Run n) me w h k = (left me w, tt)
+  enters_in g spot asked.Continue me w h k = (left me w, tt)
+
   clears_in : (k : ClearCame) (me : Private) → Within me → EndedIn (clearing_ends k me)
   unfolding EndedIn
   clears_in AllCleared me w = ((tt, tt), tt)
@@ -405,15 +465,34 @@ module _ (among : ℕ → Bool) where
   clears_in TextLocked me w = (left me w, tt)
   clears_in ClearLater me w = (left me w, tt)
 
-  finishes_in : (x : Access) (a : Answer) (me : Private) → Within me → IsWithin among (steered me (edit_finishes x a me)).me × OutcomeIn among (edit_finishes x a me).outcome
+  edits_in : (x : Access) (a : Answer) (me : Private) → Within me → EndedIn (edit_finishes x a me)
   unfolding EndedIn
-  finishes_in x a me w =
-      let h = each_part EndedIn me (λ name. (left me w, tt)) (λ name. (left me w, tt)) (part_came x a) (clearing_ends (clear_came x a) me) (λ c. (left me w, tt)) (clears_in (clear_came x a) me w) in
-      (put_in me (edit_finishes x a me) w h.0, h.1)
+  edits_in x a me w = each_part EndedIn me (λ name. (left me w, tt)) (λ name. (left me w, tt)) (part_came x a) (clearing_ends (clear_came x a) me) (λ c. (left me w, tt)) (clears_in (clear_came x a) me w)
+
+  -- by what came of the text of another
+  lent_in : (x : Access) (a : Answer) (p : Place) (me : Private) (s : SeenLent) → AnswerIn among a → me.place ≡ Some p → Within me
+      → EndedIn (lent_ends (lent_came x a) (asked_at me s) p me s.own.lines s.home.lines (edit_finishes x a me))
+  unfolding EndedIn
+  lent_in (access.Enter name mark) (answer.Entered g spot) p me s leads is w = enters_in g spot (asked_at me s) me w leads (asked_there me s w)
+  lent_in (access.Enter name mark) answer.NoPart p me s leads is w = (left me w, tt)
+  lent_in (access.Enter name mark) (answer.Refused code) p me s leads is w = (left me w, tt)
+  lent_in (access.Leave home) answer.Done p me s leads is w = leaves_in to_place me placed w
+  lent_in (access.Drop homes) answer.Done p me s leads is w = carried_in (asked_at me s) p me s.own.lines s.home.lines (stands_in p me is w) w (asked_there me s w)
+  lent_in x a p me s leads is w = edits_in x a me w
+
+  ends_in : (o : Option Place) (x : Access) (a : Answer) (me : Private) (s : SeenLent) → me.place ≡ o → AnswerIn among a → Within me → EndedIn (ends_at o x a me s)
+  ends_in None x a me s is leads w = edits_in x a me w
+  ends_in (Some p) x a me s is leads w = lent_in x a p me s leads is w
+
+  finishes_in : (x : Access) (a : Answer) (me : Private) (s : SeenLent) → AnswerIn among a → Within me → IsWithin among (finish x a me s).me × OutcomeIn among (finish x a me s).outcome
+  unfolding EndedIn
+  finishes_in x a me s leads w =
+      let h = ends_in me.place x a me s refl leads w in
+      (put_in me (ends_at me.place x a me s) w h.0, h.1)
 
 pub plans_within : PlansWithin plan
 unfolding PlanningIn
 plans_within among me s w = planned_in among me s w
 
 pub finishes_within : FinishesWithin finish
-finishes_within among x a me s leads w = finishes_in among x a me w
+finishes_within among x a me s leads w = finishes_in among x a me s leads w

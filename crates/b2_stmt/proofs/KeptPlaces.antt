@@ -1,13 +1,15 @@
 -- A statement leaves the place and the terminal at which it stands, and asks there alone; and where no place is kept, it keeps one
 -- only where the partition is then ready.
-use Rattle.std.proofs.Common.{◌≡◌, ℕ, ◌==◌, ◌&&◌, nat_lt, Bool, true, false, List, [], ◌∷◌, length, refl, ap, inl, inr, Option, Some, None, Ok, Err}
+use Rattle.std.proofs.Common.{◌≡◌, ℕ, ◌==◌, is_some, nat_lt, Bool, true, false, List, [], ◌∷◌, length, refl, ap, inl, inr, Option, Some, None, Ok, Err}
 use Rattle.std.specs.Prelude.{◌⊎◌}
-use Rattle.b2_atom.specs.Tree.{Trees}
 use Rattle.b2_atom.specs.declared.rows.TheConstants as row
 use Rattle.b2_text.specs.Program.{Lines, line_at, number_after}
 use Rattle.b2_dec.specs.Number.{Number}
 use Rattle.b2_dec.specs.declared.values.Value.{Value}
-use Rattle.b2_flow.specs.Stacks.{from_call, from_loop, has_call, has_loop, most_frames, top_loop}
+use Rattle.b2_flow.specs.Stacks.{entered_last, from_call, from_loop, has_call, has_loop, has_room, most_frames, top_loop}
+use Rattle.b2_text.specs.declared.spots.Spot.{Spot}
+use Rattle.b2_access.specs.Borrowers.{homes_entered}
+use Rattle.b2_access.specs.declared.accesses.Answer.{Answer}
 use Rattle.b2_flow.specs.declared.frame.Frame.{Frame}
 use Rattle.b2_flow.specs.declared.frame.Frame.TheVariants.{For, Call}
 use Rattle.b2_flow.specs.declared.frame.Place.{Place}
@@ -37,18 +39,19 @@ use Rattle.b2_access.proofs.Choice.{either}
 use Rattle.b2_access.proofs.Courses.{each_course}
 use Rattle.b2_access.proofs.OwnTerminal.{names_none}
 use Rattle.b2_access.proofs.Working.{keeps_or_shows}
-use Rattle.b2_stmt.specs.Asked.{asked_of, carried, is_still}
-use Rattle.b2_stmt.specs.Calls.{back_from, called_where, forgets, leaves_call}
+use Rattle.b2_stmt.specs.Asked.{carried, is_still}
+use Rattle.b2_stmt.specs.Borrowing.{asks_of_others, enters}
+use Rattle.b2_stmt.specs.Calls.{back_from, called_where, forgets, leaves_call, may_forget_all}
 use Rattle.b2_stmt.specs.Clearing.{asked_access, clearing_ends, edit_finishes}
 use Rattle.b2_stmt.specs.Course.{continues, runs, runs_from, runs_where}
 use Rattle.b2_stmt.specs.Frames.{with_frame}
 use Rattle.b2_stmt.specs.Loops.{loop_begins, loop_element, loop_counts, goes_round, is_over, made_loop, next_value, nexts, tested, without_loop}
-use Rattle.b2_stmt.specs.Marked.{calls_mark, ends_taken, mark_place, takes_args}
+use Rattle.b2_stmt.specs.Marked.{calls_into, calls_mark, ends_taken, ends_with_args, mark_place, place_in, takes_args}
 use Rattle.b2_stmt.specs.Parts.{part_came}
 use Rattle.b2_expr.specs.Workspace.{WorkLeft}
-use Rattle.b2_stmt.proofs.PartsCame.{each_asked, each_part}
-use Rattle.b2_stmt.specs.Plan.{around, by_access, does, ended_of, finish, is_refused, lent_left, plan, stops}
-use Rattle.b2_stmt.proofs.Erased.{each_erased}
+use Rattle.b2_stmt.proofs.EachPlan.{MayAsk, each_end, each_plan}
+use Rattle.b2_stmt.proofs.PartsCame.{each_part}
+use Rattle.b2_stmt.specs.Plan.{acts, acts_unless, asked_at, asked_by, by_access, does, ends_at, finish, is_refused, plan, plans_asked, stops}
 use Rattle.b2_stmt.specs.declared.asked.Asked.{Asked}
 use Rattle.b2_stmt.specs.declared.asked.Asked.TheVariants as asked
 use Rattle.b2_stmt.specs.declared.loops.Loop.{Loop}
@@ -100,11 +103,15 @@ unfolding KeepsNothing
 called None q back me h = inl h
 called (Some line) q back me h = framed (Call back None) (outcome.Jump q) me h
 
+called_into : (entered : Option ℕ) (q : Place) (args : List Value) (back : Option Place) (me : Private) → KeepsNoPlace me → KeepsNothing (calls_into entered q args back me)
+unfolding KeepsNothing
+called_into entered q args back me h =
+    either KeepsNothing (has_room me.stack) (record { control = record (control_of me) { work = record (work_of me) { args = Some args }; stack = Call back entered ∷ me.stack }; outcome = outcome.Jump q }) _ (inl h) (inl h)
+
 mark_called : (to : Option Place) (args : List Value) (back : Option Place) (me : Private) → KeepsNoPlace me → KeepsNothing (calls_mark to args back me)
 unfolding KeepsNothing
 mark_called None args back me h = inl h
-mark_called (Some q) args back me h =
-    either KeepsNothing (nat_lt (length me.stack) most_frames) (record { control = record (control_of me) { work = record (work_of me) { args = Some args }; stack = Call back None ∷ me.stack }; outcome = outcome.Jump q }) _ (inl h) (inl h)
+mark_called (Some q) args back me h = called_into None q args back me h
 
 taken : (o : Option (List Value)) (r : WorkLeft) (me : Private) → KeepsNoPlace me → KeepsNothing (ends_taken o r me)
 unfolding KeepsNothing
@@ -123,8 +130,8 @@ left how me h = either KeepsNothing (has_call me.stack) _ _ (back how (from_call
 
 forgotten : (all : Bool) (p : Place) (me : Private) → KeepsNoPlace me → KeepsNothing (forgets all p me)
 unfolding KeepsNothing
-forgotten false p me h = left (λ b. outcome.Next) me h
-forgotten true p me h = either KeepsNothing (has_call me.stack && (p.home == me.part)) _ _ (inl refl) (inl h)
+forgotten false p me h = either KeepsNothing (is_some (entered_last me.stack)) _ _ (inl h) (left (λ b. outcome.Next) me h)
+forgotten true p me h = either KeepsNothing (may_forget_all p me) _ _ (inl refl) (inl h)
 
 -- the course of the program
 runs_on : (n : Option ℕ) (me : Private) → KeepsNoPlace me → KeepsNothing (runs_from n me)
@@ -161,14 +168,6 @@ carries (asked.Run n) p me own home h = run n own me h
 carries asked.Continue p me own home h = continued me.kept me h
 carries (asked.CallMark n args to) p me own home h = mark_called (mark_place n p me.part own home) args to me h
 
--- a statement
-ended : (u : Statement) (h : Here) (me : Private) (s : SeenLent) → KeepsNoPlace me → KeepsNothing (ended_of u h me s)
-unfolding KeepsNothing
-ended u h me s k =
-    either KeepsNothing (is_still u.row) _ _ (inl k)
-    (either KeepsNothing (u.row == row.DEFFN_MARKED) _ _ (taken me.args (takes_args u.tree me s) me k)
-    (carries (asked_of u.row u.tree h (around me s) s.home.lines) h.place me s.own.lines s.home.lines k))
-
 -- what is planned
 PlansNothing : Planning → Type 0
 PlansNothing p = (p.me.kept ≡ None) ⊎ (p.planned ≡ planned.Done outcome.Ready)
@@ -183,6 +182,20 @@ unfolding PlansNothing
 asking None s me e k h = done_by s me e h
 asking (Some a) s me e k h = inl k
 
+acted : (u : Statement) (h : Here) (me : Private) (s : SeenLent) → KeepsNoPlace me → PlansNothing (acts u h me s)
+unfolding KeepsNothing PlansNothing
+acted u h me s k =
+    let x = asked_by u h me s in
+    either PlansNothing (is_still u.row) _ _ (inl k)
+    (either PlansNothing (u.row == row.DEFFN_MARKED) (ends_with_args (takes_args u.tree me s) me s) (plans_asked x h.place me s)
+    (done_by (record s { globals = (takes_args u.tree me s).work.globals }) me (ends_taken me.args (takes_args u.tree me s) me) (taken me.args (takes_args u.tree me s) me k))
+    (asking (asks_of_others x h.place me s.own.lines s.home.lines) s me (carried x h.place me s.own.lines s.home.lines) k (carries x h.place me s.own.lines s.home.lines k)))
+
+unless : (o : Option Access) (u : Statement) (h : Here) (me : Private) (s : SeenLent) → KeepsNoPlace me → PlansNothing (acts_unless o u h me s)
+unfolding PlansNothing
+unless None u h me s k = acted u h me s k
+unless (Some a) u h me s k = inl k
+
 -- how it finishes
 clears : (k : ClearCame) (me : Private) → KeepsNoPlace me → KeepsNothing (clearing_ends k me)
 unfolding KeepsNothing
@@ -194,39 +207,52 @@ clears ClearLater me h = inl h
 pub plans_keep_none : PlansKeepNone plan
 unfolding PlansNothing
 plans_keep_none me s k =
-    each_course is_refused (stops me s) (does me s) me s PlansNothing (inl k) (inl k) (λ p is u. asking (asked_access u.row u.tree me.declared) (lent_left u me s) me (ended_of u (here p me s) me s) k (ended u (here p me s) me s k))
+    each_course is_refused (stops me s) (does me s) me s PlansNothing (inl k) (inl k) (λ p is u. unless (asked_access u.row u.tree me.declared (homes_entered me.stack)) u (here p me s) me s k)
+
+enters_none : (home : ℕ) (spot : Spot) (x : Asked) (me : Private) → KeepsNoPlace me → KeepsNothing (enters home spot x me)
+unfolding KeepsNothing
+enters_none home spot (asked.CallMark n args to) me k = called_into (Some home) (place_in home spot) args to me k
+enters_none home spot (asked.Nothing o) me k = inl k
+enters_none home spot (asked.Begin l body) me k = inl k
+enters_none home spot (asked.Next v) me k = inl k
+enters_none home spot (asked.Call n to) me k = inl k
+enters_none home spot asked.Return me k = inl k
+enters_none home spot (asked.Forget all) me k = inl k
+enters_none home spot (asked.Stop shown after) me k = inl k
+enters_none home spot (asked.Select mode) me k = inl k
+enters_none home spot (asked.Run n) me k = inl k
+enters_none home spot asked.Continue me k = inl k
+
+edits_none : (x : Access) (a : Answer) (me : Private) → KeepsNoPlace me → KeepsNothing (edit_finishes x a me)
+unfolding KeepsNothing
+edits_none x a me k = each_part KeepsNothing me (λ name. inl k) (λ name. inl k) (part_came x a) (clearing_ends (clear_came x a) me) (λ c. inl k) (clears (clear_came x a) me k)
 
 pub finishes_keep_none : FinishesKeepNone finish
 unfolding KeepsNothing
-finishes_keep_none x a me s k = each_part KeepsNothing me (λ name. inl k) (λ name. inl k) (part_came x a) (clearing_ends (clear_came x a) me) (λ c. inl k) (clears (clear_came x a) me k)
+finishes_keep_none x a me s k =
+    each_end me s KeepsNothing (λ code. inl k) (left to_place me k) (λ home spot. enters_none home spot (asked_at me s) me k) (λ p is. carries (asked_at me s) p me s.own.lines s.home.lines k) x a (edits_none x a me k)
 
 -- by the form of what they change, they leave the place and the terminal; and what they ask for is at no terminal
-in_place : (o : Option Access) (s : SeenLent) (me : Private) (e : Steered) → (by_access o s me e).me.place ≡ me.place
-in_place None s me e = refl
-in_place (Some a) s me e = refl
+asks_here : (term : ℕ) (a : Access) → MayAsk a → AskedAt term (Some a)
+unfolding MayAsk
+asks_here term (access.ClearAll name homes) may = names_none term (access.ClearAll name homes) refl
+asks_here term (access.Erase from to homes) may = names_none term (access.Erase from to homes) refl
+asks_here term (access.Declare name old) may = names_none term (access.Declare name old) refl
+asks_here term (access.FindPart name) may = names_none term (access.FindPart name) refl
+asks_here term (access.Enter name mark) may = names_none term (access.Enter name mark) refl
+asks_here term (access.Leave home) may = names_none term (access.Leave home) refl
+asks_here term (access.Drop homes) may = names_none term (access.Drop homes) refl
+asks_here term a may = absurd may
 
 AtTerminal : Private → Planning → Type 0
 AtTerminal me p = (p.me.term ≡ me.term) × PlannedAt me.term p.planned
 
-asks_here : (term r : ℕ) (t : Trees) (declared : Option (List ℕ)) → AskedAt term (asked_access r t declared)
-asks_here term r t declared =
-    let F : Option Access → Type 0 = AskedAt term in
-    each_asked F tt (λ name. names_none term (access.ClearAll name 0) refl) (λ t. each_erased (λ a. AskedAt term (Some a)) (λ from to. names_none term (access.Erase from to 0) refl) t)
-    (λ name old. names_none term (access.Declare name old) refl) (λ name. names_none term (access.FindPart name) refl) r t declared
-
-at_terminal : (o : Option Access) (s : SeenLent) (me : Private) (e : Steered) → AskedAt me.term o → AtTerminal me (by_access o s me e)
-unfolding AtTerminal
-at_terminal None s me e h = (refl, tt)
-at_terminal (Some a) s me e h = (refl, h)
-
 pub plans_in_place : PlansInPlace plan
-plans_in_place me s =
-    each_course is_refused (stops me s) (does me s) me s (λ (p : Planning). p.me.place ≡ me.place) refl refl (λ p is u. in_place (asked_access u.row u.tree me.declared) (lent_left u me s) me (ended_of u (here p me s) me s))
+plans_in_place me s = each_plan me s (λ (p : Planning). p.me.place ≡ me.place) (λ a may. refl) (λ l e. refl)
 
 pub plans_at_terminal : PlansAtTerminal plan
 unfolding AtTerminal
-plans_at_terminal me s =
-    each_course is_refused (stops me s) (does me s) me s (AtTerminal me) (refl, tt) (refl, tt) (λ p is u. at_terminal (asked_access u.row u.tree me.declared) (lent_left u me s) me (ended_of u (here p me s) me s) (asks_here me.term u.row u.tree me.declared))
+plans_at_terminal me s = each_plan me s (AtTerminal me) (λ a may. (refl, asks_here me.term a may)) (λ l e. (refl, tt))
 
 pub finishes_in_place : FinishesInPlace finish
 finishes_in_place x a me s = refl
@@ -235,14 +261,8 @@ pub finishes_at_terminal : FinishesAtTerminal finish
 finishes_at_terminal x a me s = refl
 
 -- and what waits to be shown waited before, or is for the terminal
-shown_by_access : (o : Option Access) (s : SeenLent) (me : Private) (e : Steered) → KeepsOrShows me.pending (by_access o s me e).me.pending
-shown_by_access None s me e = keeps_or_shows e.control.work.shows me.pending
-shown_by_access (Some a) s me e = inl refl
-
 pub plans_to_show : PlansToShow plan
-plans_to_show me s =
-    let Kept : Planning → Type 0 = λ p. KeepsOrShows me.pending p.me.pending in
-    each_course is_refused (stops me s) (does me s) me s Kept (inl refl) (inl refl) (λ p is u. shown_by_access (asked_access u.row u.tree me.declared) (lent_left u me s) me (ended_of u (here p me s) me s))
+plans_to_show me s = each_plan me s (λ (p : Planning). KeepsOrShows me.pending p.me.pending) (λ a may. inl refl) (λ l e. keeps_or_shows e.control.work.shows me.pending)
 
 pub finishes_to_show : FinishesToShow finish
-finishes_to_show x a me s = keeps_or_shows (edit_finishes x a me).control.work.shows me.pending
+finishes_to_show x a me s = keeps_or_shows (ends_at me.place x a me s).control.work.shows me.pending

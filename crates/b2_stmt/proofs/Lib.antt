@@ -2,7 +2,7 @@
 --
 -- GoalUnits: the units that goals name. Framed: frames that are put. BranchRows, LoopRows, CallRows, CourseRows, ChoiceRows,
 -- ClearRows, ArgumentRows, MarkRows and PartRows have what the rows of statements say at their bytes, one fact at a time. Executed: a
--- unit by its row and its tree. Erased: what CLEAR P asks for. HomesKept: which partitions a statement names as homes.
+-- unit by its row and its tree. Erased: what CLEAR P asks for. EachPlan: what is planned and how it ends, case by case. HomesKept: which partitions a statement names as homes.
 -- KeptPlaces: where it stands, at which terminal, and what it keeps for CONTINUE. Waits: what has to wait.
 -- Reached: what becomes of the `@` variables. PartsCame: what came of a name. LeftAlone: all of
 -- these in one record.
@@ -20,6 +20,9 @@ pub mod PartRows
 pub mod PartsCame
 pub mod Executed
 pub mod Erased
+pub mod EachPlan
+pub mod AskedSo
+pub mod Standing
 pub mod HomesKept
 pub mod KeptPlaces
 pub mod Waits

@@ -1,5 +1,5 @@
 -- GOSUB' and DEFFN' by their rows, and values that go to receivers.
-use Rattle.std.proofs.Common.{◌≡◌, ℕ, ◌==◌, ◌&&◌, ◌||◌, nat_lt, Bool, true, false, if◌then◌else◌, List, [], ◌∷◌, length, drop, Option, Some, None, is_some, refl, sym, ap, subst, ◌∙◌, arith}
+use Rattle.std.proofs.Common.{◌≡◌, ℕ, ◌==◌, ◌&&◌, ◌||◌, Bool, true, false, List, [], ◌∷◌, length, drop, Option, Some, None, is_some, refl, sym, ap, subst, ◌∙◌, arith, if◌then◌else◌}
 use Rattle.std.proofs.lemmas.Bool.Decides.{nat_tests}
 use Rattle.b2_base.specs.Byte as byte
 use Rattle.b2_base.specs.Lexical.{digits_width, first}
@@ -27,18 +27,16 @@ use Rattle.b2_rows.specs.Rows.{is_part, tree_at}
 use Rattle.b2_rows.specs.Values.{small_of}
 use Rattle.b2_rows.proofs.Choices.{either_first, either_second}
 use Rattle.b2_rows.proofs.Optional.{maybe_stands, begun_part, begun_tree, left_out_tree}
-use Rattle.b2_flow.specs.Stacks.{most_frames}
+use Rattle.b2_flow.specs.Stacks.{has_room}
 use Rattle.b2_flow.specs.declared.frame.Frame.TheVariants.{Call}
 use Rattle.b2_flow.specs.declared.frame.Place.{Place}
 use Rattle.b2_expr.specs.Workspace.{WorkState, WorkLeft, then_works, unless_coded}
-use Rattle.b2_receiver.specs.declared.receiver.Receiver.{Receiver}
-use Rattle.b2_receiver.specs.declared.receiver.Receiver.TheVariants as receiver_kind
 use Rattle.b2_rows.proofs.RowsRead.{stands_of}
 use Rattle.b2_access.specs.declared.planned.Outcome.TheVariants as outcome
 use Rattle.b2_access.specs.declared.private.Private.{Private}
 use Rattle.b2_access.specs.Working.{work_of}
 use Rattle.b2_access.specs.Steering.{control_of, steered, unsteered}
-use Rattle.b2_stmt.specs.Marked.{calls_mark, values_fit, number_called, parameters_of, receivers_in, tail_receivers, take_each, takes_values, takes_bytes}
+use Rattle.b2_stmt.specs.Marked.{calls_into, values_fit, number_called, parameters_of, receivers_in, tail_receivers, take_each, takes_values, takes_bytes}
 use Rattle.b2_expr.specs.Kinds.{suits}
 use Rattle.b2_rows.specs.CommaLists.{are_others, past_first, receivers_at, commas}
 use Rattle.b2_stmt.proofs.ArgumentRows.{call_items, call_row, number_width}
@@ -51,26 +49,26 @@ pub called_is : (t : Text) → is_part row.GOSUB_MARKED t ≡ true → number_ca
 called_is t ok = ap number_called (stands_of row.GOSUB_MARKED call_items t call_row ok).1
 
 -- the call's frame, and no room for it
-room_so : (b c : Bool) (q : Place) (args : List Value) (back : Option Place) (me : Private) → b ≡ c
-    → steered me (if c then record { control = record (control_of me) { work = record (work_of me) { args = Some args }; stack = Call back None ∷ me.stack }; outcome = outcome.Jump q } else unsteered me (outcome.Failed A04_TOO_DEEP))
-    ≡ (if b then record { me = record me { stack = Call back None ∷ me.stack; args = Some args }; outcome = outcome.Jump q } else record { me = me; outcome = outcome.Failed A04_TOO_DEEP })
-room_so true true q args back me is = refl
-room_so true false q args back me is = cc
-room_so false true q args back me is = cc
-room_so false false q args back me is = refl
+room_so : (b c : Bool) (entered : Option ℕ) (q : Place) (args : List Value) (back : Option Place) (me : Private) → b ≡ c
+    → steered me (if c then record { control = record (control_of me) { work = record (work_of me) { args = Some args }; stack = Call back entered ∷ me.stack }; outcome = outcome.Jump q } else unsteered me (outcome.Failed A04_TOO_DEEP))
+    ≡ (if b then record { me = record me { stack = Call back entered ∷ me.stack; args = Some args }; outcome = outcome.Jump q } else record { me = me; outcome = outcome.Failed A04_TOO_DEEP })
+room_so true true entered q args back me is = refl
+room_so true false entered q args back me is = cc
+room_so false true entered q args back me is = cc
+room_so false false entered q args back me is = refl
 
-by_room : (b : Bool) (q : Place) (args : List Value) (back : Option Place) (me : Private) → b ≡ nat_lt (length me.stack) most_frames
-    → steered me (calls_mark (Some q) args back me)
-    ≡ (if b then record { me = record me { stack = Call back None ∷ me.stack; args = Some args }; outcome = outcome.Jump q } else record { me = me; outcome = outcome.Failed A04_TOO_DEEP })
-by_room b q args back me is = room_so b _ q args back me is
+by_room : (b : Bool) (entered : Option ℕ) (q : Place) (args : List Value) (back : Option Place) (me : Private) → b ≡ has_room me.stack
+    → steered me (calls_into entered q args back me)
+    ≡ (if b then record { me = record me { stack = Call back entered ∷ me.stack; args = Some args }; outcome = outcome.Jump q } else record { me = me; outcome = outcome.Failed A04_TOO_DEEP })
+by_room b entered q args back me is = room_so b _ entered q args back me is
 
-pub call_put : (q : Place) (args : List Value) (back : Option Place) (me : Private) → true ≡ nat_lt (length me.stack) most_frames
-    → steered me (calls_mark (Some q) args back me) ≡ record { me = record me { stack = Call back None ∷ me.stack; args = Some args }; outcome = outcome.Jump q }
-call_put q args back me is = by_room true q args back me is
+pub call_put : (entered : Option ℕ) (q : Place) (args : List Value) (back : Option Place) (me : Private) → true ≡ has_room me.stack
+    → steered me (calls_into entered q args back me) ≡ record { me = record me { stack = Call back entered ∷ me.stack; args = Some args }; outcome = outcome.Jump q }
+call_put entered q args back me is = by_room true entered q args back me is
 
-pub no_room : (q : Place) (args : List Value) (back : Option Place) (me : Private) → false ≡ nat_lt (length me.stack) most_frames
-    → steered me (calls_mark (Some q) args back me) ≡ record { me = me; outcome = outcome.Failed A04_TOO_DEEP }
-no_room q args back me is = by_room false q args back me is
+pub no_room : (entered : Option ℕ) (q : Place) (args : List Value) (back : Option Place) (me : Private) → false ≡ has_room me.stack
+    → steered me (calls_into entered q args back me) ≡ record { me = me; outcome = outcome.Failed A04_TOO_DEEP }
+no_room entered q args back me is = by_room false entered q args back me is
 
 -- the kind of a receiver
 alpha_read : (t : Text) → is_part row.RECEIVER t ≡ true → starts Atoms start.Alpha t ≡ true → ReadAs row.RECEIVER row.ALPHA_RECEIVER first_branch t

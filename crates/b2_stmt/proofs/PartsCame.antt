@@ -21,7 +21,7 @@ part_delayed (access.FindPart name) answer.NoPart h = cc
 part_delayed x a h = refl
 
 -- whatever holds of each access that a statement may ask for
-module _ (F : Option Access → Type 0) (none : F None) (clears : (name : Option (List ℕ)) → F (Some (access.ClearAll name 0))) (erases : (t : Trees) → F (Some (asks_to_erase t)))
+module _ (F : Option Access → Type 0) (none : F None) (homes : ℕ) (clears : (name : Option (List ℕ)) → F (Some (access.ClearAll name homes))) (erases : (t : Trees) → F (Some (asks_to_erase homes t)))
     (declares_name : (name : List ℕ) (old : Option (List ℕ)) → F (Some (access.Declare name old))) (finds : (name : List ℕ) → F (Some (access.FindPart name))) where
   to_declare : (old name : Option (List ℕ)) → F (asks_to_declare old name)
   to_declare old None = none
@@ -31,7 +31,7 @@ module _ (F : Option Access → Type 0) (none : F None) (clears : (name : Option
   to_find None = none
   to_find (Some name) = finds name
 
-  pub each_asked : (r : ℕ) (t : Trees) (declared : Option (List ℕ)) → F (asked_access r t declared)
+  pub each_asked : (r : ℕ) (t : Trees) (declared : Option (List ℕ)) → F (asked_access r t declared homes)
   each_asked r t declared =
       either F (r == row.CLEAR) _ _ (clears declared)
       (either F (r == row.CLEAR_P) _ _ (erases t)

@@ -1,38 +1,55 @@
 -- A statement that has to wait leaves the partition as it was.
-use Rattle.std.proofs.Common.{◌∙◌, ap, refl, Option, Some, None}
-use Rattle.b2_access.specs.Courses.{here}
+use Rattle.std.proofs.Common.{◌≡◌, true, ◌∙◌, ap, refl, Option, Some, None}
+use Rattle.b2_flow.specs.declared.frame.Place.{Place}
+use Rattle.b2_access.specs.AnswerKinds.{delays}
 use Rattle.b2_access.specs.Lending.{SeenLent}
 use Rattle.b2_access.specs.Planning.{Planning}
-use Rattle.b2_access.specs.Steering.{Steered, steered}
+use Rattle.b2_access.specs.Steering.{steered}
 use Rattle.b2_access.specs.Waiting.{FinishesUnchanged, PlansBeforeChanges, UnchangedIfAsks}
 use Rattle.b2_access.specs.declared.accesses.Access.{Access}
+use Rattle.b2_access.specs.declared.accesses.Access.TheVariants as access
+use Rattle.b2_access.specs.declared.accesses.Answer.{Answer}
+use Rattle.b2_access.specs.declared.accesses.Answer.TheVariants as answer
 use Rattle.b2_access.specs.declared.private.Private.{Private}
 use Rattle.b2_access.specs.Views.{ClearCame, clear_came}
-use Rattle.b2_access.proofs.Courses.{each_course}
 use Rattle.b2_access.proofs.Delays.{clear_delayed}
-use Rattle.b2_stmt.specs.Clearing.{asked_access, clearing_ends}
+use Rattle.b2_stmt.specs.Borrowing.{LentCame, NoTextAsked, lent_came, lent_ends}
+use Rattle.b2_stmt.specs.Clearing.{clearing_ends, edit_finishes}
 use Rattle.b2_stmt.specs.Parts.{PartCame, part_ends}
+use Rattle.b2_stmt.specs.Plan.{asked_at, ends_at, finish, plan}
+use Rattle.b2_stmt.proofs.EachPlan.{each_plan}
 use Rattle.b2_stmt.proofs.PartsCame.{part_delayed}
-use Rattle.b2_stmt.specs.Plan.{by_access, does, ended_of, finish, is_refused, lent_left, plan, stops}
 
 module _ (me : Private) (s : SeenLent) where
   BeforeChanges : Planning → Type 0
   BeforeChanges p = UnchangedIfAsks me p.me p.planned
 
-  asked : (l : SeenLent) (o : Option Access) (e : Steered) → BeforeChanges (by_access o l me e)
-  unfolding BeforeChanges
-  asked l None e = tt
-  asked l (Some x) e = refl
-
   each : BeforeChanges (plan me s)
   unfolding BeforeChanges
-  each = each_course is_refused (stops me s) (does me s) me s BeforeChanges tt tt (λ p is u. asked (lent_left u me s) (asked_access u.row u.tree me.declared) (ended_of u (here p me s) me s))
+  each = each_plan me s BeforeChanges (λ a may. refl) (λ l e. tt)
 
 pub plans_before_changes : PlansBeforeChanges plan
 unfolding BeforeChanges
 plans_before_changes me s = each me s
 
-pub finishes_unchanged : FinishesUnchanged finish
-finishes_unchanged x a me s h =
+-- an answer that delays is none of a text
+lent_delayed : (x : Access) (a : Answer) → delays a ≡ true → lent_came x a ≡ NoTextAsked
+lent_delayed (access.Enter name mark) (answer.Entered home spot) h = cc
+lent_delayed (access.Enter name mark) answer.NoPart h = cc
+lent_delayed (access.Enter name mark) (answer.Refused code) h = cc
+lent_delayed (access.Leave home) answer.Done h = cc
+lent_delayed (access.Drop homes) answer.Done h = cc
+lent_delayed x a h = refl
+
+edit_unchanged : (x : Access) (a : Answer) (me : Private) → delays a ≡ true → (steered me (edit_finishes x a me)).me ≡ me
+edit_unchanged x a me h =
     ap (λ (k : PartCame). (steered me (part_ends k (clearing_ends (clear_came x a) me) me)).me) (part_delayed x a h)
     ∙ ap (λ (k : ClearCame). (steered me (clearing_ends k me)).me) (clear_delayed x a h)
+
+unchanged_at : (o : Option Place) (x : Access) (a : Answer) (me : Private) (s : SeenLent) → delays a ≡ true → (steered me (ends_at o x a me s)).me ≡ me
+unchanged_at None x a me s h = edit_unchanged x a me h
+unchanged_at (Some p) x a me s h =
+    ap (λ (k : LentCame). (steered me (lent_ends k (asked_at me s) p me s.own.lines s.home.lines (edit_finishes x a me))).me) (lent_delayed x a h) ∙ edit_unchanged x a me h
+
+pub finishes_unchanged : FinishesUnchanged finish
+finishes_unchanged x a me s h = unchanged_at me.place x a me s h

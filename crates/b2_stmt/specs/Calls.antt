@@ -1,9 +1,9 @@
 -- GOSUB, RETURN and RETURN CLEAR.
-use Rattle.std.specs.Prelude.{ℕ, ◌==◌, ◌&&◌, Bool, false, List, [], ◌∷◌, Option, None, Some, if◌then◌else◌}
+use Rattle.std.specs.Prelude.{ℕ, ◌==◌, ◌&&◌, is_some, Bool, false, List, [], ◌∷◌, Option, None, Some, if◌then◌else◌}
 use Rattle.b2_base.specs.declared.codes.TheConstants.{P36_NO_LINE, P41_NO_CALL}
 use Rattle.b2_atom.specs.Tree.{Trees}
 use Rattle.b2_atom.specs.Tree.Trees.{Put, In}
-use Rattle.b2_flow.specs.Stacks.{from_call, has_call}
+use Rattle.b2_flow.specs.Stacks.{entered_last, from_call, has_call}
 use Rattle.b2_flow.specs.declared.frame.Frame.{Frame}
 use Rattle.b2_flow.specs.declared.frame.Frame.TheVariants.{For, Call}
 use Rattle.b2_flow.specs.declared.frame.Place.{Place}
@@ -34,17 +34,19 @@ back_from how (Call back entered ∷ below) me = record { control = record (cont
 abbrev pub leaves_call : (Option Place → Outcome) → Private → Steered
 leaves_call how me = if has_call me.stack then back_from how (from_call me.stack) me else unsteered me (outcome.Failed P41_NO_CALL)
 
--- RETURN leads back; RETURN CLEAR goes on
+-- RETURN leads back; RETURN CLEAR goes on, but P41 where the call entered the text of another: that is left by RETURN
 abbrev pub goes_back : Private → Steered
 goes_back me = leaves_call to_place me
 
 abbrev pub forgets_call : Private → Steered
-forgets_call me = leaves_call (λ back. outcome.Next) me
+forgets_call me = if is_some (entered_last me.stack) then unsteered me (outcome.Failed P41_NO_CALL) else leaves_call (λ back. outcome.Next) me
 
 -- RETURN CLEAR ALL: no loop and no call is left, and nothing is kept; P41 without a call, and where a borrowed text runs
+abbrev pub may_forget_all : Place → Private → Bool
+may_forget_all p me = has_call me.stack && (p.home == me.part)
+
 abbrev pub forgets_all : Place → Private → Steered
-forgets_all p me =
-    if has_call me.stack && (p.home == me.part) then record { control = control_of (without_frames me); outcome = outcome.Next } else unsteered me (outcome.Failed P41_NO_CALL)
+forgets_all p me = if may_forget_all p me then record { control = control_of (without_frames me); outcome = outcome.Next } else unsteered me (outcome.Failed P41_NO_CALL)
 
 abbrev pub has_all : Trees → Bool
 has_all (Put word (Put clear (In n all end))) = n == 1

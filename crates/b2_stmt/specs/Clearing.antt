@@ -18,22 +18,23 @@ use Rattle.b2_access.specs.Views.{ClearCame, AllCleared, LinesErased, TextLocked
 use Rattle.b2_access.specs.Working.{work_of}
 use Rattle.b2_stmt.specs.Parts.{asks_to_declare, asks_to_find, declared_by, part_came, part_ends, selected_by}
 
--- the lines that are named go: up to the last one of the text, where no second one is named
-abbrev pub erases_lines : ℕ × Option ℕ → Access
-erases_lines lines = access.Erase lines.0 (unwrap_or lines.1 9999) 0
+-- the lines that are named go: up to the last one of the text, where no second one is named; and texts that were entered are given back
+abbrev pub erases_lines : ℕ → ℕ × Option ℕ → Access
+erases_lines homes lines = access.Erase lines.0 (unwrap_or lines.1 9999) homes
 
-abbrev pub asks_to_erase : Trees → Access
-asks_to_erase (Put word (Put letter lines)) = erases_lines (named_lines lines)
-asks_to_erase t = access.Erase 0 9999 0
+abbrev pub asks_to_erase : ℕ → Trees → Access
+asks_to_erase homes (Put word (Put letter lines)) = erases_lines homes (named_lines lines)
+asks_to_erase homes t = access.Erase 0 9999 homes
 
--- whether a statement may ask for an access, and the access that it asks for, where a name is declared or none
+-- whether a statement may ask for an access by its row, and the access that it asks for, where a name is declared or none, and where the
+-- texts of some partitions were entered, which are given back with the lines
 abbrev pub asks_access : ℕ → Bool
 asks_access r = r == row.CLEAR || r == row.CLEAR_P || r == row.DEFFN || r == row.SELECT_PART
 
-abbrev pub asked_access : ℕ → Trees → Option (List ℕ) → Option Access
-asked_access r t declared =
-    if r == row.CLEAR then Some (access.ClearAll declared 0)
-    else (if r == row.CLEAR_P then Some (asks_to_erase t)
+abbrev pub asked_access : ℕ → Trees → Option (List ℕ) → ℕ → Option Access
+asked_access r t declared homes =
+    if r == row.CLEAR then Some (access.ClearAll declared homes)
+    else (if r == row.CLEAR_P then Some (asks_to_erase homes t)
     else (if r == row.DEFFN then asks_to_declare declared (declared_by t)
     else (if r == row.SELECT_PART then asks_to_find (selected_by t)
     else None)))

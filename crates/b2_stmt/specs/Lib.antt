@@ -7,6 +7,7 @@ pub mod Choices
 pub mod Lines
 pub mod Arguments
 pub mod Asked
+pub mod Borrowing
 pub mod Marked
 pub mod Parts
 pub mod Clearing

@@ -1,5 +1,5 @@
 -- GOSUB', which calls the DEFFN' of a number, and DEFFN', which takes what the call passes.
-use Rattle.std.specs.Prelude.{ℕ, ◌==◌, ◌&&◌, nat_lt, Bool, true, false, List, [], ◌∷◌, length, Option, None, Some, Result, Ok, Err, if◌then◌else◌}
+use Rattle.std.specs.Prelude.{ℕ, ◌==◌, ◌&&◌, Bool, true, false, List, [], ◌∷◌, Option, None, Some, Result, Ok, Err, if◌then◌else◌}
 use Rattle.std.specs.Option.{option_map}
 use Rattle.b2_base.specs.declared.codes.TheConstants.{A04_TOO_DEEP, P35_ARGUMENTS, P38_NO_DEFFN}
 use Rattle.b2_dec.specs.declared.values.Value.{Value}
@@ -7,7 +7,7 @@ use Rattle.b2_atom.specs.Tokens.Token.{Plain}
 use Rattle.b2_atom.specs.Tree.{Trees}
 use Rattle.b2_atom.specs.Tree.Trees.{Put, In}
 use Rattle.b2_rows.specs.Values.{small_of}
-use Rattle.b2_flow.specs.Stacks.{most_frames}
+use Rattle.b2_flow.specs.Stacks.{has_room}
 use Rattle.b2_flow.specs.declared.frame.Frame.TheVariants.{Call}
 use Rattle.b2_flow.specs.declared.frame.Place.{Place}
 use Rattle.b2_text.specs.Program.{Lines}
@@ -44,13 +44,20 @@ mark_in part n lines = option_map (place_in part) (first_opening (is_mark n) lin
 abbrev pub mark_place : ℕ → Place → ℕ → Lines → Lines → Option Place
 mark_place n p part own home = or_else (mark_in p.home n home) (mark_in part n own)
 
--- a call of it, which leads back to another place and passes values; P38 where it stands nowhere, and else A04 where there is
--- no room for a frame
-abbrev pub calls_mark : Option Place → List Value → Option Place → Private → Steered
-calls_mark None args back me = unsteered me (outcome.Failed P38_NO_DEFFN)
-calls_mark (Some q) args back me =
-    if nat_lt (length me.stack) most_frames then record { control = record (control_of me) { work = record (work_of me) { args = Some args }; stack = Call back None ∷ me.stack }; outcome = outcome.Jump q }
+-- a call of it, which leads back to another place, passes values, and may have entered a text; A04 where there is no room for a frame
+abbrev pub calls_into : Option ℕ → Place → List Value → Option Place → Private → Steered
+calls_into entered q args back me =
+    if has_room me.stack then record { control = record (control_of me) { work = record (work_of me) { args = Some args }; stack = Call back entered ∷ me.stack }; outcome = outcome.Jump q }
     else unsteered me (outcome.Failed A04_TOO_DEEP)
+
+-- where it stands in neither text: P38 where no partition is selected; else its text is entered, and A04 where there is no room for a frame
+abbrev pub code_of_none : Option (List ℕ) → ℕ
+code_of_none None = P38_NO_DEFFN
+code_of_none (Some name) = A04_TOO_DEEP
+
+abbrev pub calls_mark : Option Place → List Value → Option Place → Private → Steered
+calls_mark None args back me = unsteered me (outcome.Failed (code_of_none me.global))
+calls_mark (Some q) args back me = calls_into None q args back me
 
 -- the receivers of DEFFN'; none where it has no parentheses
 abbrev pub receivers_in : Trees → List Trees

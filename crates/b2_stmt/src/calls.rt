@@ -62,15 +62,25 @@ pub fn go_back(me: &mut Private) -> Outcome
     }
 }
 
-/// RETURN CLEAR.
+/// RETURN CLEAR. P41 where the call entered the text of another too.
 fn forget_call(me: &mut Private) -> Outcome
     ensures ended { record { me = me.new; outcome = result } ≡ steered me.old (spec.forgets_call me.old) }
     ensures part { me.new.part ≡ me.old.part }
 {
+    if me.stack.entered_last().is_some() {
+        return failed(P41_NO_CALL);
+    }
     match me.stack.pop_call() {
         Ok(_) => Outcome::Next,
         Err(code) => Outcome::Failed(code),
     }
+}
+
+/// Whether RETURN CLEAR ALL may go: there is a call, and no text of another runs.
+pub fn may_forget_all(me: &Private, place: Place) -> bool
+    ensures { result ≡ spec.may_forget_all place me.now }
+{
+    me.stack.has_call() && place.home == me.part
 }
 
 /// RETURN CLEAR ALL.
@@ -78,16 +88,11 @@ fn forget_all(me: &mut Private, place: Place) -> Outcome
     ensures ended { record { me = me.new; outcome = result } ≡ steered me.old (spec.forgets_all place me.old) }
     ensures part { me.new.part ≡ me.old.part }
 {
-    if place.home != me.part {
+    if !may_forget_all(me, place) {
         return failed(P41_NO_CALL);
     }
-    match me.stack.pop_call() {
-        Ok(_) => {
-            drop_frames(me);
-            Outcome::Next
-        }
-        Err(code) => Outcome::Failed(code),
-    }
+    drop_frames(me);
+    Outcome::Next
 }
 
 /// Whether RETURN CLEAR has ALL.

@@ -4,54 +4,53 @@ ghost use Rattle.b2_atom.specs.declared.rows.TheConstants as row;
 ghost use Rattle.b2_rows.specs.Rows.{is_part, tree_at};
 ghost use Rattle.b2_access.specs.Answering.{can_answer};
 ghost use Rattle.b2_access.specs.Partition.{no_files};
-ghost use Rattle.b2_access.specs.Lending.{globals_lent, seen_lent};
+ghost use Rattle.b2_access.specs.Borrowers.{homes_entered};
 ghost use Rattle.b2_access.specs.Views.{AllCleared, LinesErased};
 ghost use Rattle.b2_stmt.specs.Clearing as spec;
-ghost use Rattle.b2_stmt.specs.Plan.{finish};
 ghost use Rattle.b2_access.specs.Steering.{steered};
 
 use crate::parts::{ask_to_declare, ask_to_find, declare, declared_by, select_part, selected_by};
-use b2_access::{Access, Answer, Lent, Outcome, Private, drop_frames, failed};
+use b2_access::{Access, Answer, Outcome, Private, drop_frames, failed, homes_entered};
 use b2_atom::rows;
 use b2_base::codes::{A08_TEXT_BORROWED, X77_NO_PARTITION};
 use b2_base::lexical::rest_after;
-use b2_base::{Addr, ByteList, Name8, NoMemory, Slot};
+use b2_base::{Addr, ByteList, NoMemory, Slot};
 use b2_rows::named_lines;
 use std::alloc::Global;
 
 /// What CLEAR P asks for.
 #[tactic(auto, using(crate::proofs::ClearRows::clear_lines, crate::proofs::ClearRows::clear_is))]
-fn asks_to_erase(unit: &[u8]) -> Access
+fn asks_to_erase(unit: &[u8], homes: u16) -> Access
     requires part { is_part row.CLEAR_P unit.now ≡ true }
-    ensures { result ≡ spec.asks_to_erase (tree_at row.CLEAR_P unit.now) }
+    ensures { result ≡ spec.asks_to_erase homes (tree_at row.CLEAR_P unit.now) }
 {
     let (from, to) = named_lines(rest_after(rest_after(unit, 1), 1));
     Access::Erase {
         from,
         to: to.unwrap_or(9999),
-        homes: 0,
+        homes,
     }
 }
 
-/// Whether a statement may ask for an access.
+/// Whether a statement may ask for an access by its row.
 pub fn asks_access(row: u16) -> bool
     ensures { result ≡ spec.asks_access row }
 {
     row == rows::CLEAR || row == rows::CLEAR_P || row == rows::DEFFN || row == rows::SELECT_PART
 }
 
-/// The access that a statement asks for, where it asks for one, and where a name is declared or none.
-pub fn asked_access(row: u16, unit: &[u8], declared: Option<Name8>) -> Option<Access>
+/// The access that a statement asks for by its row, where it asks for one.
+pub fn asked_access(row: u16, unit: &[u8], me: &Private) -> Option<Access>
     requires part { is_part row unit.now ≡ true }
-    ensures { result ≡ spec.asked_access row (tree_at row unit.now) declared }
+    ensures { result ≡ spec.asked_access row (tree_at row unit.now) me.now.declared (homes_entered me.now.stack) }
 {
     match row {
         rows::CLEAR => Some(Access::ClearAll {
-            name: declared,
-            homes: 0,
+            name: me.declared,
+            homes: homes_entered(&me.stack),
         }),
-        rows::CLEAR_P => Some(asks_to_erase(unit)),
-        rows::DEFFN => ask_to_declare(declared, declared_by(unit)),
+        rows::CLEAR_P => Some(asks_to_erase(unit, homes_entered(&me.stack))),
+        rows::DEFFN => ask_to_declare(me.declared, declared_by(unit)),
         rows::SELECT_PART => ask_to_find(selected_by(unit)),
         _ => None,
     }
@@ -92,7 +91,7 @@ fn clear_all(alloc: Global, me: &mut Private) -> Result<Outcome, NoMemory>
 }
 
 /// How a statement finishes by the answer to the access that it asked for.
-fn finish_with(
+pub fn finish_edit(
     alloc: Global,
     me: &mut Private,
     access: &Access,
@@ -125,21 +124,4 @@ fn finish_with(
         },
         _ => Ok(Outcome::Repeat),
     }
-}
-
-/// How a statement finishes, by the access that it asked for and its answer, which is one that the access can have.
-pub fn finish(
-    alloc: Global,
-    me: &mut Private,
-    lent: &mut Lent<'_>,
-    access: &Access,
-    answer: &Answer,
-) -> Result<Outcome, NoMemory>
-    requires possible { can_answer access.now answer.now ≡ true }
-    ensures finished { IfOk result (λ o. record { me = me.new; globals = globals_lent lent.new; outcome = o } ≡ finish access.now answer.now me.old (seen_lent lent.old)) }
-    ensures same_globals { lent.new.globals.now ≡ lent.old.globals.now }
-    ensures same_reference { lent.new.globals.ghost_name ≡ lent.old.globals.ghost_name }
-    ensures part { me.new.part ≡ me.old.part }
-{
-    finish_with(alloc, me, access, answer)
 }

@@ -11,11 +11,13 @@
 
 mod arguments;
 mod asked;
+mod borrowing;
 mod branches;
 mod calls;
 mod choices;
 mod clearing;
 mod course;
+mod finishing;
 mod framing;
 pub mod laws;
 mod loops;
@@ -23,5 +25,6 @@ mod marked;
 mod parts;
 mod planning;
 
-pub use clearing::{asks_access, finish};
+pub use clearing::asks_access;
+pub use finishing::finish;
 pub use planning::{execute, is_built, plan};

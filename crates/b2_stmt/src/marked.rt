@@ -13,7 +13,7 @@ ghost use Rattle.b2_stmt.specs.Marked.{takes_args};
 
 use b2_access::{Found, Lent, Outcome, Planned, Private, failed, goes_or, setting_of};
 use b2_atom::Cursor;
-use b2_base::codes::{P35_ARGUMENTS, P38_NO_DEFFN};
+use b2_base::codes::{A04_TOO_DEEP, P35_ARGUMENTS, P38_NO_DEFFN};
 use b2_base::lexical::{digits_width, rest_after};
 use b2_base::{Code, NoMemory, Part};
 use b2_dec::{Value, ValueList};
@@ -33,7 +33,7 @@ pub fn number_called(unit: &[u8]) -> u8
 }
 
 /// The place of a spot in the text of a partition.
-fn place_in(part: Part, spot: Spot) -> Place
+pub fn place_in(part: Part, spot: Spot) -> Place
     ensures { result ≡ spec.place_in part spot }
 {
     Place {
@@ -44,7 +44,7 @@ fn place_in(part: Part, spot: Spot) -> Place
 }
 
 /// Where the DEFFN' of a number stands: in the text at home, and else in the own text.
-fn mark_place(n: u8, place: Place, part: Part, own: &Text, home: &Text) -> Option<Place>
+pub fn mark_place(n: u8, place: Place, part: Part, own: &Text, home: &Text) -> Option<Place>
     ensures { result ≡ spec.mark_place n place part own.now.lines home.now.lines }
 {
     if let Some(spot) = home.marked(n) {
@@ -56,21 +56,36 @@ fn mark_place(n: u8, place: Place, part: Part, own: &Text, home: &Text) -> Optio
     }
 }
 
-/// Calls the statement at a place, which leads back to another and passes values. A04 where there is no room for it.
+/// Calls the statement at a place, which leads back to another and passes values, and may have entered a text. A04 where there is no room
+/// for it.
 #[tactic(auto, using(crate::proofs::MarkRows::call_put, crate::proofs::MarkRows::no_room))]
-fn call_place(me: &mut Private, to: Place, args: ValueList, back: Option<Place>) -> Outcome
-    ensures { record { me = me.new; outcome = result } ≡ steered me.old (spec.calls_mark (Some to) args back me.old) }
+pub fn call_into(
+    me: &mut Private,
+    entered: Option<Part>,
+    to: Place,
+    args: ValueList,
+    back: Option<Place>,
+) -> Outcome
+    ensures ended { record { me = me.new; outcome = result } ≡ steered me.old (spec.calls_into entered to args back me.old) }
+    ensures part { me.new.part ≡ me.old.part }
 {
-    let frame = Frame::Call {
-        back,
-        entered: None,
-    };
+    let frame = Frame::Call { back, entered };
     match me.stack.push(frame) {
         Ok(()) => {
             me.args = Some(args);
             Outcome::Jump(to)
         }
         Err(code) => Outcome::Failed(code),
+    }
+}
+
+/// The code where a DEFFN' stands in neither text and none is entered.
+pub fn code_of_none(me: &Private) -> Code
+    ensures { result ≡ spec.code_of_none me.now.global }
+{
+    match me.global {
+        Some(_) => Code::known(A04_TOO_DEEP),
+        None => Code::known(P38_NO_DEFFN),
     }
 }
 
@@ -84,11 +99,12 @@ pub fn call_mark(
     args: ValueList,
     back: Option<Place>,
 ) -> Outcome
-    ensures { record { me = me.new; outcome = result } ≡ steered me.old (spec.calls_mark (spec.mark_place n place me.old.part own.now.lines home.now.lines) args back me.old) }
+    ensures ended { record { me = me.new; outcome = result } ≡ steered me.old (spec.calls_mark (spec.mark_place n place me.old.part own.now.lines home.now.lines) args back me.old) }
+    ensures part { me.new.part ≡ me.old.part }
 {
     match mark_place(n, place, me.part, own, home) {
-        Some(to) => call_place(me, to, args, back),
-        None => failed(P38_NO_DEFFN),
+        Some(to) => call_into(me, None, to, args, back),
+        None => Outcome::Failed(code_of_none(me)),
     }
 }
 

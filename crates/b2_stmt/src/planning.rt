@@ -5,13 +5,14 @@ ghost use Rattle.b2_access.specs.Courses.{course_at, permitted};
 ghost use Rattle.b2_access.specs.Found.{IsRead, here_found, seen_found, statement_found};
 ghost use Rattle.b2_access.specs.Lending.{globals_lent, seen_lent};
 ghost use Rattle.b2_access.specs.Placed.{statement_on as named_on};
-ghost use Rattle.b2_stmt.specs.Asked.{asked_of, carried, is_still, still as still_of};
+ghost use Rattle.b2_access.specs.Planning.{tried};
+ghost use Rattle.b2_stmt.specs.Asked.{HasLegalNames, is_still, still as still_of};
 ghost use Rattle.b2_stmt.specs.Clearing.{asks_access};
 ghost use Rattle.b2_stmt.specs.Plan as spec;
 ghost use Rattle.b2_stmt.specs.Plan.{around};
-ghost use Rattle.b2_access.specs.Steering.{steered};
 
-use crate::asked::{ask, do_asked, still};
+use crate::asked::{Asked, ask, do_asked, still};
+use crate::borrowing::{ask_of_others, try_asked};
 use crate::clearing::asked_access;
 use crate::marked::take_args;
 use b2_access::{
@@ -84,7 +85,7 @@ fn is_for_programs(row: u16) -> bool
 }
 
 /// Whether a statement may not stand in a line of the program, or in an immediate line.
-fn is_refused(row: u16, program: bool) -> bool
+pub fn is_refused(row: u16, program: bool) -> bool
     ensures { result ≡ spec.is_refused row program }
 {
     if program {
@@ -94,19 +95,20 @@ fn is_refused(row: u16, program: bool) -> bool
     }
 }
 
-/// Executes a statement that asks the private state for something.
-fn execute_asked(
+/// What a statement asks of the private state that was found on a line.
+pub fn asked_found(
     alloc: Global,
     me: &mut Private,
     lent: &mut Lent<'_>,
     found: &Found<'_>,
-) -> Result<Outcome, NoMemory>
+) -> Result<Asked, NoMemory>
     requires read { IsRead found.now }
-    ensures ended { IfOk result (λ o. record { me = me.new; outcome = o } ≡ steered me.old (carried (asked_of found.now.unit.now.row (statement_found found.now).tree (here_found found.now) (around me.old (seen_found found.now (globals_lent lent.old))) found.now.home.now.lines) found.now.place me.old found.now.own.now.lines found.now.home.now.lines)) }
+    ensures asked { IfOk result (λ asked. asked ≡ spec.asked_by (statement_found found.now) (here_found found.now) me.old (seen_found found.now (globals_lent lent.old))) }
+    ensures named { IfOk result HasLegalNames }
+    ensures me { me.new ≡ me.old }
     ensures same { globals_lent lent.new ≡ globals_lent lent.old }
     ensures same_texts { (lent.new.own ≡ lent.old.own) × (lent.new.home ≡ lent.old.home) }
     ensures same_reference { lent.new.globals.ghost_name ≡ lent.old.globals.ghost_name }
-    ensures part { me.new.part ≡ me.old.part }
 {
     let setting = setting_of(me);
     let work = Workspace {
@@ -117,8 +119,45 @@ fn execute_asked(
         setting,
         home: found.home,
     };
-    let asked = ask(alloc, &work, found.line, &found.place, found.unit)?;
-    do_asked(me, found.own, found.home, found.place, asked)
+    ask(alloc, &work, found.line, &found.place, found.unit)
+}
+
+/// Executes a statement that asks the private state for something. None where it asks for the text of another, and then nothing was done.
+fn execute_asked(
+    alloc: Global,
+    me: &mut Private,
+    lent: &mut Lent<'_>,
+    found: &Found<'_>,
+) -> Result<Option<Outcome>, NoMemory>
+    requires read { IsRead found.now }
+    ensures ended { IfOk result (λ o. record { me = me.new; globals = globals_lent lent.new; ended = o } ≡ tried (spec.plans_asked (spec.asked_by (statement_found found.now) (here_found found.now) me.old (seen_found found.now (globals_lent lent.old))) found.now.place me.old (seen_found found.now (globals_lent lent.old)))) }
+    ensures same_texts { (lent.new.own ≡ lent.old.own) × (lent.new.home ≡ lent.old.home) }
+    ensures same_reference { lent.new.globals.ghost_name ≡ lent.old.globals.ghost_name }
+    ensures part { me.new.part ≡ me.old.part }
+{
+    let asked = asked_found(alloc, me, lent, found)?;
+    try_asked(me, found.own, found.home, found.place, asked)
+}
+
+/// What a statement plans that asks the private state for something.
+fn plan_asked(
+    alloc: Global,
+    me: &mut Private,
+    lent: &mut Lent<'_>,
+    found: &Found<'_>,
+) -> Result<Planned, NoMemory>
+    requires read { IsRead found.now }
+    ensures planned { IfOk result (λ p. record { me = me.new; globals = globals_lent lent.new; planned = p } ≡ spec.plans_asked (spec.asked_by (statement_found found.now) (here_found found.now) me.old (seen_found found.now (globals_lent lent.old))) found.now.place me.old (seen_found found.now (globals_lent lent.old))) }
+    ensures same_texts { (lent.new.own ≡ lent.old.own) × (lent.new.home ≡ lent.old.home) }
+    ensures same_reference { lent.new.globals.ghost_name ≡ lent.old.globals.ghost_name }
+    ensures part { me.new.part ≡ me.old.part }
+{
+    let asked = asked_found(alloc, me, lent, found)?;
+    if let Some(access) = ask_of_others(&asked, me, found.own, found.home, found.place) {
+        return Ok(Planned::Ask(access));
+    }
+    let outcome = do_asked(me, found.own, found.home, found.place, asked)?;
+    Ok(Planned::Done(outcome))
 }
 
 /// How a statement ends that changes nothing.
@@ -148,49 +187,75 @@ fn execute_still(me: &mut Private, lent: &mut Lent<'_>, found: &Found<'_>) -> Ou
     )
 }
 
-/// Executes a statement that may stand where it does and asks for no access.
+/// Executes a statement that may stand where it does, and asks for no access by its row. None where it asks for the text of another, and
+/// then nothing was done.
 #[tactic(auto, using(crate::proofs::Executed::still_there, crate::proofs::Executed::taken_there, crate::proofs::Executed::asked_there))]
 fn execute_allowed(
     alloc: Global,
     me: &mut Private,
     lent: &mut Lent<'_>,
     found: &Found<'_>,
-) -> Result<Outcome, NoMemory>
+) -> Result<Option<Outcome>, NoMemory>
     requires read { IsRead found.now }
-    ensures ended { IfOk result (λ o. record { me = me.new; globals = globals_lent lent.new; planned = Planned.Done o } ≡ spec.ends_allowed (statement_found found.now) (here_found found.now) me.old (seen_found found.now (globals_lent lent.old))) }
+    ensures ended { IfOk result (λ o. record { me = me.new; globals = globals_lent lent.new; ended = o } ≡ tried (spec.acts (statement_found found.now) (here_found found.now) me.old (seen_found found.now (globals_lent lent.old)))) }
     ensures same_texts { (lent.new.own ≡ lent.old.own) × (lent.new.home ≡ lent.old.home) }
     ensures same_reference { lent.new.globals.ghost_name ≡ lent.old.globals.ghost_name }
     ensures part { me.new.part ≡ me.old.part }
 {
     let row = found.unit.row;
     if is_still(row) {
-        return Ok(execute_still(me, lent, found));
+        return Ok(Some(execute_still(me, lent, found)));
     }
     if row == rows::DEFFN_MARKED {
-        return take_args(me, lent, found);
+        return Ok(Some(take_args(me, lent, found)?));
     }
     execute_asked(alloc, me, lent, found)
 }
 
-/// Executes a statement that its caller has found, where it asks for no access.
+/// Executes a statement that its caller has found, where it asks for no access by its row. None where it asks for the text of another, and
+/// then nothing was done.
 #[tactic(auto, using(b2_access::proofs::Courses::may_not_stand, crate::proofs::Executed::quiet_there))]
 pub fn execute(
     alloc: Global,
     me: &mut Private,
     lent: &mut Lent<'_>,
     found: &Found<'_>,
-) -> Result<Outcome, NoMemory>
+) -> Result<Option<Outcome>, NoMemory>
     requires quiet { asks_access found.now.unit.now.row ≡ false }
     requires read { IsRead found.now }
-    ensures ended { IfOk result (λ o. record { me = me.new; globals = globals_lent lent.new; planned = Planned.Done o } ≡ permitted spec.is_refused (spec.stops me.old (seen_found found.now (globals_lent lent.old))) (spec.does me.old (seen_found found.now (globals_lent lent.old))) (statement_found found.now) (here_found found.now)) }
+    ensures ended { IfOk result (λ o. record { me = me.new; globals = globals_lent lent.new; ended = o } ≡ tried (permitted spec.is_refused (spec.stops me.old (seen_found found.now (globals_lent lent.old))) (spec.does me.old (seen_found found.now (globals_lent lent.old))) (statement_found found.now) (here_found found.now))) }
     ensures same_texts { (lent.new.own ≡ lent.old.own) × (lent.new.home ≡ lent.old.home) }
     ensures same_reference { lent.new.globals.ghost_name ≡ lent.old.globals.ghost_name }
     ensures part { me.new.part ≡ me.old.part }
 {
     if is_refused(found.unit.row, found.place.line.is_some()) {
-        return Ok(failed(S26_PROGRAM_ONLY));
+        return Ok(Some(failed(S26_PROGRAM_ONLY)));
     }
     execute_allowed(alloc, me, lent, found)
+}
+
+/// What a statement plans that may stand where it does, and asks for no access by its row.
+#[tactic(auto, using(crate::proofs::Executed::still_there, crate::proofs::Executed::taken_there, crate::proofs::Executed::asked_there))]
+fn plan_allowed(
+    alloc: Global,
+    me: &mut Private,
+    lent: &mut Lent<'_>,
+    found: &Found<'_>,
+) -> Result<Planned, NoMemory>
+    requires read { IsRead found.now }
+    ensures planned { IfOk result (λ p. record { me = me.new; globals = globals_lent lent.new; planned = p } ≡ spec.acts (statement_found found.now) (here_found found.now) me.old (seen_found found.now (globals_lent lent.old))) }
+    ensures same_texts { (lent.new.own ≡ lent.old.own) × (lent.new.home ≡ lent.old.home) }
+    ensures same_reference { lent.new.globals.ghost_name ≡ lent.old.globals.ghost_name }
+    ensures part { me.new.part ≡ me.old.part }
+{
+    let row = found.unit.row;
+    if is_still(row) {
+        return Ok(Planned::Done(execute_still(me, lent, found)));
+    }
+    if row == rows::DEFFN_MARKED {
+        return Ok(Planned::Done(take_args(me, lent, found)?));
+    }
+    plan_asked(alloc, me, lent, found)
 }
 
 /// What a statement plans that was found on a line.
@@ -210,11 +275,10 @@ fn plan_unit(
     if is_refused(found.unit.row, found.place.line.is_some()) {
         return Ok(Planned::Done(failed(S26_PROGRAM_ONLY)));
     }
-    if let Some(access) = asked_access(found.unit.row, found.unit.bytes, me.declared) {
+    if let Some(access) = asked_access(found.unit.row, found.unit.bytes, me) {
         return Ok(Planned::Ask(access));
     }
-    let outcome = execute_allowed(alloc, me, lent, found)?;
-    Ok(Planned::Done(outcome))
+    plan_allowed(alloc, me, lent, found)
 }
 
 /// What the unit at a place on a line plans.
@@ -246,7 +310,7 @@ fn plan_on(
 }
 
 /// A copy of the immediate line: it lies in the private state, which its statements change.
-fn copy_of_line(alloc: Global, immediate: &Option<Atoms>) -> Result<Option<Atoms>, NoMemory>
+pub fn copy_of_line(alloc: Global, immediate: &Option<Atoms>) -> Result<Option<Atoms>, NoMemory>
     ensures { IfOk result (λ line. line ≡ immediate.now) }
 {
     match immediate {

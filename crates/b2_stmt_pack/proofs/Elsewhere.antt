@@ -20,14 +20,14 @@ use Rattle.b2_expr.specs.Kinds.{suits}
 use Rattle.b2_expr.specs.Workspace.{WorkLeft, WorkState, among, on_lent, then_works, unchanged}
 use Rattle.b2_expr.specs.declared.named.Element.{Element}
 use Rattle.b2_access.proofs.Choice.{either}
-use Rattle.b2_receiver.specs.Assigning.{assigned_number, assigned_value, buffer_code, is_alpha_receiver, is_global_receiver, receiver_code, unless_refused}
+use Rattle.b2_receiver.specs.Assigning.{assigned_number, assigned_value, buffer_code, is_alpha_receiver, is_global_receiver, receiver_code, unless_refused, with_changed}
 use Rattle.b2_receiver.specs.Receivers.{any_receiver, number_receiver}
 use Rattle.b2_receiver.specs.Receiving.{given_value, number_to}
 use Rattle.b2_receiver.specs.declared.receiver.Buffer.{Buffer}
 use Rattle.b2_receiver.specs.declared.receiver.Buffer.TheVariants as buffer_kind
 use Rattle.b2_receiver.specs.declared.receiver.Receiver.{Receiver}
 use Rattle.b2_receiver.specs.declared.receiver.Receiver.TheVariants as receiver_kind
-use Rattle.b2_stmt_pack.specs.Buffers.{buffer_name, packed_by, room_code, room_in, where_none, with_changed}
+use Rattle.b2_stmt_pack.specs.Buffers.{buffer_name, packed_by, room_code, room_in, where_none}
 use Rattle.b2_stmt_pack.specs.Laws.{ChangeWhatIsNamed, IsNoneOf, Stays, receiver_name}
 use Rattle.b2_stmt_pack.specs.Lists.{each_takes, takes_number, takes_value, value_to}
 

@@ -1,5 +1,5 @@
 -- A statement on packed fields changes the `@` variables only where it reaches a buffer or a receiver among them.
-use Rattle.std.proofs.Common.{◌≡◌, ℕ, true, false, true≢false, List, [], ◌∷◌, length, map, is_some, Option, Some, None, Result, Ok, Err, refl}
+use Rattle.std.proofs.Common.{◌≡◌, ℕ, false, true≢false, List, [], ◌∷◌, length, map, is_some, Option, Some, None, Result, Ok, Err, refl}
 use Rattle.b2_base.specs.declared.codes.TheConstants.{P58_SPECIFICATION}
 use Rattle.b2_dec.specs.Number.{Number}
 use Rattle.b2_dec.specs.declared.values.Value.{Value}
@@ -16,7 +16,7 @@ use Rattle.b2_expr.specs.Kinds.{suits}
 use Rattle.b2_expr.specs.Value.{context_of}
 use Rattle.b2_expr.specs.Workspace.{ChangesWhereReached, Reaches, WorkLeft, WorkState, counts_as_reached, refused, surroundings_of, unchanged, work_in}
 use Rattle.b2_expr.proofs.Reached.{among_reaches, stay, then_reaches}
-use Rattle.b2_receiver.specs.Assigning.{buffer_code, is_alpha_receiver, is_global_buffer, unless_refused}
+use Rattle.b2_receiver.specs.Assigning.{buffer_code, is_alpha_receiver, is_global_buffer, unless_refused, with_changed}
 use Rattle.b2_receiver.specs.Receivers.{any_receiver}
 use Rattle.b2_receiver.specs.Receiving.{given_value}
 use Rattle.b2_receiver.specs.declared.receiver.Buffer.{Buffer}
@@ -29,7 +29,7 @@ use Rattle.b2_access.proofs.Choice.{either}
 use Rattle.b2_access.proofs.Courses.{each_course}
 use Rattle.b2_access.proofs.Tables.{each_row}
 use Rattle.b2_access.proofs.Working as form
-use Rattle.b2_stmt_pack.specs.Buffers.{packed_by, packs_to, read_from, room_code, room_in, where_none, with_changed}
+use Rattle.b2_stmt_pack.specs.Buffers.{packed_by, packs_to, read_from, room_code, room_in, where_none}
 use Rattle.b2_stmt_pack.specs.Fields as fields
 use Rattle.b2_stmt_pack.specs.Lists.{all_taken, each_of, each_takes, kind_of, number_of, takes_number, takes_value, value_of, value_to}
 use Rattle.b2_stmt_pack.specs.Numbers as numbers

@@ -1,15 +1,14 @@
 -- Buffers into which something is packed, and those out of which something is read.
 use Rattle.std.specs.Prelude.{ℕ, List, length, Option, None, Some, Result, Ok, Err}
 use Rattle.b2_vars.specs.Assigned.{Assigned}
-use Rattle.b2_vars.specs.Calls.{with_bytes_of}
-use Rattle.b2_vars.specs.Tables.{VarsState, variable_at}
+use Rattle.b2_vars.specs.Tables.{VarsState}
 use Rattle.b2_vars.specs.declared.name.Var.{Var}
 use Rattle.b2_rows.specs.declared.leaves.Name.{Name}
 use Rattle.b2_expr.specs.Answers.{◌>>=◌}
 use Rattle.b2_expr.specs.Named.{variables_of}
 use Rattle.b2_expr.specs.Scope.{Surroundings}
 use Rattle.b2_expr.specs.Workspace.{WorkState, WorkLeft, among, refused}
-use Rattle.b2_receiver.specs.Assigning.{buffer_bytes, buffer_code, is_global_buffer, portion_in, reached_by, unless_refused, with_portion}
+use Rattle.b2_receiver.specs.Assigning.{buffer_bytes, bytes_changed, is_global_buffer, unless_refused}
 use Rattle.b2_receiver.specs.declared.receiver.Buffer.{Buffer}
 use Rattle.b2_receiver.specs.declared.receiver.Buffer.TheVariants as buffer_kind
 
@@ -23,15 +22,6 @@ name_of b = record { letter = (buffer_name b).letter; digit = (buffer_name b).di
 
 abbrev pub buffer_variables : Surroundings → Buffer → Result VarsState ℕ
 buffer_variables e b = variables_of e (name_of b)
-
--- the bytes that a buffer names are changed; a scalar that isn't there is made first
-abbrev pub with_changed : (List ℕ → List ℕ) → Buffer → VarsState → VarsState
-with_changed change (buffer_kind.Value to) old = with_portion to (reached_by to old) (change (portion_in to (reached_by to old)))
-with_changed change (buffer_kind.Array a) old = with_bytes_of a.var 0 old (change (variable_at a.var old.table).bytes)
-
--- or nothing is, where it has a code
-abbrev pub bytes_changed : (List ℕ → List ℕ) → Buffer → VarsState → Assigned
-bytes_changed change to old = unless_refused (buffer_code to old) old (record { vars = with_changed change to old; code = None })
 
 -- new bytes, where there is no code, and else the old ones
 abbrev pub where_none : Option ℕ → List ℕ → List ℕ → List ℕ

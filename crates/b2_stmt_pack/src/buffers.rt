@@ -4,18 +4,17 @@ ghost use Rattle.b2_pack.specs.Images.{image_row};
 ghost use Rattle.b2_pack.specs.Packing as packing;
 ghost use Rattle.b2_receiver.specs.Receivers.{IsBuffer};
 ghost use Rattle.b2_expr.specs.Scope.{surroundings};
-ghost use Rattle.b2_expr.specs.Workspace.{SameReferences, among, on_lent, workspace};
-ghost use Rattle.b2_receiver.specs.Assigning.{is_global_buffer};
+ghost use Rattle.b2_expr.specs.Workspace.{SameReferences, among, workspace};
+ghost use Rattle.b2_receiver.specs.Assigning.{Ends, is_global_buffer};
 ghost use Rattle.b2_stmt_pack.specs.Buffers.{buffer_variables, name_of, room_code, room_in, where_none};
 ghost use Rattle.b2_stmt_pack.specs.Fields.{values_packed};
 ghost use Rattle.b2_stmt_pack.specs.Numbers.{numbers_packed};
 
-use b2_base::codes::X77_NO_PARTITION;
-use b2_base::{Code, NoMemory};
+use b2_base::{Code, Fault, NoMemory};
 use b2_dec::{Dec, Value};
-use b2_expr::{Env, Workspace, reached_after, variables_of};
+use b2_expr::{Env, Workspace, variables_of};
 use b2_pack::{check_fields, check_pack, fields, pack};
-use b2_receiver::{Buffer, buffer_bytes, change_buffer, code_of};
+use b2_receiver::{Buffer, buffer_bytes, change_among, change_buffer};
 use b2_rows::Name;
 use b2_vars::Vars;
 
@@ -73,33 +72,19 @@ fn pack_into(bytes: &mut [u8], image: &[u8], xs: &[Dec])
     let _packed = pack(image, xs, bytes);
 }
 
-/// Puts numbers into a buffer among the `@` variables. The code with which that ended, or none.
-#[tactic(auto, using(crate::proofs::Changed::numbers_lent, crate::proofs::Changed::numbers_kept))]
-fn put_lent_numbers(
-    work: &mut Workspace<'_>,
-    to: &Buffer,
-    image: &[u8],
-    xs: &[Dec],
-) -> Result<Option<Code>, NoMemory>
+/// Puts numbers into a buffer. A scalar that isn't there is made. After an error all is as before.
+#[tactic(auto, using(crate::proofs::Changed::numbers_put, crate::proofs::Changed::numbers_refused))]
+fn assign_numbers(vars: &mut Vars, to: &Buffer, image: &[u8], xs: &[Dec]) -> Result<(), Fault>
     requires named { IsBuffer to.now }
-    ensures worked { IfOk result (λ code. record { work = workspace work.new; code = code } ≡ on_lent (numbers_packed image.now xs.now to.now) (workspace work.old).globals.vars (workspace work.old)) }
-    ensures same_references { SameReferences work.old work.new }
+    ensures { Ends (numbers_packed image.now xs.now to.now vars.old) vars.old vars.new result }
 {
-    if !work.found {
-        return Ok(Some(Code::known(X77_NO_PARTITION)));
+    match check_numbers(vars, to, image, xs) {
+        Ok(()) => change_buffer(vars, to, |bytes| pack_into(bytes, image, xs)),
+        Err(code) => Err(Fault::Code(code)),
     }
-    if let Err(code) = check_numbers(work.globals, to, image, xs) {
-        work.reached = reached_after(work.reached, &Some(code));
-        return Ok(Some(code));
-    }
-    let code = code_of(change_buffer(work.globals, to, |bytes| pack_into(bytes, image, xs)))?;
-    work.reached = reached_after(work.reached, &code);
-    Ok(code)
 }
 
-/// Puts numbers into a buffer. A scalar that isn't there is made. The code with which that ended, or none; with one nothing
-/// changed.
-#[tactic(auto, using(crate::proofs::Changed::numbers_put, crate::proofs::Changed::numbers_refused))]
+/// Puts numbers into a buffer, wherever it is. The code with which that ended, or none; with one nothing changed.
 pub fn put_numbers(
     work: &mut Workspace<'_>,
     to: &Buffer,
@@ -110,14 +95,11 @@ pub fn put_numbers(
     ensures worked { IfOk result (λ code. record { work = workspace work.new; code = code } ≡ among (is_global_buffer to.now) (numbers_packed image.now xs.now to.now) (workspace work.old)) }
     ensures same_references { SameReferences work.old work.new }
 {
-    if to.is_global() {
-        return put_lent_numbers(work, to, image, xs);
-    }
-    match check_numbers(work.own, to, image, xs) {
-        Ok(()) => {}
-        Err(code) => return Ok(Some(code)),
-    }
-    code_of(change_buffer(work.own, to, |bytes| pack_into(bytes, image, xs)))
+    change_among(
+        work,
+        to.is_global(),
+        |vars| assign_numbers(vars, to, image, xs),
+    )
 }
 
 /// The code of the buffer, or the first of values that are packed into its fields.
@@ -140,32 +122,19 @@ fn fields_into(bytes: &mut [u8], spec: &[u8], values: &[Value])
     let _packed = fields(spec, values, bytes);
 }
 
-/// Puts values into the fields of a buffer among the `@` variables, as `put_lent_numbers`.
-#[tactic(auto, using(crate::proofs::Changed::values_lent, crate::proofs::Changed::values_kept))]
-fn put_lent_values(
-    work: &mut Workspace<'_>,
-    to: &Buffer,
-    spec: &[u8],
-    values: &[Value],
-) -> Result<Option<Code>, NoMemory>
+/// Puts values into the fields of a buffer, as `assign_numbers`.
+#[tactic(auto, using(crate::proofs::Changed::values_put, crate::proofs::Changed::values_refused))]
+fn assign_values(vars: &mut Vars, to: &Buffer, spec: &[u8], values: &[Value]) -> Result<(), Fault>
     requires named { IsBuffer to.now }
-    ensures worked { IfOk result (λ code. record { work = workspace work.new; code = code } ≡ on_lent (values_packed spec.now values.now to.now) (workspace work.old).globals.vars (workspace work.old)) }
-    ensures same_references { SameReferences work.old work.new }
+    ensures { Ends (values_packed spec.now values.now to.now vars.old) vars.old vars.new result }
 {
-    if !work.found {
-        return Ok(Some(Code::known(X77_NO_PARTITION)));
+    match check_values(vars, to, spec, values) {
+        Ok(()) => change_buffer(vars, to, |bytes| fields_into(bytes, spec, values)),
+        Err(code) => Err(Fault::Code(code)),
     }
-    if let Err(code) = check_values(work.globals, to, spec, values) {
-        work.reached = reached_after(work.reached, &Some(code));
-        return Ok(Some(code));
-    }
-    let code = code_of(change_buffer(work.globals, to, |bytes| fields_into(bytes, spec, values)))?;
-    work.reached = reached_after(work.reached, &code);
-    Ok(code)
 }
 
 /// Puts values into the fields of a buffer, as `put_numbers`.
-#[tactic(auto, using(crate::proofs::Changed::values_put, crate::proofs::Changed::values_refused))]
 pub fn put_values(
     work: &mut Workspace<'_>,
     to: &Buffer,
@@ -176,12 +145,9 @@ pub fn put_values(
     ensures worked { IfOk result (λ code. record { work = workspace work.new; code = code } ≡ among (is_global_buffer to.now) (values_packed spec.now values.now to.now) (workspace work.old)) }
     ensures same_references { SameReferences work.old work.new }
 {
-    if to.is_global() {
-        return put_lent_values(work, to, spec, values);
-    }
-    match check_values(work.own, to, spec, values) {
-        Ok(()) => {}
-        Err(code) => return Ok(Some(code)),
-    }
-    code_of(change_buffer(work.own, to, |bytes| fields_into(bytes, spec, values)))
+    change_among(
+        work,
+        to.is_global(),
+        |vars| assign_values(vars, to, spec, values),
+    )
 }

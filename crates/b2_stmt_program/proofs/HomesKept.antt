@@ -1,9 +1,11 @@
--- Where a statement on programs leads is the own text or no other place, and what it asks for marks no home.
-use Rattle.std.proofs.Common.{ℕ, Bool, true, false, List, Option, Some, None}
+-- Where a statement on programs leads is the own text or no other place, and what it asks for marks no home, or those whose texts were entered.
+use Rattle.std.proofs.Common.{◌≡◌, ◌∙◌, ℕ, Bool, true, false, List, [], Option, Some, None, ap, inl, inr, sym}
+use Rattle.std.specs.Prelude.{◌⊎◌}
 use Rattle.b2_flow.specs.declared.frame.Frame.{Frame}
 use Rattle.b2_flow.specs.declared.frame.Place.{Place}
 use Rattle.b2_text.specs.Program.{Lines, number_after}
-use Rattle.b2_access.specs.Homes.{FinishesWithin, FramesIn, IsWithin, OutcomeIn, PlaceIn, PlannedIn, PlansWithin}
+use Rattle.b2_access.specs.Borrowers.{homes_entered, homes_marked, is_inside}
+use Rattle.b2_access.specs.Homes.{FinishesWithin, FramesIn, HomesIn, IsWithin, OutcomeIn, PlaceIn, PlannedIn, PlansWithin, homes_of}
 use Rattle.b2_access.specs.Lending.{SeenLent}
 use Rattle.b2_access.specs.Steering.{Steered, put_control}
 use Rattle.b2_access.specs.Views.{ChangeCame, DiskChanged, ChangeRefused, ChangeLater, ProgramCame, ProgramLoaded, ProgramLocked, ProgramRefused, ProgramLater, change_came, program_came}
@@ -11,17 +13,27 @@ use Rattle.b2_access.specs.declared.accesses.Access.{Access}
 use Rattle.b2_access.specs.declared.accesses.Answer.{Answer}
 use Rattle.b2_access.specs.declared.devices.Device.{Device}
 use Rattle.b2_access.specs.declared.private.Private.{Private}
+use Rattle.b2_access.proofs.EnteredHomes.{entered_within}
+use Rattle.b2_access.proofs.Homes.{marks_none}
 use Rattle.b2_access.proofs.Working as form
 use Rattle.b2_drive.specs.Asking.{change_ends}
-use Rattle.b2_drive.proofs.Asked.{marks_no_home}
 use Rattle.b2_stmt_program.specs.Loading.{loaded, loading_ends, replacing, started}
 use Rattle.b2_stmt_program.specs.Plan.{ended_by, ends, finish, plan, works}
-use Rattle.b2_stmt_program.proofs.Planned.{each_planned}
+use Rattle.b2_stmt_program.proofs.Planned.{FitsHere, each_planned}
+
+-- no home, or those whose texts were entered
+fitting : (devices : List Device) (among : ℕ → Bool) (me : Private) (a : Access) → IsWithin among me → FitsHere devices me.part (homes_entered me.stack) a → HomesIn among a
+fitting devices among me a w fits = by (FitsHere.homes fits)
+  where
+    by : (homes_of a ≡ []) ⊎ (homes_of a ≡ homes_marked (homes_entered me.stack)) → HomesIn among a
+    by (inl none) = marks_none among a none
+    by (inr some) = λ h is. entered_within among me.stack w.frames h (sym (ap (is_inside h) some) ∙ is)
 
 pub plans_within : (devices : List Device) → PlansWithin (plan devices)
-plans_within devices =
-    form.plans_within (works devices)
-    (λ among me s k. each_planned devices me s (PlannedIn among) tt (λ code. tt) (λ a fits stays. marks_no_home devices me.part among a fits))
+plans_within devices among me s w = (
+  form.after_plan (IsWithin among) me s (works devices me s) (λ x. form.within among me x me.slots me.held w),
+  form.as_it_comes (PlannedIn among) me s (works devices me s) (each_planned devices me s (PlannedIn among) tt (λ code. tt) (λ a fits stays. fitting devices among me a w fits)),
+)
 
 module _ (among : ℕ → Bool) where
   -- what a statement leaves names only these

@@ -12,10 +12,10 @@ use Rattle.b2_access.specs.declared.accesses.Answer.{Answer}
 use Rattle.b2_access.specs.declared.devices.Device.{Device}
 use Rattle.b2_access.specs.declared.private.Private.{Private}
 use Rattle.b2_access.proofs.Working as form
-use Rattle.b2_drive.proofs.Asked.{names_no_terminal}
+use Rattle.b2_access.proofs.OwnTerminal.{names_none}
 use Rattle.b2_stmt_program.specs.Loading.{loaded, loading_ends, replacing, started}
 use Rattle.b2_stmt_program.specs.Plan.{ended_by, ends, finish, plan, works}
-use Rattle.b2_stmt_program.proofs.Planned.{each_planned}
+use Rattle.b2_stmt_program.proofs.Planned.{FitsHere, each_planned}
 
 pub plans_in_place : (devices : List Device) → PlansInPlace (plan devices)
 plans_in_place devices = form.plans_in_place (works devices)
@@ -26,7 +26,7 @@ plans_keep_none devices = form.plans_keep_none (works devices)
 pub plans_at_terminal : (devices : List Device) → PlansAtTerminal (plan devices)
 plans_at_terminal devices =
     form.plans_at_terminal (works devices)
-    (λ me s. each_planned devices me s (PlannedAt me.term) tt (λ code. tt) (λ a fits stays. names_no_terminal devices me.part me.term a fits))
+    (λ me s. each_planned devices me s (PlannedAt me.term) tt (λ code. tt) (λ a fits stays. names_none me.term a (FitsHere.terminal fits)))
 
 pub finishes_in_place : FinishesInPlace finish
 finishes_in_place x a me s = refl

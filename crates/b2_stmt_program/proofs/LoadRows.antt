@@ -66,29 +66,29 @@ load_name t ok is = (loads false t ok is).1.0
 abbrev drive_tree : Text → Trees
 drive_tree u = In 2 (tree_at row.DRIVE_COMMA u) (In 2 (tree_at row.ALPHA (after_part row.DRIVE_COMMA u)) Done)
 
-abbrev asked : DrivesSeen → Context → Option (List ℕ) → Bool → Text → Result Access ℕ
-asked d e declared replace u = asks_for d e declared replace (tree_at row.DRIVE_COMMA u) (tree_at row.ALPHA (after_part row.DRIVE_COMMA u))
+abbrev asked : DrivesSeen → Context → Option (List ℕ) → ℕ → Bool → Text → Result Access ℕ
+asked d e declared homes replace u = asks_for d e declared homes replace (tree_at row.DRIVE_COMMA u) (tree_at row.ALPHA (after_part row.DRIVE_COMMA u))
 
-asked_by : (d : DrivesSeen) (e : Context) (declared : Option (List ℕ)) (program b : Bool) (t : Text) → (b ≡ true → after_part row.RUN_WORD t ≡ drop 1 t)
-    → asks_to_load d e declared program (Put (Coded word.LOAD) (if b then In 1 (tree_at row.RUN_WORD t) (drive_tree (after_part row.RUN_WORD t)) else In 0 Done (drive_tree t))) ≡ asked d e declared (b || program) (drive_text b t)
-asked_by d e declared program true t rest = ap (asked d e declared true) (rest refl)
-asked_by d e declared program false t rest = refl
+asked_by : (d : DrivesSeen) (e : Context) (declared : Option (List ℕ)) (homes : ℕ) (program b : Bool) (t : Text) → (b ≡ true → after_part row.RUN_WORD t ≡ drop 1 t)
+    → asks_to_load d e declared homes program (Put (Coded word.LOAD) (if b then In 1 (tree_at row.RUN_WORD t) (drive_tree (after_part row.RUN_WORD t)) else In 0 Done (drive_tree t))) ≡ asked d e declared homes (b || program) (drive_text b t)
+asked_by d e declared homes program true t rest = ap (asked d e declared homes true) (rest refl)
+asked_by d e declared homes program false t rest = refl
 
 run_rest : (b : Bool) (t : Text) → When b ((is_part row.RUN_WORD t ≡ true) × Loads (after_part row.RUN_WORD t)) (Loads t) → b ≡ true → after_part row.RUN_WORD t ≡ drop 1 t
 run_rest true t h is = (stands_of row.RUN_WORD (Word word.RUN ∷ []) t run_row h.0).2
 run_rest false t h is = cc
 
-asked_is : (d : DrivesSeen) (e : Context) (declared : Option (List ℕ)) (program b : Bool) (t : Text) → is_part row.LOAD t ≡ true → (first (drop 1 t) == word.RUN) ≡ b
-    → asks_to_load d e declared program (tree_at row.LOAD t) ≡ asked d e declared (b || program) (drive_text b (drop 1 t))
-asked_is d e declared program b t ok is =
-    ap (asks_to_load d e declared program) (stands_of row.LOAD load_items t load_row ok).1
-    ∙ asked_by d e declared program (starts Atoms (start.Code word.RUN) (drop 1 t)) (drop 1 t) (run_rest (starts Atoms (start.Code word.RUN) (drop 1 t)) (drop 1 t) (stands_of row.LOAD load_items t load_row ok).0.1)
-    ∙ ap (λ (x : Bool). asked d e declared (x || program) (drive_text x (drop 1 t))) (begins (drop 1 t) b is)
+asked_is : (d : DrivesSeen) (e : Context) (declared : Option (List ℕ)) (homes : ℕ) (program b : Bool) (t : Text) → is_part row.LOAD t ≡ true → (first (drop 1 t) == word.RUN) ≡ b
+    → asks_to_load d e declared homes program (tree_at row.LOAD t) ≡ asked d e declared homes (b || program) (drive_text b (drop 1 t))
+asked_is d e declared homes program b t ok is =
+    ap (asks_to_load d e declared homes program) (stands_of row.LOAD load_items t load_row ok).1
+    ∙ asked_by d e declared homes program (starts Atoms (start.Code word.RUN) (drop 1 t)) (drop 1 t) (run_rest (starts Atoms (start.Code word.RUN) (drop 1 t)) (drop 1 t) (stands_of row.LOAD load_items t load_row ok).0.1)
+    ∙ ap (λ (x : Bool). asked d e declared homes (x || program) (drive_text x (drop 1 t))) (begins (drop 1 t) b is)
 
-pub run_is : (d : DrivesSeen) (e : Context) (declared : Option (List ℕ)) (program : Bool) (t : Text) → is_part row.LOAD t ≡ true → (first (drop 1 t) == word.RUN) ≡ true
-    → asks_to_load d e declared program (tree_at row.LOAD t) ≡ asked d e declared true (drop 1 (drop 1 t))
-run_is d e declared program t ok is = asked_is d e declared program true t ok is
+pub run_is : (d : DrivesSeen) (e : Context) (declared : Option (List ℕ)) (homes : ℕ) (program : Bool) (t : Text) → is_part row.LOAD t ≡ true → (first (drop 1 t) == word.RUN) ≡ true
+    → asks_to_load d e declared homes program (tree_at row.LOAD t) ≡ asked d e declared homes true (drop 1 (drop 1 t))
+run_is d e declared homes program t ok is = asked_is d e declared homes program true t ok is
 
-pub load_is : (d : DrivesSeen) (e : Context) (declared : Option (List ℕ)) (program : Bool) (t : Text) → is_part row.LOAD t ≡ true → (first (drop 1 t) == word.RUN) ≡ false
-    → asks_to_load d e declared program (tree_at row.LOAD t) ≡ asked d e declared program (drop 1 t)
-load_is d e declared program t ok is = asked_is d e declared program false t ok is
+pub load_is : (d : DrivesSeen) (e : Context) (declared : Option (List ℕ)) (homes : ℕ) (program : Bool) (t : Text) → is_part row.LOAD t ≡ true → (first (drop 1 t) == word.RUN) ≡ false
+    → asks_to_load d e declared homes program (tree_at row.LOAD t) ≡ asked d e declared homes program (drop 1 t)
+load_is d e declared homes program t ok is = asked_is d e declared homes program false t ok is

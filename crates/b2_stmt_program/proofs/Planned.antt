@@ -1,5 +1,6 @@
 -- What statements on programs on disks plan: they ask for an access at a platter that the partition may use; and how they finish.
-use Rattle.std.specs.Prelude.{◌≡◌, ℕ, ◌==◌, ◌||◌, Bool, is_some, List, [], Result, Ok, refl, Option}
+use Rattle.std.specs.Prelude.{◌≡◌, ◌⊎◌, ℕ, ◌==◌, ◌||◌, Bool, is_some, List, [], Result, Ok, refl, Option, None}
+use Rattle.std.proofs.Common.{inl, inr}
 use Rattle.b2_base.specs.declared.codes.TheConstants.{S18_ALPHA, S26_PROGRAM_ONLY, S27_LEFT_OUT}
 use Rattle.b2_atom.specs.Tree.{Trees}
 use Rattle.b2_atom.specs.Tree.Trees.{Done, Put, In}
@@ -8,7 +9,12 @@ use Rattle.b2_expr.specs.Answers.{◌>>=◌}
 use Rattle.b2_expr.specs.Scope.{Context}
 use Rattle.b2_expr.specs.Value.{context_of}
 use Rattle.b2_expr.specs.Workspace.{work_in}
+use Rattle.b2_access.specs.Borrowers.{homes_entered, homes_marked}
 use Rattle.b2_access.specs.Holding.{holders_changed}
+use Rattle.b2_access.specs.Homes.{homes_of}
+use Rattle.b2_access.specs.OwnDevices.{ReachesListed}
+use Rattle.b2_access.specs.Causes.{terminal_of}
+use Rattle.b2_access.specs.Touching.{IsLegal}
 use Rattle.b2_access.specs.Lending.{SeenLent}
 use Rattle.b2_access.specs.Partition.{setting_of}
 use Rattle.b2_access.specs.Working.{Working, planned_of, stops}
@@ -24,13 +30,20 @@ use Rattle.b2_access.proofs.Courses.{each_course}
 use Rattle.b2_drive.specs.Asking.{asks_or_fails}
 use Rattle.b2_drive.specs.Drives.{DrivesSeen, drives_of}
 use Rattle.b2_drive.specs.FileNames.{name_given}
-use Rattle.b2_drive.proofs.Asked.{Fits, after_drive, after_name, after_value}
+use Rattle.b2_drive.proofs.Asked.{after_drive, after_name, after_value}
 use Rattle.b2_stmt_program.specs.Loading.{asks_to_load, given_up}
 use Rattle.b2_stmt_program.specs.Plan.{asked_of, does, is_refused, works}
 use Rattle.b2_stmt_program.specs.Saving.{asks_to_save, lines_saved, old_named, saves}
 
+-- an access that reaches devices that are listed for a partition, names no terminal, marks no home or those of a mask, and may be asked for
+pub record FitsHere (devices : List Device) (who entered : ℕ) (a : Access) : Type 0 where
+  pub listed : ReachesListed devices who a
+  pub terminal : terminal_of a ≡ None
+  pub homes : (homes_of a ≡ []) ⊎ (homes_of a ≡ homes_marked entered)
+  pub legal : IsLegal a
+
 -- what holds of each refusal, and of each access that fits and takes and frees no device
-module _ (F : Planned → Type 0) (d : DrivesSeen) (failed : (code : ℕ) → F (planned.Done (outcome.Failed code))) (asks : (a : Access) → Fits d.devices d.who a → holders_changed a ≡ [] → F (planned.Ask a)) where
+module _ (F : Planned → Type 0) (d : DrivesSeen) (failed : (code : ℕ) → F (planned.Done (outcome.Failed code))) (homes : ℕ) (asks : (a : Access) → FitsHere d.devices d.who homes a → holders_changed a ≡ [] → F (planned.Ask a)) where
   Asked : Result Access ℕ → Type 0
   Asked r = F (asks_or_fails r)
 
@@ -40,18 +53,18 @@ module _ (F : Planned → Type 0) (d : DrivesSeen) (failed : (code : ℕ) → F 
       after_drive F d failed drive (λ addr. old_named e (In k old Done) >>= (λ o. name_given e name >>= (λ x. Ok (saves addr o x (lines_saved lines)))))
       (λ addr listed. after_value F d failed (old_named e (In k old Done)) (λ o. name_given e name >>= (λ x. Ok (saves addr o x (lines_saved lines))))
       (λ o. after_name F d failed e name (λ x. Ok (saves addr o x (lines_saved lines)))
-      (λ x named. asks (saves addr o x (lines_saved lines)) (record { listed = (listed, tt); terminal = refl; homes = refl; legal = named }) refl)))
+      (λ x named. asks (saves addr o x (lines_saved lines)) (record { listed = (listed, tt); terminal = refl; homes = inl refl; legal = named }) refl)))
   save_asked e t = failed S18_ALPHA
 
-  load_asked : (e : Context) (declared : Option (List ℕ)) (program : Bool) (t : Trees) → Asked (asks_to_load d e declared program t)
+  load_asked : (e : Context) (declared : Option (List ℕ)) (program : Bool) (t : Trees) → Asked (asks_to_load d e declared homes program t)
   unfolding Asked
   load_asked e declared program (Put word (In k run (In n drive (In m name end)))) =
-      after_drive F d failed drive (λ addr. name_given e name >>= (λ x. Ok (access.LoadProgram addr x (k == 1 || program) (given_up (k == 1 || program) declared) 0)))
-      (λ addr listed. after_value F d failed (name_given e name) (λ x. Ok (access.LoadProgram addr x (k == 1 || program) (given_up (k == 1 || program) declared) 0))
-      (λ x. asks (access.LoadProgram addr x (k == 1 || program) (given_up (k == 1 || program) declared) 0) (record { listed = (listed, tt); terminal = refl; homes = refl; legal = tt }) refl))
+      after_drive F d failed drive (λ addr. name_given e name >>= (λ x. Ok (access.LoadProgram addr x (k == 1 || program) (given_up (k == 1 || program) declared) homes)))
+      (λ addr listed. after_value F d failed (name_given e name) (λ x. Ok (access.LoadProgram addr x (k == 1 || program) (given_up (k == 1 || program) declared) homes))
+      (λ x. asks (access.LoadProgram addr x (k == 1 || program) (given_up (k == 1 || program) declared) homes) (record { listed = (listed, tt); terminal = refl; homes = inr refl; legal = tt }) refl))
   load_asked e declared program t = failed S18_ALPHA
 
-  each_asked : (e : Context) (declared : Option (List ℕ)) (program : Bool) (r : ℕ) (t : Trees) → F (asks_or_fails (asked_of d e declared program r t))
+  each_asked : (e : Context) (declared : Option (List ℕ)) (program : Bool) (r : ℕ) (t : Trees) → F (asks_or_fails (asked_of d e declared homes program r t))
   unfolding Asked
   each_asked e declared program r t =
       either Asked (r == row.SAVE) _ _ (save_asked e t)
@@ -59,7 +72,7 @@ module _ (F : Planned → Type 0) (d : DrivesSeen) (failed : (code : ℕ) → F 
 
 -- so also of what the statement at a place plans
 module _ (devices : List Device) (me : Private) (s : SeenLent) (F : Planned → Type 0) (ready : F (planned.Done outcome.Ready)) (failed : (code : ℕ) → F (planned.Done (outcome.Failed code)))
-    (asks : (a : Access) → Fits devices me.part a → holders_changed a ≡ [] → F (planned.Ask a)) where
+    (asks : (a : Access) → FitsHere devices me.part (homes_entered me.stack) a → holders_changed a ≡ [] → F (planned.Ask a)) where
   Each : Working → Type 0
   Each k = F (planned_of k)
 
@@ -67,4 +80,4 @@ module _ (devices : List Device) (me : Private) (s : SeenLent) (F : Planned → 
   unfolding Each
   each_planned =
       each_course is_refused stops (does devices me s) me s Each ready (failed S26_PROGRAM_ONLY)
-      (λ p is u. each_asked F (drives_of devices me) failed asks (context_of (work_in (setting_of me) s.home me.vars s.globals)) me.declared (is_some p.line) u.row u.tree)
+      (λ p is u. each_asked F (drives_of devices me) failed (homes_entered me.stack) asks (context_of (work_in (setting_of me) s.home me.vars s.globals)) me.declared (is_some p.line) u.row u.tree)

@@ -18,16 +18,16 @@ use Rattle.b2_drive.specs.Drives.{DrivesSeen, drive_used}
 use Rattle.b2_drive.specs.FileNames.{name_given}
 
 -- The drive first, and then the name. It replaces the lines where it is typed with RUN, and where it stands in a line of the program.
--- So does the name go that is declared.
+-- So does the name go that is declared; and the texts that calls entered are given back either way.
 abbrev pub given_up : Bool → Option (List ℕ) → Option (List ℕ)
 given_up replace declared = if replace then declared else None
 
-abbrev pub asks_for : DrivesSeen → Context → Option (List ℕ) → Bool → Trees → Trees → Result Access ℕ
-asks_for d e declared replace drive name = drive_used d drive >>= (λ addr. name_given e name >>= (λ name. Ok (access.LoadProgram addr name replace (given_up replace declared) 0)))
+abbrev pub asks_for : DrivesSeen → Context → Option (List ℕ) → ℕ → Bool → Trees → Trees → Result Access ℕ
+asks_for d e declared homes replace drive name = drive_used d drive >>= (λ addr. name_given e name >>= (λ name. Ok (access.LoadProgram addr name replace (given_up replace declared) homes)))
 
-abbrev pub asks_to_load : DrivesSeen → Context → Option (List ℕ) → Bool → Trees → Result Access ℕ
-asks_to_load d e declared program (Put word (In k run (In n drive (In m name end)))) = asks_for d e declared (k == 1 || program) drive name
-asks_to_load d e declared program t = Err S18_ALPHA
+abbrev pub asks_to_load : DrivesSeen → Context → Option (List ℕ) → ℕ → Bool → Trees → Result Access ℕ
+asks_to_load d e declared homes program (Put word (In k run (In n drive (In m name end)))) = asks_for d e declared homes (k == 1 || program) drive name
+asks_to_load d e declared homes program t = Err S18_ALPHA
 
 -- Whether an access loads a program, and then whether that replaces the lines. The text has changed once it is done, so this isn't
 -- looked up in the statement again.

@@ -7,6 +7,7 @@ use Rattle.b2_expr.specs.Scope.{Context}
 use Rattle.b2_expr.specs.Value.{context_of}
 use Rattle.b2_expr.specs.Workspace.{work_in}
 use Rattle.b2_text.specs.Program.{Lines}
+use Rattle.b2_access.specs.Borrowers.{homes_entered}
 use Rattle.b2_access.specs.Courses.{Here, course}
 use Rattle.b2_access.specs.Lending.{SeenLent}
 use Rattle.b2_access.specs.Partition.{setting_of}
@@ -29,15 +30,15 @@ abbrev pub is_refused : ℕ → Bool → Bool
 is_refused r program = false
 
 -- what a statement asks for, or the first code from the left
-abbrev pub asked_of : DrivesSeen → Context → Option (List ℕ) → Bool → ℕ → Trees → Result Access ℕ
-asked_of d e declared program r t =
+abbrev pub asked_of : DrivesSeen → Context → Option (List ℕ) → ℕ → Bool → ℕ → Trees → Result Access ℕ
+asked_of d e declared homes program r t =
     if r == row.SAVE then asks_to_save d e t
-    else (if r == row.LOAD then asks_to_load d e declared program t
+    else (if r == row.LOAD then asks_to_load d e declared homes program t
     else Err S27_LEFT_OUT)
 
 abbrev pub does : List Device → Private → SeenLent → Statement → Here → Working
 does devices me s u h =
-    Plans (asks_or_fails (asked_of (drives_of devices me) (context_of (work_in (setting_of me) s.home me.vars s.globals)) me.declared (is_some h.place.line) u.row u.tree))
+    Plans (asks_or_fails (asked_of (drives_of devices me) (context_of (work_in (setting_of me) s.home me.vars s.globals)) me.declared (homes_entered me.stack) (is_some h.place.line) u.row u.tree))
 
 -- what the statement at a partition's place plans, over the devices that there are
 abbrev pub works : List Device → Private → SeenLent → Working

@@ -34,12 +34,13 @@ fn ask_for(
     d: &Drives<'_>,
     e: &Env<'_>,
     declared: Option<Name8>,
+    homes: u16,
     replace: bool,
     text: &[u8],
 ) -> Result<Access, Code>
     requires drive { is_part row.DRIVE_COMMA text.now ≡ true }
     requires name { is_part row.ALPHA (after_part row.DRIVE_COMMA text.now) ≡ true }
-    ensures { result ≡ spec.asks_for (drives_seen d.now) (in_statement (surroundings e.now)) declared replace (tree_at row.DRIVE_COMMA text.now) (tree_at row.ALPHA (after_part row.DRIVE_COMMA text.now)) }
+    ensures { result ≡ spec.asks_for (drives_seen d.now) (in_statement (surroundings e.now)) declared homes replace (tree_at row.DRIVE_COMMA text.now) (tree_at row.ALPHA (after_part row.DRIVE_COMMA text.now)) }
 {
     let addr = match drive(d, text) {
         Ok(addr) => addr,
@@ -51,7 +52,7 @@ fn ask_for(
             name,
             replace,
             declared: given_up(replace, declared),
-            homes: 0,
+            homes,
         }),
         Err(code) => Err(code),
     }
@@ -63,17 +64,18 @@ pub fn ask_to_load(
     d: &Drives<'_>,
     e: &Env<'_>,
     declared: Option<Name8>,
+    homes: u16,
     program: bool,
     unit: &[u8],
 ) -> Result<Access, Code>
     requires part { is_part row.LOAD unit.now ≡ true }
-    ensures { result ≡ spec.asks_to_load (drives_seen d.now) (in_statement (surroundings e.now)) declared program (tree_at row.LOAD unit.now) }
+    ensures { result ≡ spec.asks_to_load (drives_seen d.now) (in_statement (surroundings e.now)) declared homes program (tree_at row.LOAD unit.now) }
 {
     let text = rest_after(unit, 1);
     if is_at(RUN, text) {
-        return ask_for(d, e, declared, true, rest_after(text, 1));
+        return ask_for(d, e, declared, homes, true, rest_after(text, 1));
     }
-    ask_for(d, e, declared, program, text)
+    ask_for(d, e, declared, homes, program, text)
 }
 
 /// After the lines of a program came among those of the text.

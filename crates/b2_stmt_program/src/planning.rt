@@ -12,7 +12,8 @@ ghost use Rattle.b2_stmt_program.specs.Plan as spec;
 use crate::loading::{ask_to_load, finish_with};
 use crate::saving::ask_to_save;
 use b2_access::{
-    Access, Answer, DeviceTable, Lent, Outcome, Planned, Private, setting_of, statement_placed,
+    Access, Answer, DeviceTable, Lent, Outcome, Planned, Private, homes_entered, setting_of,
+    statement_placed,
 };
 use b2_atom::rows;
 use b2_base::codes::S27_LEFT_OUT;
@@ -34,15 +35,16 @@ fn ask(
     d: &Drives<'_>,
     e: &Env<'_>,
     declared: Option<Name8>,
+    homes: u16,
     program: bool,
     unit: &RowUnit<'_>,
 ) -> Result<Access, Code>
     requires read { IsRow unit.now.row unit.now.bytes.now (tree_at unit.now.row unit.now.bytes.now) }
-    ensures { result ≡ spec.asked_of (drives_seen d.now) (in_statement (surroundings e.now)) declared program unit.now.row (tree_at unit.now.row unit.now.bytes.now) }
+    ensures { result ≡ spec.asked_of (drives_seen d.now) (in_statement (surroundings e.now)) declared homes program unit.now.row (tree_at unit.now.row unit.now.bytes.now) }
 {
     match unit.row {
         rows::SAVE => ask_to_save(d, e, unit.bytes),
-        rows::LOAD => ask_to_load(d, e, declared, program, unit.bytes),
+        rows::LOAD => ask_to_load(d, e, declared, homes, program, unit.bytes),
         _ => Err(Code::known(S27_LEFT_OUT)),
     }
 }
@@ -69,6 +71,7 @@ pub fn plan(
         return Ok(Planned::Done(Outcome::Ready));
     };
     let declared = me.declared;
+    let homes = homes_entered(&me.stack);
     let work = Workspace {
         own: &mut me.vars,
         globals: lent.globals,
@@ -78,7 +81,7 @@ pub fn plan(
         home: lent.home,
     };
     let e = surroundings_of(&work);
-    Ok(asks_or_fails(ask(&d, &e, declared, place.line.is_some(), &unit)))
+    Ok(asks_or_fails(ask(&d, &e, declared, homes, place.line.is_some(), &unit)))
 }
 
 /// How a statement finishes, by the access that it asked for and its answer, which is one that the access can have.

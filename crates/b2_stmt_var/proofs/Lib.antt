@@ -1,14 +1,13 @@
 -- The proofs of statements on variables, by what they are about.
 --
 -- NumberRows, SideRows, DataRows, ReadRows and RestoreRows have what the rows of statements say at their bytes, one fact at a
--- time. Assigned: receivers one after the other. Changed: bytes that a call changes, and what is refused. BufferRows, TurnRows,
--- LoneRows and EntryRows: the rows of INIT, of ROTATE, and of DIM and COM. LengthRows: a length is read as a sum is.
+-- time. Assigned: receivers one after the other. BufferRows, TurnRows, LoneRows and EntryRows: the rows of INIT, of ROTATE, and
+-- of DIM and COM. LengthRows: a length is read as a sum is.
 -- ReadingOrder: READ takes the literals of DATA in their order. HomesKept, KeptPlaces and Waits: what every statement leaves;
 -- LeftAlone: all of it in one record.
 pub mod NumberRows
 pub mod SideRows
 pub mod Assigned
-pub mod Changed
 pub mod BufferRows
 pub mod TurnRows
 pub mod LengthRows

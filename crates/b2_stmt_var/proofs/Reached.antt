@@ -12,7 +12,7 @@ use Rattle.b2_expr.specs.Value.{context_of, value}
 use Rattle.b2_expr.specs.Workspace.{ChangesWhereReached, Reaches, WorkLeft, WorkState, work_in}
 use Rattle.b2_expr.specs.declared.operators.Level.TheVariants as level
 use Rattle.b2_expr.proofs.Reached.{after_both, among_reaches, stay, then_reaches}
-use Rattle.b2_receiver.specs.Assigning.{buffer_code, is_global_buffer}
+use Rattle.b2_receiver.specs.Assigning.{buffer_code, bytes_changed, is_global_buffer, with_changed}
 use Rattle.b2_receiver.specs.Receivers.{any_receiver, buffer}
 use Rattle.b2_receiver.specs.Receiving.{assign_number_at, assign_side_at}
 use Rattle.b2_receiver.specs.RightSide.{Side, right_side}
@@ -29,7 +29,7 @@ use Rattle.b2_access.proofs.Tables.{each_row}
 use Rattle.b2_access.proofs.Working as form
 use Rattle.b2_alpha.specs.Bits.{rotated}
 use Rattle.b2_stmt_var.specs.Assignments.{assign_each, assign_numbers, assign_sides, assigns, numbers_by, side_of_assignment, sides_by, sum_of_assignment}
-use Rattle.b2_stmt_var.specs.Buffers.{all_filled, buffers_of_init, byte_of_init, bytes_changed, fills, fills_one, inits, turn_in, turns, with_changed}
+use Rattle.b2_stmt_var.specs.Buffers.{all_filled, buffers_of_init, byte_of_init, fills, fills_one, inits, turn_in, turns}
 use Rattle.b2_stmt_var.specs.Data.{next_literal}
 use Rattle.b2_stmt_var.specs.Dimensions.{dimensions, entries_of, entry_code, entry_in, is_com, makes, makes_found, makes_one, with_entry}
 use Rattle.b2_stmt_var.specs.Left.{Left}

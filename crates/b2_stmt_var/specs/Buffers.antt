@@ -8,11 +8,8 @@ use Rattle.b2_atom.specs.Tree.Trees.{Put, In}
 use Rattle.b2_atom.specs.declared.words.TheConstants as word
 use Rattle.b2_rows.specs.Links.{token_code}
 use Rattle.b2_rows.specs.Values.{hex_byte_of}
-use Rattle.b2_vars.specs.Calls.{with_bytes_of}
-use Rattle.b2_vars.specs.Tables.{VarsState, variable_at}
 use Rattle.b2_expr.specs.Answers.{◌>>=◌}
-use Rattle.b2_vars.specs.Assigned.{Assigned}
-use Rattle.b2_receiver.specs.Assigning.{buffer_code, is_global_buffer, portion_in, reached_by, unless_refused, with_portion}
+use Rattle.b2_receiver.specs.Assigning.{bytes_changed, is_global_buffer}
 use Rattle.b2_expr.specs.Functions.{fixed}
 use Rattle.b2_receiver.specs.Receivers.{alpha_receiver, buffer}
 use Rattle.b2_expr.specs.Scope.{Context}
@@ -24,15 +21,6 @@ use Rattle.b2_receiver.specs.declared.receiver.Buffer.TheVariants as buffer_kind
 use Rattle.b2_stmt_var.specs.Assignments.{assign_each}
 use Rattle.b2_rows.specs.CommaLists.{all_listed}
 use Rattle.b2_stmt_var.specs.declared.buffers.Turn.{Turn}
-
--- the bytes that a buffer names are changed; a scalar that isn't there is made first
-abbrev pub with_changed : (List ℕ → List ℕ) → Buffer → VarsState → VarsState
-with_changed change (buffer_kind.Value to) old = with_portion to (reached_by to old) (change (portion_in to (reached_by to old)))
-with_changed change (buffer_kind.Array a) old = with_bytes_of a.var 0 old (change (variable_at a.var old.table).bytes)
-
--- or nothing is, where it has a code
-abbrev pub bytes_changed : (List ℕ → List ℕ) → Buffer → VarsState → Assigned
-bytes_changed change to old = unless_refused (buffer_code to old) old (record { vars = with_changed change to old; code = None })
 
 -- each byte becomes the same
 abbrev pub all_filled : ℕ → List ℕ → List ℕ

@@ -3,23 +3,25 @@ ghost use Rattle.std.specs.Prelude.{◌≡◌, ◌≤ℤ◌, pos, negsuc, true, 
 ghost use Rattle.b2_alpha.specs.Bits.{rotated};
 ghost use Rattle.b2_atom.specs.declared.rows.TheConstants as row;
 ghost use Rattle.b2_rows.specs.Rows.{is_part, tree_at};
+ghost use Rattle.b2_receiver.specs.Assigning.{Ends, bytes_changed};
 ghost use Rattle.b2_receiver.specs.Receivers.{IsAlpha, IsBuffer};
 ghost use Rattle.b2_receiver.specs.declared.receiver.Buffer.TheVariants as buffer_kind;
 ghost use Rattle.b2_expr.specs.Scope.{surroundings};
 ghost use Rattle.b2_expr.specs.Value.{in_statement};
-ghost use Rattle.b2_expr.specs.Workspace.{SameReferences, on_lent, workspace};
+ghost use Rattle.b2_expr.specs.Workspace.{SameReferences, workspace};
 ghost use Rattle.b2_stmt_var.specs.Buffers as spec;
 
 use b2_alpha::rotate;
 use b2_atom::Cursor;
 use b2_atom::words::ROTATEC_OPEN;
-use b2_base::codes::{P34_RANGE, X77_NO_PARTITION};
+use b2_base::codes::P34_RANGE;
 use b2_base::lexical::rest_after;
-use b2_base::{Code, NoMemory};
+use b2_base::{Code, Fault, NoMemory};
 use b2_dec::{Dec, fix, whole};
-use b2_expr::{Env, Workspace, number, reached_after, surroundings_of};
-use b2_receiver::{AlphaReceiver, Buffer, alpha_receiver, buffer, change_buffer, code_of};
+use b2_expr::{Env, Workspace, number, surroundings_of};
+use b2_receiver::{AlphaReceiver, Buffer, alpha_receiver, buffer, change_among, change_buffer};
 use b2_rows::{hex_byte_at, is_at};
+use b2_vars::Vars;
 
 /// What ROTATE and ROTATEC ask for.
 #[derive(Clone, Copy)]
@@ -39,32 +41,22 @@ fn fill_bytes(bytes: &mut [u8], byte: u8)
     bytes.fill(byte);
 }
 
-/// Fills a buffer among the `@` variables with a byte. The code with which that ended, or none.
-#[tactic(auto, using(crate::proofs::Changed::changed_lent))]
-fn fill_lent(work: &mut Workspace<'_>, to: &Buffer, byte: u8) -> Result<Option<Code>, NoMemory>
+/// Fills a buffer with a byte. After an error all is as before.
+#[tactic(auto, using(b2_receiver::proofs::Changed::changed_ends))]
+fn fill(vars: &mut Vars, to: &Buffer, byte: u8) -> Result<(), Fault>
     requires named { IsBuffer to.now }
-    ensures worked { IfOk result (λ code. record { work = workspace work.new; code = code } ≡ on_lent (spec.bytes_changed (spec.all_filled byte) to.now) (workspace work.old).globals.vars (workspace work.old)) }
-    ensures same_references { SameReferences work.old work.new }
+    ensures { Ends (bytes_changed (spec.all_filled byte) to.now vars.old) vars.old vars.new result }
 {
-    if !work.found {
-        return Ok(Some(Code::known(X77_NO_PARTITION)));
-    }
-    let code = code_of(change_buffer(work.globals, to, |bytes| fill_bytes(bytes, byte)))?;
-    work.reached = reached_after(work.reached, &code);
-    Ok(code)
+    change_buffer(vars, to, |bytes| fill_bytes(bytes, byte))
 }
 
-/// Fills a buffer with a byte. The code with which that ended, or none.
-#[tactic(auto, using(crate::proofs::Changed::changed_work))]
+/// Fills a buffer with a byte, wherever it is. The code with which that ended, or none.
 fn fill_buffer(work: &mut Workspace<'_>, to: &Buffer, byte: u8) -> Result<Option<Code>, NoMemory>
     requires named { IsBuffer to.now }
     ensures worked { IfOk result (λ code. record { work = workspace work.new; code = code } ≡ spec.fills byte (Ok to.now) (workspace work.old)) }
     ensures same_references { SameReferences work.old work.new }
 {
-    if to.is_global() {
-        return fill_lent(work, to, byte);
-    }
-    code_of(change_buffer(work.own, to, |bytes| fill_bytes(bytes, byte)))
+    change_among(work, to.is_global(), |vars| fill(vars, to, byte))
 }
 
 /// The byte that INIT fills with.
@@ -152,26 +144,19 @@ fn turn_bytes(bytes: &mut [u8], asked: &Turn)
     rotate(bytes, asked.bits, asked.whole);
 }
 
-/// Turns the bits of a receiver among the `@` variables. The code with which that ended, or none.
-#[tactic(auto, using(crate::proofs::Changed::changed_lent))]
-fn turn_lent(work: &mut Workspace<'_>, asked: &Turn) -> Result<Option<Code>, NoMemory>
+/// Turns the bits of a receiver. After an error all is as before.
+#[tactic(auto, using(b2_receiver::proofs::Changed::changed_ends))]
+fn turn_receiver(vars: &mut Vars, asked: &Turn) -> Result<(), Fault>
     requires named { IsAlpha asked.now.to.element.var }
     requires low { negsuc 7 ≤ℤ asked.now.bits }
     requires high { asked.now.bits ≤ℤ pos 8 }
-    ensures worked { IfOk result (λ code. record { work = workspace work.new; code = code } ≡ on_lent (spec.bytes_changed (rotated asked.now.whole asked.now.bits) (buffer_kind.Value asked.now.to)) (workspace work.old).globals.vars (workspace work.old)) }
-    ensures same_references { SameReferences work.old work.new }
+    ensures { Ends (bytes_changed (rotated asked.now.whole asked.now.bits) (buffer_kind.Value asked.now.to) vars.old) vars.old vars.new result }
 {
-    if !work.found {
-        return Ok(Some(Code::known(X77_NO_PARTITION)));
-    }
     let to = Buffer::Value(asked.to);
-    let code = code_of(change_buffer(work.globals, &to, |bytes| turn_bytes(bytes, asked)))?;
-    work.reached = reached_after(work.reached, &code);
-    Ok(code)
+    change_buffer(vars, &to, |bytes| turn_bytes(bytes, asked))
 }
 
-/// Turns the bits of a receiver. The code with which that ended, or none.
-#[tactic(auto, using(crate::proofs::Changed::changed_work))]
+/// Turns the bits of a receiver, wherever it is. The code with which that ended, or none.
 fn turn_bits(work: &mut Workspace<'_>, asked: &Turn) -> Result<Option<Code>, NoMemory>
     requires named { IsAlpha asked.now.to.element.var }
     requires low { negsuc 7 ≤ℤ asked.now.bits }
@@ -179,11 +164,11 @@ fn turn_bits(work: &mut Workspace<'_>, asked: &Turn) -> Result<Option<Code>, NoM
     ensures worked { IfOk result (λ code. record { work = workspace work.new; code = code } ≡ spec.turns (Ok asked.now) (workspace work.old)) }
     ensures same_references { SameReferences work.old work.new }
 {
-    if asked.to.element.global {
-        return turn_lent(work, asked);
-    }
-    let to = Buffer::Value(asked.to);
-    code_of(change_buffer(work.own, &to, |bytes| turn_bytes(bytes, asked)))
+    change_among(
+        work,
+        asked.to.element.global,
+        |vars| turn_receiver(vars, asked),
+    )
 }
 
 /// ROTATE and ROTATEC: turns the bits of a receiver. The code with which that ended, or none.

@@ -1,17 +1,17 @@
 // DIM and COM: the variables that they make.
-ghost use Rattle.std.specs.Prelude.{◌≡◌, ◌==◌, true, false, IfOk, OnErr, OnOk, Ok};
+ghost use Rattle.std.specs.Prelude.{◌≡◌, ◌==◌, true, false, IfOk, Ok};
 ghost use Rattle.b2_base.specs.Byte as byte;
 ghost use Rattle.b2_base.specs.Lexical.{first};
 ghost use Rattle.b2_atom.specs.declared.forms.Start.TheVariants as start;
 ghost use Rattle.b2_atom.specs.declared.rows.TheConstants as row;
 ghost use Rattle.b2_rows.specs.Optional.{after_maybe, maybe_part, maybe_tree};
 ghost use Rattle.b2_rows.specs.Rows.{after_part, is_part, tree_at};
-ghost use Rattle.b2_vars.specs.Answers.{AnswersOrFails};
 ghost use Rattle.b2_vars.specs.Names.{is_legal_name};
+ghost use Rattle.b2_receiver.specs.Assigning.{Ends};
 ghost use Rattle.b2_expr.specs.Reads.{Gives};
 ghost use Rattle.b2_expr.specs.Scope.{surroundings};
 ghost use Rattle.b2_expr.specs.Value.{in_statement};
-ghost use Rattle.b2_expr.specs.Workspace.{SameReferences, on_lent, workspace};
+ghost use Rattle.b2_expr.specs.Workspace.{SameReferences, workspace};
 ghost use Rattle.b2_stmt_var.specs.Dimensions as spec;
 
 use b2_atom::words::COM;
@@ -20,8 +20,8 @@ use b2_base::lexical::rest_after;
 use b2_base::{Code, Fault, NoMemory};
 use b2_dec::{fix, whole};
 use b2_dims::{array_shape_at, number_at, tested_length};
-use b2_expr::{Env, Workspace, reached_after, surroundings_of, variable_of};
-use b2_receiver::code_of;
+use b2_expr::{Env, Workspace, surroundings_of, variable_of};
+use b2_receiver::change_among;
 use b2_rows::{Name, alpha_name, is_alpha_at, is_at, is_numeric_at, numeric_name};
 use b2_vars::{Shape, USUAL_LENGTH, Var, Vars};
 
@@ -152,11 +152,10 @@ fn dimensioned_at<'t>(e: &Env<'_>, text: &'t [u8]) -> Result<(Entry, &'t [u8]), 
 }
 
 /// Makes a variable. Codes come as for `dim` and `com`.
+#[tactic(auto, using(b2_receiver::proofs::Ended::ends_by))]
 fn make(vars: &mut Vars, common: bool, entry: Entry) -> Result<(), Fault>
     requires named { is_legal_name entry.var ≡ true }
-    ensures ok { OnOk result (vars.new ≡ spec.with_entry common entry vars.old) }
-    ensures code { AnswersOrFails (spec.entry_code common entry vars.old) result }
-    ensures err { OnErr result (vars.new ≡ vars.old) }
+    ensures { Ends (spec.makes common entry vars.old) vars.old vars.new result }
 {
     if common {
         vars.com(entry.var, entry.shape)
@@ -165,23 +164,7 @@ fn make(vars: &mut Vars, common: bool, entry: Entry) -> Result<(), Fault>
     }
 }
 
-/// Makes a variable among the `@` variables. The code with which that ended, or none.
-#[tactic(auto, using(crate::proofs::Changed::kept_lent))]
-fn make_lent(work: &mut Workspace<'_>, common: bool, entry: Entry) -> Result<Option<Code>, NoMemory>
-    requires named { is_legal_name entry.var ≡ true }
-    ensures worked { IfOk result (λ code. record { work = workspace work.new; code = code } ≡ on_lent (spec.makes common entry) (workspace work.old).globals.vars (workspace work.old)) }
-    ensures same_references { SameReferences work.old work.new }
-{
-    if !work.found {
-        return Ok(Some(Code::known(X77_NO_PARTITION)));
-    }
-    let code = code_of(make(work.globals, common, entry))?;
-    work.reached = reached_after(work.reached, &code);
-    Ok(code)
-}
-
-/// Makes a variable. The code with which that ended, or none.
-#[tactic(auto, using(crate::proofs::Changed::kept_work))]
+/// Makes a variable, wherever it is to be. The code with which that ended, or none.
 fn make_entry(
     work: &mut Workspace<'_>,
     common: bool,
@@ -191,10 +174,7 @@ fn make_entry(
     ensures worked { IfOk result (λ code. record { work = workspace work.new; code = code } ≡ spec.makes_found common (Ok entry) (workspace work.old)) }
     ensures same_references { SameReferences work.old work.new }
 {
-    if entry.global {
-        return make_lent(work, common, entry);
-    }
-    code_of(make(work.own, common, entry))
+    change_among(work, entry.global, |vars| make(vars, common, entry))
 }
 
 /// DIM and COM: makes variables, from left to right. The code with which that ended, or none.
