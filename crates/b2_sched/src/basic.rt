@@ -99,7 +99,7 @@ impl Language for Basic {
     ) -> Result<Planned, NoMemory> {
         match family_of(found.unit.row) {
             Family::Variables => b2_stmt_var::plan(alloc, me, lent, devices),
-            Family::Control => b2_stmt::plan(alloc, me, lent, devices),
+            Family::Control => b2_stmt::plan_found(alloc, me, lent, found),
             Family::Printing => b2_stmt_io::plan_found(alloc, me, lent, devices, found.unit),
             Family::Terminal => b2_stmt_io::plan_found(alloc, me, lent, devices, found.unit),
             Family::Arrays => b2_stmt_mat::plan(alloc, me, lent, devices),

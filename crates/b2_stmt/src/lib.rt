@@ -27,4 +27,4 @@ mod planning;
 
 pub use clearing::asks_access;
 pub use finishing::finish;
-pub use planning::{execute, is_built, plan};
+pub use planning::{execute, is_built, plan, plan_found};

@@ -281,6 +281,29 @@ fn plan_unit(
     plan_allowed(alloc, me, lent, found)
 }
 
+/// What a statement plans that its caller has found, over what is lent.
+pub fn plan_found(
+    alloc: Global,
+    me: &mut Private,
+    lent: &mut Lent<'_>,
+    found: &Found<'_>,
+) -> Result<Planned, NoMemory>
+    requires read { IsRead found.now }
+    ensures planned { IfOk result (λ p. record { me = me.new; globals = globals_lent lent.new; planned = p } ≡ permitted spec.is_refused (spec.stops me.old (seen_lent lent.old)) (spec.does me.old (seen_lent lent.old)) (statement_found found.now) (here_found found.now)) }
+    ensures same_texts { (lent.new.own ≡ lent.old.own) × (lent.new.home ≡ lent.old.home) }
+    ensures same_reference { lent.new.globals.ghost_name ≡ lent.old.globals.ghost_name }
+    ensures part { me.new.part ≡ me.old.part }
+{
+    let here = Found {
+        own: lent.own,
+        home: lent.home,
+        line: found.line,
+        unit: found.unit,
+        place: found.place,
+    };
+    plan_unit(alloc, me, lent, &here)
+}
+
 /// What the unit at a place on a line plans.
 fn plan_on(
     alloc: Global,
