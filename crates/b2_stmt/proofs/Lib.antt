@@ -5,7 +5,9 @@
 -- unit by its row and its tree. Erased: what CLEAR P asks for. EachPlan: what is planned and how it ends, case by case. HomesKept: which partitions a statement names as homes.
 -- KeptPlaces: where it stands, at which terminal, and what it keeps for CONTINUE. Waits: what has to wait.
 -- Reached: what becomes of the `@` variables. PartsCame: what came of a name. LeftAlone: all of
--- these in one record.
+-- these in one record. AskedSo: why an access is asked for. Standing: how many calls entered each text, and where it stands in
+-- those of others, as it plans and as it finishes; and that it enters only those of others. Crates above cite its `plans_standing`,
+-- `finishes_standing` and `enters_others`.
 pub mod GoalUnits
 pub mod Framed
 pub mod BranchRows

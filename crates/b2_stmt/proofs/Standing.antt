@@ -1,30 +1,28 @@
 -- A statement of control leaves how many of its frames entered each text, but for one that enters or leaves a text or gives all back; and
 -- where the partition stood in the texts of others above calls that entered them, it does so after it.
-use Rattle.std.proofs.Common.{◌≡◌, ◌≤◌, ◌∙◌, ◌==◌, ◌||◌, ◌&&◌, ◌+◌, ◌-◌, ℕ, Bool, true, false, nat_lt, List, [], ◌∷◌, length, Option, Some, None, Result, Ok, Err, is_some, refl, sym, ap, subst, arith, if◌then◌else◌}
+use Rattle.std.proofs.Common.{◌≡◌, ◌≤◌, ◌∙◌, ◌==◌, ◌||◌, ◌&&◌, ◌+◌, ◌-◌, ℕ, Bool, true, false, nat_lt, List, [], ◌∷◌, length, Option, Some, None, Ok, Err, is_some, refl, sym, ap, subst, arith, if◌then◌else◌}
 use Rattle.std.proofs.lemmas.Bool.Decides.{nat_tests}
-use Rattle.b2_access.specs.Homes.{OutcomeIn}
-use Rattle.b2_stmt.specs.Borrowing.{asks_of_others, asks_to_drop, asks_to_leave, finds_line}
-use Rattle.b2_stmt.specs.Course.{continues, runs, runs_where, stops_program}
+use Rattle.b2_access.specs.Homes.{OutcomeIn, PlaceIn}
 use Rattle.std.specs.List.{filter, list_any}
 use Rattle.b2_dec.specs.Number.{Number}
 use Rattle.b2_dec.specs.declared.values.Value.{Value}
 use Rattle.b2_text.specs.Program.{Lines, line_at, number_after}
-use Rattle.b2_text.specs.Spots.{first_opening, is_mark, or_else}
+use Rattle.b2_text.specs.Spots.{first_opening, is_mark}
 use Rattle.b2_text.specs.declared.spots.Spot.{Spot}
-use Rattle.b2_flow.specs.Frames.{enters, is_call, is_loop, is_loop_of}
-use Rattle.b2_flow.specs.Stacks.{entered_last, entered_on_top, from_call, from_first, from_loop, has_call, has_loop, has_room, most_frames, open_loops, top_loop, without_top_loop}
+use Rattle.b2_flow.specs.Frames.{enters, is_call, is_entered, is_loop_of}
+use Rattle.b2_flow.specs.Stacks.{entered_last, entered_on_top, from_call, from_first, from_loop, has_call, has_loop, has_room, most_frames, top_loop, without_top_loop}
 use Rattle.b2_flow.specs.declared.frame.Frame.{Frame}
 use Rattle.b2_flow.specs.declared.frame.Frame.TheVariants.{For, Call}
 use Rattle.b2_flow.specs.declared.frame.Place.{Place}
 use Rattle.b2_flow.specs.declared.frame.Var2.{Var2}
 use Rattle.b2_flow.proofs.Loops.{no_call_dropped}
-use Rattle.b2_access.specs.Standing.{EndsStanding, FramesStand, LeadsStanding, PlaceStands, PlansStanding, Stands, entered_in, is_open}
-use Rattle.b2_access.specs.Steering.{Steered, control_of, steered, unsteered}
+use Rattle.b2_access.specs.Standing.{EndsStanding, FinishesStanding, FramesStand, LeadsStanding, PlaceStands, PlansStanding, SeenAgain, Stands, entered_in, is_open}
+use Rattle.b2_access.specs.Steering.{Steered, control_of, put_control, steered, unsteered}
 use Rattle.b2_access.specs.declared.planned.Outcome.{Outcome}
 use Rattle.b2_access.specs.declared.planned.Outcome.TheVariants as outcome
 use Rattle.b2_access.specs.declared.private.Private.{Private}
 use Rattle.b2_access.proofs.Choice.{either}
-use Rattle.b2_base.specs.declared.codes.TheConstants.{A04_TOO_DEEP, P36_NO_LINE, P40_NO_FOR, P41_NO_CALL, P46_NOTHING_KEPT, S26_PROGRAM_ONLY}
+use Rattle.b2_base.specs.declared.codes.TheConstants.{A04_TOO_DEEP, A08_TEXT_BORROWED, P36_NO_LINE, P40_NO_FOR, P41_NO_CALL, P46_NOTHING_KEPT, S26_PROGRAM_ONLY, X77_NO_PARTITION}
 use Rattle.b2_atom.specs.declared.rows.TheConstants as row
 use Rattle.b2_expr.specs.Workspace.{WorkLeft}
 use Rattle.b2_access.specs.Borrowers.{homes_entered, is_marked}
@@ -34,25 +32,35 @@ use Rattle.b2_access.specs.Lending.{SeenLent}
 use Rattle.b2_access.specs.Placed.{Statement}
 use Rattle.b2_access.specs.Places.{line_start}
 use Rattle.b2_access.specs.Planning.{Planning, done, goes_or}
+use Rattle.b2_access.specs.Entering.{entered_after}
+use Rattle.b2_access.specs.Partition.{KeepsNone, without_frames}
 use Rattle.b2_access.specs.declared.accesses.Access.{Access}
+use Rattle.b2_access.specs.declared.accesses.Access.TheVariants as access
+use Rattle.b2_access.specs.declared.accesses.Answer.{Answer}
+use Rattle.b2_access.specs.declared.accesses.Answer.TheVariants as answer
 use Rattle.b2_access.specs.declared.planned.Planned.{Planned as PlannedState}
 use Rattle.b2_access.specs.declared.planned.Planned.TheVariants as planned
 use Rattle.b2_access.proofs.Courses.{each_course}
 use Rattle.b2_stmt.specs.Asked.{carried, is_still, still}
-use Rattle.b2_stmt.specs.Clearing.{asked_access}
-use Rattle.b2_stmt.specs.Plan.{acts, acts_unless, around, asked_by, by_access, does, is_refused, plan, plans_asked, stops}
+use Rattle.b2_stmt.specs.Clearing.{asked_access, edit_finishes}
+use Rattle.b2_stmt.specs.Plan.{acts, acts_unless, around, asked_at, asked_by, by_access, does, ends_at, finish, is_refused, plan, plans_asked, stops}
+use Rattle.b2_stmt.specs.Parts.{PartCame, declares, part_came, part_ends, selects_part}
 use Rattle.b2_stmt.specs.declared.asked.Asked.{Asked}
 use Rattle.b2_stmt.specs.declared.asked.Asked.TheVariants as asked
+use Rattle.b2_stmt.proofs.AskedSo.{AskedFor, Calls, GivesBack, asked_open, asked_so}
+use Rattle.b2_stmt.proofs.PartsCame.{each_part}
 use Rattle.b2_stmt.proofs.HomesKept.{AskedIn, asked_in, either_in, spot_in, still_in}
 use Rattle.b2_expr.specs.Answers.{Answer as NumberAnswer}
 use Rattle.b2_expr.specs.Named.{number_there}
 use Rattle.b2_receiver.specs.Assigning.{assigned_number}
 use Rattle.b2_access.specs.Going.{to_place}
 use Rattle.b2_access.specs.Working.{work_of}
-use Rattle.b2_stmt.specs.Calls.{back_from, called_where, goes_back, leaves_call, may_forget_all}
+use Rattle.b2_stmt.specs.Borrowing.{EntersOthers, asks_of_others, asks_to_drop, asks_to_leave, enters as goes_in, finds_line, lent_came, lent_ends}
+use Rattle.b2_stmt.specs.Calls.{back_from, called_where, forgets_all, goes_back, leaves_call, may_forget_all}
+use Rattle.b2_stmt.specs.Course.{continues, runs, runs_from, runs_where, stops_program}
 use Rattle.b2_stmt.specs.Frames.{with_frame}
 use Rattle.b2_stmt.specs.Loops.{goes_round, is_over, loop_begins, loop_counts, loop_element, made_loop, next_value, nexts, tested, without_loop}
-use Rattle.b2_stmt.specs.Marked.{calls_mark, code_of_none, ends_taken, ends_with_args, mark_in, mark_place, takes_args}
+use Rattle.b2_stmt.specs.Marked.{calls_into, calls_mark, code_of_none, ends_taken, ends_with_args, mark_in, mark_place, place_in, takes_args}
 use Rattle.b2_stmt.specs.declared.loops.Loop.{Loop}
 
 same_number : (n : ℕ) → (n == n) ≡ true
@@ -381,3 +389,231 @@ given_back g fs low high = by (list_any (enters g) fs) refl
     by : (b : Bool) → list_any (enters g) fs ≡ b → 0 ≡ (if is_marked g (homes_entered fs) then 0 else entered_in g fs)
     by true is = sym (ap (λ (b : Bool). if b then 0 else entered_in g fs) (marked_is fs g low high ∙ is))
     by false is = sym (ap (λ (b : Bool). if b then 0 else entered_in g fs) (marked_is fs g low high ∙ is) ∙ none_entered g fs is)
+
+same_test : (g h : ℕ) → (g == h) ≡ (h == g)
+same_test g h = grind (arith, nat_tests)
+
+one_more : (k : ℕ) → nat_lt 0 (k + 1) ≡ true
+one_more k = grind (arith, nat_tests)
+
+one_less : (k n : ℕ) → k + 1 ≡ n → k ≡ n - 1
+one_less k n is = grind (arith)
+
+-- one frame more, and one less
+entered_more : (b c : Bool) (k : ℕ) → b ≡ c → (if b then k + 1 else k) ≡ (if c then k + 1 else k)
+entered_more b c k is = ap (λ (b : Bool). if b then k + 1 else k) is
+
+entered_less : (b : Bool) (k n : ℕ) → (if b then k + 1 else k) ≡ n → k ≡ (if b then n - 1 else n)
+entered_less true k n is = one_less k n is
+entered_less false k n is = is
+
+-- what was open stays so under one frame more
+more_open : (b c : Bool) (k : ℕ) → (b || nat_lt 0 k) ≡ true → (b || nat_lt 0 (if c then k + 1 else k)) ≡ true
+more_open true c k is = refl
+more_open false true k is = one_more k
+more_open false false k is = is
+
+still_placed : (p : ℕ) (back : Option Place) (entered : Option ℕ) (fs : List Frame) (o : Option Place) → PlaceStands p fs o → PlaceStands p (Call back entered ∷ fs) o
+still_placed p back entered fs None w = tt
+still_placed p back entered fs (Some q) w = more_open (q.home == p) (enters q.home (Call back entered)) (entered_in q.home fs) w
+
+-- the text that it entered is open
+opened : (p h : ℕ) (back : Option Place) (fs : List Frame) → is_open p (Call back (Some h) ∷ fs) h ≡ true
+opened p h back fs = ap (λ (b : Bool). h == p || nat_lt 0 (if b then entered_in h fs + 1 else entered_in h fs)) (same_number h) ∙ by (h == p)
+  where
+    by : (b : Bool) → (b || nat_lt 0 (entered_in h fs + 1)) ≡ true
+    by true = refl
+    by false = one_more (entered_in h fs)
+
+-- without a call nothing was entered last
+none_last : (fs : List Frame) → has_call fs ≡ false → entered_last fs ≡ None
+none_last [] none = refl
+none_last (For v limit step body ∷ fs) none = none_last fs none
+none_last (Call back entered ∷ fs) none = cc
+
+module _ (me : Private) (w : Stands me) where
+  Ends : Access → Answer → Steered → Type 0
+  Ends x a e = EndsStanding me (put_control e.control me) e.outcome × ((g : ℕ) → 1 ≤ g → g ≤ 16 → entered_in g e.control.stack ≡ entered_after x a g (entered_in g me.stack))
+
+  own_alone : is_open me.part [] me.part ≡ true
+  own_alone = ap (λ (b : Bool). b || nat_lt 0 0) (same_number me.part)
+
+  -- nothing was changed of the frames and of what is kept
+  unchanged : (x : Access) (a : Answer) (e : Steered) → e.control.stack ≡ me.stack → e.control.kept ≡ me.kept → LeadsStanding me.part me.stack me.place e.outcome → ((g k : ℕ) → k ≡ entered_after x a g k) → Ends x a e
+  unfolding Ends
+  unchanged x a e stack kept leads after = (
+    record {
+      kept = subst (λ (fs : List Frame). PlaceStands me.part fs e.control.kept) (sym stack) (subst (PlaceStands me.part me.stack) (sym kept) w.kept);
+      frames = subst (FramesStand me.part) (sym stack) w.frames;
+      leads = subst (λ (fs : List Frame). LeadsStanding me.part fs me.place e.outcome) (sym stack) leads;
+    },
+    λ g low high. ap (entered_in g) stack ∙ after g (entered_in g me.stack),
+  )
+
+  -- no frame is left, and nothing is kept
+  all_given : (x : Access) (a : Answer) (e : Steered) (homes : ℕ) → homes ≡ homes_entered me.stack → e.control.stack ≡ [] → e.control.kept ≡ None → LeadsStanding me.part [] me.place e.outcome
+      → ((g k : ℕ) → (if is_marked g homes then 0 else k) ≡ entered_after x a g k) → Ends x a e
+  unfolding Ends
+  all_given x a e homes is stack kept leads after = (
+    record {
+      kept = subst (PlaceStands me.part e.control.stack) (sym kept) tt;
+      frames = subst (FramesStand me.part) (sym stack) tt;
+      leads = subst (λ (fs : List Frame). LeadsStanding me.part fs me.place e.outcome) (sym stack) leads;
+    },
+    λ g low high.
+        ap (entered_in g) stack ∙ given_back g me.stack low high ∙ sym (ap (λ (n : ℕ). if is_marked g n then 0 else entered_in g me.stack) is) ∙ after g (entered_in g me.stack),
+  )
+
+  -- the step is repeated, or a code came
+  repeats : (x : Access) (a : Answer) → ((g k : ℕ) → k ≡ entered_after x a g k) → Ends x a (unsteered me outcome.Repeat)
+  repeats x a after = unchanged x a (unsteered me outcome.Repeat) refl refl w.place after
+
+  refused : (x : Access) (a : Answer) (code : ℕ) → ((g k : ℕ) → k ≡ entered_after x a g k) → Ends x a (unsteered me (outcome.Failed code))
+  refused x a code after = unchanged x a (unsteered me (outcome.Failed code)) refl refl w.place after
+
+  -- lines that are cleared, and names
+  all_cleared : (name : Option (List ℕ)) (homes : ℕ) (a : Answer) → homes ≡ homes_entered me.stack → Ends (access.ClearAll name homes) a (edit_finishes (access.ClearAll name homes) a me)
+  all_cleared name homes answer.Done is = all_given (access.ClearAll name homes) answer.Done _ homes is refl refl tt (λ g k. refl)
+  all_cleared name homes (answer.Locked q) is = refused (access.ClearAll name homes) (answer.Locked q) A08_TEXT_BORROWED (λ g k. refl)
+  all_cleared name homes a is = repeats (access.ClearAll name homes) a (λ g k. refl)
+
+  erased : (from to homes : ℕ) (a : Answer) → homes ≡ homes_entered me.stack → Ends (access.Erase from to homes) a (edit_finishes (access.Erase from to homes) a me)
+  erased from to homes answer.Done is = all_given (access.Erase from to homes) answer.Done _ homes is refl refl tt (λ g k. refl)
+  erased from to homes (answer.Locked q) is = refused (access.Erase from to homes) (answer.Locked q) A08_TEXT_BORROWED (λ g k. refl)
+  erased from to homes a is = repeats (access.Erase from to homes) a (λ g k. refl)
+
+  named : (x : Access) (a : Answer) (k : PartCame) → ((g k : ℕ) → k ≡ entered_after x a g k) → Ends x a (part_ends k (unsteered me outcome.Repeat) me)
+  named x a k after =
+      each_part (Ends x a) me (λ name. unchanged x a (declares name me) refl refl w.place after) (λ name. unchanged x a (selects_part name me) refl refl w.place after) k (unsteered me outcome.Repeat)
+      (λ code. refused x a code after) (repeats x a after)
+
+  -- a text is entered: the call stands on top
+  called_there : (h : ℕ) (q : Place) (args : List Value) (back : Option Place) (name : List ℕ) (mark : ℕ) (spot : Spot) → q.home ≡ h → has_room me.stack ≡ true → PlaceStands me.part me.stack back
+      → Ends (access.Enter name mark) (answer.Entered h spot) (calls_into (Some h) q args back me)
+  unfolding Ends
+  called_there h q args back name mark spot home room stands =
+      let e : Steered = record { control = record (control_of me) { work = record (work_of me) { args = Some args }; stack = Call back (Some h) ∷ me.stack }; outcome = outcome.Jump q } in
+      subst (λ (b : Bool). Ends (access.Enter name mark) (answer.Entered h spot) (if b then e else unsteered me (outcome.Failed A04_TOO_DEEP))) (sym room) (
+        record {
+          kept = still_placed me.part back (Some h) me.stack me.kept w.kept;
+          frames = (stands, w.frames);
+          leads = subst (λ (n : ℕ). is_open me.part (Call back (Some h) ∷ me.stack) n ≡ true) (sym home) (opened me.part h back me.stack);
+        },
+        λ g low high. entered_more (h == g) (g == h) (entered_in g me.stack) (same_test h g),
+      )
+
+  enters_there : (s : SeenLent) (h : ℕ) (spot : Spot) (name : List ℕ) (mark : ℕ) (x : Asked) → Calls me s mark x → AskedIn (is_open me.part me.stack) x
+      → Ends (access.Enter name mark) (answer.Entered h spot) (goes_in h spot x me)
+  unfolding Calls AskedIn
+  enters_there s h spot name mark (asked.CallMark n args back) why open_there = called_there h (place_in h spot) args back name mark spot refl why.0 (stands_so back open_there)
+    where
+      stands_so : (back : Option Place) → PlaceIn (is_open me.part me.stack) back → PlaceStands me.part me.stack back
+      stands_so None k = tt
+      stands_so (Some q) k = k
+  enters_there s h spot name mark x why open_there = absurd why
+
+  entered : (s : SeenLent) (q : Place) (name : List ℕ) (mark : ℕ) (a : Answer) → Calls me s mark (asked_at me s)
+      → Ends (access.Enter name mark) a (lent_ends (lent_came (access.Enter name mark) a) (asked_at me s) q me s.own.lines s.home.lines (edit_finishes (access.Enter name mark) a me))
+  entered s q name mark (answer.Entered h spot) why = enters_there s h spot name mark (asked_at me s) why (asked_open me s w)
+  entered s q name mark answer.NoPart why = refused (access.Enter name mark) answer.NoPart X77_NO_PARTITION (λ g k. refl)
+  entered s q name mark (answer.Refused code) why = refused (access.Enter name mark) (answer.Refused code) code (λ g k. refl)
+  entered s q name mark a why = repeats (access.Enter name mark) a (λ g k. refl)
+
+  -- it is left: the call on top is taken away that entered it
+  back_there : (home : ℕ) (fs : List Frame) → Same fs me.stack → FramesStand me.part fs → entered_on_top fs ≡ Some home → me.kept ≡ None → Ends (access.Leave home) answer.Done (back_from to_place fs me)
+  unfolding Ends
+  back_there home [] same frames is none = cc
+  back_there home (For v limit step body ∷ fs) same frames is none = cc
+  back_there home (Call back entered ∷ fs) same frames is none = (
+    record {
+      kept = subst (PlaceStands me.part fs) (sym none) tt;
+      frames = frames.1;
+      leads = leads_back me.part me.stack me.place w.place back fs frames.0;
+    },
+    λ g low high.
+        entered_less (g == home) (entered_in g fs) (entered_in g me.stack) (entered_more (g == home) (enters g (Call back entered)) (entered_in g fs) (same_test g home ∙ sym (ap (λ (o : Option ℕ). is_entered g o) is)) ∙ same g),
+  )
+
+  none_some : {home : ℕ} → None ≡ Some home → ⊥
+  none_some wrong = cc
+
+  left_there : (home : ℕ) → entered_last me.stack ≡ Some home → me.kept ≡ None → Ends (access.Leave home) answer.Done (goes_back me)
+  left_there home is none = by (has_call me.stack) refl
+    where
+      by : (b : Bool) → has_call me.stack ≡ b → Ends (access.Leave home) answer.Done (if b then back_from to_place (from_call me.stack) me else unsteered me (outcome.Failed P41_NO_CALL))
+      by true has = back_there home (from_call me.stack) (same_from_call me.stack) (from_stands me.part is_call me.stack w.frames) is none
+      by false has = absurd (none_some (sym (none_last me.stack has) ∙ is))
+
+  left : (s : SeenLent) (q : Place) (home : ℕ) (a : Answer) → entered_last me.stack ≡ Some home → me.kept ≡ None
+      → Ends (access.Leave home) a (lent_ends (lent_came (access.Leave home) a) (asked_at me s) q me s.own.lines s.home.lines (edit_finishes (access.Leave home) a me))
+  left s q home answer.Done is none = left_there home is none
+  left s q home a is none = repeats (access.Leave home) a (λ g k. refl)
+
+  -- all are given back
+  begins_anew : (homes : ℕ) (n : Option ℕ) → homes ≡ homes_entered me.stack → Ends (access.Drop homes) answer.Done (runs_from n me)
+  begins_anew homes None is = all_given (access.Drop homes) answer.Done _ homes is refl refl tt (λ g k. refl)
+  begins_anew homes (Some n) is = all_given (access.Drop homes) answer.Done _ homes is refl refl own_alone (λ g k. refl)
+
+  runs_there : (homes : ℕ) (n : ℕ) (line : Option (List ℕ)) → is_some line ≡ true → homes ≡ homes_entered me.stack → Ends (access.Drop homes) answer.Done (runs_where line n me)
+  runs_there homes n None found is = cc
+  runs_there homes n (Some line) found is = begins_anew homes (Some n) is
+
+  run_there : (homes : ℕ) (n : Option ℕ) (own : Lines) → finds_line n own ≡ true → homes ≡ homes_entered me.stack → Ends (access.Drop homes) answer.Done (runs n own me)
+  run_there homes None own found is = begins_anew homes (number_after None own) is
+  run_there homes (Some n) own found is = runs_there homes n (line_at n own) found is
+
+  -- a place at the own home
+  at_own : (q : Place) → may_forget_all q me ≡ true → is_open me.part [] q.home ≡ true
+  at_own q may = ap (λ (b : Bool). b || nat_lt 0 0) (by (has_call me.stack) may)
+    where
+      by : (b : Bool) → (b && (q.home == me.part)) ≡ true → (q.home == me.part) ≡ true
+      by true is = is
+      by false is = cc
+
+  forgets_there : (homes : ℕ) (q : Place) → me.place ≡ Some q → may_forget_all q me ≡ true → homes ≡ homes_entered me.stack → Ends (access.Drop homes) answer.Done (forgets_all q me)
+  forgets_there homes q at may is =
+      let e : Steered = record { control = control_of (without_frames me); outcome = outcome.Next } in
+      subst (λ (b : Bool). Ends (access.Drop homes) answer.Done (if b then e else unsteered me (outcome.Failed P41_NO_CALL))) (sym may)
+      (all_given (access.Drop homes) answer.Done e homes is refl refl (subst (PlaceStands me.part []) (sym at) (at_own q may)) (λ g k. refl))
+
+  carried_there : (homes : ℕ) (q : Place) (s : SeenLent) (x : Asked) → me.place ≡ Some q → homes ≡ homes_entered me.stack → GivesBack me s q x
+      → Ends (access.Drop homes) answer.Done (carried x q me s.own.lines s.home.lines)
+  unfolding GivesBack
+  carried_there homes q s (asked.Forget true) at is why = forgets_there homes q at why is
+  carried_there homes q s (asked.Forget false) at is why = cc
+  carried_there homes q s (asked.Run n) at is why = run_there homes n s.own.lines why is
+  carried_there homes q s x at is why = absurd why
+
+  dropped : (s : SeenLent) (q : Place) (homes : ℕ) (a : Answer) → me.place ≡ Some q → homes ≡ homes_entered me.stack → GivesBack me s q (asked_at me s)
+      → Ends (access.Drop homes) a (lent_ends (lent_came (access.Drop homes) a) (asked_at me s) q me s.own.lines s.home.lines (edit_finishes (access.Drop homes) a me))
+  dropped s q homes answer.Done at is why = carried_there homes q s (asked_at me s) at is why
+  dropped s q homes a at is why = repeats (access.Drop homes) a (λ g k. refl)
+
+  -- by the access
+  ends_there : (x : Access) (a : Answer) (s t : SeenLent) (q : Place) → me.place ≡ Some q → SeenAgain x s t → KeepsNone me → AskedFor me t q x (asked_at me t)
+      → Ends x a (lent_ends (lent_came x a) (asked_at me s) q me s.own.lines s.home.lines (edit_finishes x a me))
+  unfolding AskedFor
+  ends_there (access.ClearAll name homes) a s t q at again none why = all_cleared name homes a why
+  ends_there (access.Erase from to homes) a s t q at again none why = erased from to homes a why
+  ends_there (access.Declare name old) a s t q at again none why = named (access.Declare name old) a (part_came (access.Declare name old) a) (λ g k. refl)
+  ends_there (access.FindPart name) a s t q at again none why = named (access.FindPart name) a (part_came (access.FindPart name) a) (λ g k. refl)
+  ends_there (access.Enter name mark) a s t q at again none why = entered s q name mark a (subst (λ (t : SeenLent). Calls me t mark (asked_at me t)) (sym again) why)
+  ends_there (access.Leave home) a s t q at again none why = left s q home a why.0 (none why.1)
+  ends_there (access.Drop homes) a s t q at again none why = dropped s q homes a at why.0 (subst (λ (t : SeenLent). GivesBack me t q (asked_at me t)) (sym again) why.1)
+  ends_there x a s t q at again none why = absurd why
+
+pub finishes_standing : FinishesStanding plan finish
+unfolding Ends
+finishes_standing x a me s t is again none w =
+    let why = asked_so me t x is in
+    subst (λ (o : Option Place). Ends me w x a (ends_at o x a me s)) (sym why.1) (ends_there me w x a s t why.0 why.1 again none why.2)
+
+-- AND WHOM IT ENTERS: never itself
+marked_elsewhere : (me : Private) (s : SeenLent) (mark : ℕ) (x : Asked) → Calls me s mark x → first_opening (is_mark mark) s.own.lines ≡ None
+unfolding Calls
+marked_elsewhere me s mark (asked.CallMark n args back) why = why.1
+marked_elsewhere me s mark x why = absurd why
+
+pub enters_others : EntersOthers plan
+unfolding AskedFor
+enters_others me s name mark is = marked_elsewhere me s mark (asked_at me s) (asked_so me s (access.Enter name mark) is).2

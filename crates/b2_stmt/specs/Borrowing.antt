@@ -1,18 +1,22 @@
 -- Texts of others: RETURN leaves the one that its call entered, RETURN CLEAR ALL and RUN give back all that were, and GOSUB' enters that of the
 -- partition that is selected, where its DEFFN' stands neither in the text at home nor in the own one.
-use Rattle.std.specs.Prelude.{ℕ, ◌&&◌, is_some, Bool, true, List, Option, None, Some, if◌then◌else◌}
+use Rattle.std.specs.Prelude.{◌≡◌, ℕ, ◌&&◌, is_some, Bool, true, List, Option, None, Some, if◌then◌else◌}
 use Rattle.b2_base.specs.declared.codes.TheConstants.{X77_NO_PARTITION}
 use Rattle.b2_flow.specs.Stacks.{entered_last, has_room}
 use Rattle.b2_flow.specs.declared.frame.Place.{Place}
 use Rattle.b2_text.specs.Program.{Lines, line_at}
+use Rattle.b2_text.specs.Spots.{first_opening, is_mark}
 use Rattle.b2_text.specs.declared.spots.Spot.{Spot}
 use Rattle.b2_access.specs.Borrowers.{homes_entered}
+use Rattle.b2_access.specs.Lending.{SeenLent}
+use Rattle.b2_access.specs.Planning.{Planning}
 use Rattle.b2_access.specs.Steering.{Steered, unsteered}
 use Rattle.b2_access.specs.declared.accesses.Access.{Access}
 use Rattle.b2_access.specs.declared.accesses.Access.TheVariants as access
 use Rattle.b2_access.specs.declared.accesses.Answer.{Answer}
 use Rattle.b2_access.specs.declared.accesses.Answer.TheVariants as answer
 use Rattle.b2_access.specs.declared.planned.Outcome.TheVariants as outcome
+use Rattle.b2_access.specs.declared.planned.Planned.TheVariants as planned
 use Rattle.b2_access.specs.declared.private.Private.{Private}
 use Rattle.b2_stmt.specs.Asked.{carried}
 use Rattle.b2_stmt.specs.Calls.{goes_back, may_forget_all}
@@ -77,3 +81,8 @@ lent_ends (EnteringRefused code) x p me own at_home e = unsteered me (outcome.Fa
 lent_ends TextLeft x p me own at_home e = goes_back me
 lent_ends TextsGivenBack x p me own at_home e = carried x p me own at_home
 lent_ends NoTextAsked x p me own at_home e = e
+
+-- A way of planning asks for the text of another, at the DEFFN' of a number, only where the own text has none of it. So it never enters the
+-- own text as that of another.
+abbrev pub EntersOthers : (Private → SeenLent → Planning) → Type 0
+EntersOthers plan = (me : Private) (s : SeenLent) (name : List ℕ) (mark : ℕ) → (plan me s).planned ≡ planned.Ask (access.Enter name mark) → first_opening (is_mark mark) s.own.lines ≡ None
