@@ -5,7 +5,6 @@ use Rattle.b2_base.specs.Byte as byte
 use Rattle.b2_base.specs.Lexical.{digits_width, first}
 use Rattle.b2_base.specs.declared.codes.TheConstants.{A04_TOO_DEEP, P35_ARGUMENTS, S10_OPEN, S11_CLOSE, S24_SMALL_NUMBER}
 use Rattle.b2_dec.specs.declared.values.Value.{Value}
-use Rattle.b2_dec.specs.declared.values.Value.TheVariants as value
 use Rattle.b2_atom.specs.Words.{Text}
 use Rattle.b2_atom.specs.Leaves.{leaf_width}
 use Rattle.b2_atom.specs.Tokens.Token.{Coded}
