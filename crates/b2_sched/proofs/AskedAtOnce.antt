@@ -4,7 +4,7 @@ use Rattle.std.specs.Prelude.{IfNone}
 use Rattle.b2_rows.specs.Following.{tree_units}
 use Rattle.b2_flow.specs.declared.frame.Place.{Place}
 use Rattle.b2_vars.specs.Globals.{Globals}
-use Rattle.b2_access.specs.Courses.{Here, here, permitted, units_on}
+use Rattle.b2_access.specs.Courses.{Here, permitted, units_on}
 use Rattle.b2_access.specs.Lending.{SeenLent}
 use Rattle.b2_access.specs.Placed.{Statement, line_named, statement_on}
 use Rattle.b2_access.specs.Planning.{Planning, Tried, ended_if_done, tried}

@@ -38,3 +38,12 @@ pub mod HeldFamilies
 pub mod HeldWorlds
 pub mod FilesLeft
 pub mod OpenFiles
+pub mod EnteredRules
+pub mod EnteredSteps
+pub mod OwnLines
+pub mod OwnControl
+pub mod OwnLeads
+pub mod EnteredAsked
+pub mod EnteredFamilies
+pub mod InsideTexts
+pub mod InsideWorlds

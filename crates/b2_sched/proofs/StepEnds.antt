@@ -1,6 +1,6 @@
 -- What a step leaves of the store, and how it ends. But for `@` variables it leaves what its access leaves, over what was lent; and from two
 -- stores in which it sees and is served the same it goes alike.
-use Rattle.std.specs.Prelude.{◌≡◌, ℕ, Bool, true, false, List, [], ◌∷◌, ◌++◌, Option, Some, None, refl, if◌then◌else◌}
+use Rattle.std.specs.Prelude.{◌≡◌, ℕ, Bool, true, false, List, ◌∷◌, ◌++◌, Option, Some, None, refl, if◌then◌else◌}
 use Rattle.std.proofs.Common.{sym, ap, subst, ◌∙◌, inl, inr}
 use Rattle.std.proofs.lemmas.Bool.{true≢false}
 use Rattle.b2_flow.specs.declared.frame.Place.{Place}
@@ -70,7 +70,7 @@ pub begun_stays : (who home : ℕ) (whose : At) (left : Globals) (s : StoreState
 begun_stays who home whose left s o is =
     ap (λ (t : StoreState). content t o) (begun_store itself serves lends (λ who home whose m l. refl) who home whose s left) ∙ loan_stays home whose left.vars s o is
 
-line_left : (x : Answer) (me : Private) (s : StoreState) → (line_read itself serves lends x me s).after ≡ s
+pub line_left : (x : Answer) (me : Private) (s : StoreState) → (line_read itself serves lends x me s).after ≡ s
 line_left (answer.Line bytes) me s = refl
 line_left (answer.Special n) me s = refl
 line_left x me s = refl

@@ -1,5 +1,5 @@
 -- A step writes no text but its own.
-use Rattle.std.specs.Prelude.{◌≡◌, ◌⊎◌, ℕ, Bool, true, false, List, [], ◌∷◌, ◌++◌, Option, Some, None, if◌then◌else◌}
+use Rattle.std.specs.Prelude.{◌≡◌, ℕ, Bool, true, false, List, ◌++◌, Option, Some, None, if◌then◌else◌}
 use Rattle.std.proofs.Common.{inl, inr}
 use Rattle.b2_flow.specs.declared.frame.Place.{Place}
 use Rattle.b2_access.specs.Loans.{globals_objects, lender_at, lends, reached_objects}

@@ -57,7 +57,7 @@ plan_legally devices family.Programs = programs_legally devices
 plan_legally devices family.Devices = devices_legally devices
 plan_legally devices family.Disks = disks_legally devices
 
-leave_the_rest : (devices : List Device) (f : Family) → LeaveTheRest (plan_by devices f) (finish_by f)
+pub leave_the_rest : (devices : List Device) (f : Family) → LeaveTheRest (plan_by devices f) (finish_by f)
 leave_the_rest devices family.Variables = stmt_var_laws.leave_the_rest
 leave_the_rest devices family.Control = stmt_laws.leave_the_rest
 leave_the_rest devices family.Printing = (stmt_io_laws.leave_the_rest devices).1

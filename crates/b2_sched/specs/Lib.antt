@@ -13,6 +13,7 @@ pub mod Laws
 pub mod Groups
 pub mod Devices
 pub mod Holding
+pub mod Inside
 pub mod Files
 pub mod OpenFiles
 pub mod Clean

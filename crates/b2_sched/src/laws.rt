@@ -7,6 +7,7 @@ ghost use Rattle.b2_sched.specs.Devices.{RunsTouchListedDevices};
 ghost use Rattle.b2_sched.specs.Files.{FilesOutlastTurns, HeldFilesStay};
 ghost use Rattle.b2_sched.specs.Groups.{CleanGroupsAreAsAlone, GroupsRelyOnTheirOwn, TurnsChangeTheirOwn};
 ghost use Rattle.b2_sched.specs.Holding.{HeldUntilFreed, ListsAreWhatIsHeld, OthersLeaveHeld, OthersReadNothing, OthersWait, StepsKeepTheList};
+ghost use Rattle.b2_sched.specs.Inside.{AreInsideAsEntered, StepsEnterAsSaid, TextsStayWhileInside};
 ghost use Rattle.b2_sched.specs.Laws.{RunsByActions, LeavesOthers, KeepsPresent, RoundsAscend, CountsTurns, NoPlaceIsKept, RunsKeepToTheirGrant, TurnsCountAllButOne};
 ghost use Rattle.b2_sched.specs.Marking.{TurnsMarkTheirSteps};
 ghost use Rattle.b2_sched.specs.OpenFiles.{OpenFilesAreListed};
@@ -156,4 +157,23 @@ pub fn law_a_step_keeps_the_list()
 /// device once, twelve at most, and none but those that the boot lists for the partition.
 pub fn law_a_partition_lists_what_it_holds()
     ensures { ListsAreWhatIsHeld }
+{}
+
+/// A step of a partition that stands in the texts of others above calls that entered them, keeps no place while its program runs, has a
+/// line to put only where it is ready, and is in no immediate line but its own, as every one in a world that a boot leads to, makes as
+/// many of its frames enter each text as the access that it asks for and the answer say; and it stands so after the step.
+pub fn law_a_step_enters_as_said()
+    ensures { StepsEnterAsSaid }
+{}
+
+/// Whatever was run from a boot, each partition that is present stands inside the text of each other one as often as its open calls
+/// entered that, and never inside its own; and it stands in the texts of others above calls that entered them: with its place, with
+/// the place that it keeps for CONTINUE, and with those to which its loops and calls lead back.
+pub fn law_who_stands_inside()
+    ensures { AreInsideAsEntered }
+{}
+
+/// Whatever was run from a boot, a text in which somebody stands before a turn of its partition is the same after the turn.
+pub fn law_a_text_stays_while_somebody_is_inside()
+    ensures { TextsStayWhileInside }
 {}
