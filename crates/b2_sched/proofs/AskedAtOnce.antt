@@ -27,6 +27,11 @@ control_there p me s line u is is_line is_unit =
     sym (ap (λ (h : Here). permitted stmt.is_refused (stmt.stops me s) (stmt.does me s) u h) (ap (λ (l : Option (List ℕ)). record { place = p; units = units_on l }) is_line))
     ∙ found_course stmt.is_refused (stmt.stops me s) (stmt.does me s) p me s u is (is_unit ∙ sym (ap (λ (l : Option (List ℕ)). statement_on l p.unit) is_line))
 
+pub control_where_found : (devices : List Device) (p : Place) (me : Private) (s : SeenLent) (line : List ℕ) (u : Statement) (x : Planning)
+    → me.place ≡ Some p → line_named me.immediate s.home.lines p.line ≡ Some line → Some u ≡ statement_on (Some line) p.unit → plan devices u.row me s ≡ stmt.plan me s
+    → x ≡ permitted stmt.is_refused (stmt.stops me s) (stmt.does me s) u (record { place = p; units = tree_units line }) → x ≡ plan devices u.row me s
+control_where_found devices p me s line u x is is_line is_unit planned is_x = is_x ∙ control_there p me s line u is is_line is_unit ∙ sym planned
+
 -- so how one of control has ended, or that it asks for an access, is what the language plans
 pub control_tried : (devices : List Device) (p : Place) (me : Private) (s : SeenLent) (line : List ℕ) (u : Statement) (t : Tried)
     → me.place ≡ Some p → line_named me.immediate s.home.lines p.line ≡ Some line → Some u ≡ statement_on (Some line) p.unit → is_at_once u.row ≡ true → stmt_var.is_built u.row ≡ false
