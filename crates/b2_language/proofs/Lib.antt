@@ -1,7 +1,6 @@
 -- LastUnits: after the last unit that a byte counts there is none. Lines: a line of the program is the same, whatever the immediate
--- line is. NoAnswer: what is said of no answer. Passes: what becomes of a unit that was found. Runs: a run of units by its next statement.
+-- line is. Passes: what becomes of a unit that was found. Runs: a run of units by its next statement.
 mod LastUnits
 pub mod Lines
-pub mod NoAnswer
 mod Passes
 mod Runs

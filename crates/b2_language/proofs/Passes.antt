@@ -3,11 +3,10 @@ use Rattle.std.proofs.Common.{◌≡◌, ℕ, Bool, true, false, true≢false, �
 use Rattle.b2_flow.specs.declared.frame.Place.{Place}
 use Rattle.b2_access.specs.Lending.{SeenLent}
 use Rattle.b2_access.specs.Placed.{Statement, line_named, statement_on}
-use Rattle.b2_access.specs.Planning.{tried}
 use Rattle.b2_access.specs.declared.private.Private.{Private}
 use Rattle.b2_language.specs.Languages.{Ways}
 use Rattle.b2_language.specs.Wanted.{names_globals}
-use Rattle.b2_language.specs.Running.{leads_tried, passes, passes_at, passes_by, passes_in}
+use Rattle.b2_language.specs.Running.{leads, passes, passes_at, passes_by, passes_in}
 
 local_at_once : (a b : Bool) → a ≡ false → b ≡ true → (not a && b) ≡ true
 local_at_once a b local is = ap (λ (c : Bool). not c && b) local ∙ is
@@ -24,7 +23,7 @@ module _ (ways : Ways) (at_once : ℕ → Bool) where
 
   pub found_passes : (p : Place) (me : Private) (s : SeenLent) (line : List ℕ) (u : Statement)
       → me.place ≡ Some p → is_some p.line ≡ true → line_named me.immediate s.home.lines p.line ≡ Some line → Some u ≡ statement_on (Some line) p.unit → names_globals u.tree ≡ false → at_once u.row ≡ true
-      → leads_tried (tried (ways.plan u.row me s)) p me s ≡ passes ways at_once me s
+      → leads (ways.plan u.row me s) p s.home.lines ≡ passes ways at_once me s
   found_passes p me s line u stands program is_line is_unit local is =
       chosen (not (names_globals u.tree) && at_once u.row) _ _ (local_at_once (names_globals u.tree) (at_once u.row) local is)
       ∙ in_line p.line p me s line u program is_line is_unit

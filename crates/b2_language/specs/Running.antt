@@ -6,7 +6,7 @@ use Rattle.b2_vars.specs.Globals.{Globals}
 use Rattle.b2_access.specs.Found.{IsFound, statement_found}
 use Rattle.b2_access.specs.Lending.{SeenLent}
 use Rattle.b2_access.specs.Placed.{Statement, statement_on}
-use Rattle.b2_access.specs.Planning.{Tried, tried}
+use Rattle.b2_access.specs.Planning.{Planning}
 use Rattle.b2_access.specs.declared.placed.Found.{Found}
 use Rattle.b2_access.specs.declared.planned.Outcome.{Outcome}
 use Rattle.b2_access.specs.declared.planned.Outcome.TheVariants as outcome
@@ -45,24 +45,20 @@ led_by outcome.Next p me home = following_place p me home
 led_by (outcome.Jump q) p me home = Some q
 led_by o p me home = None
 
--- one that leads on stands at the next place; any other one has planned what ends the run
-abbrev pub leads_to : Option Place → Outcome → Private → Globals → Passing
-leads_to None o me globals = record { me = me; globals = globals; passed = passed.Ends (planned.Done o) }
-leads_to (Some q) o me globals = record { me = moves_to q me; globals = globals; passed = passed.LeadsOn }
+abbrev pub led_from : Planned → Place → Private → Lines → Option Place
+led_from (planned.Done o) p me home = led_by o p me home
+led_from (planned.Ask a) p me home = None
 
-abbrev pub leads : Outcome → Place → Private → Globals → Lines → Passing
-leads o p me globals home = leads_to (led_by o p me home) o me globals
+-- one that leads on stands at the next place; any other one has planned what ends the run
+abbrev pub leads_to : Option Place → Planning → Passing
+leads_to None x = record { me = x.me; globals = x.globals; passed = passed.Ends x.planned }
+leads_to (Some q) x = record { me = moves_to q x.me; globals = x.globals; passed = passed.LeadsOn }
+
+abbrev pub leads : Planning → Place → Lines → Passing
+leads x p home = leads_to (led_from x.planned p x.me home) x
 
 abbrev pub passes_nothing : Private → SeenLent → Passing
 passes_nothing me s = record { me = me; globals = s.globals; passed = passed.Stops }
-
--- One that has ended leads on, or not; where it asks for an access, nothing was done.
-abbrev pub leads_if_ended : Option Outcome → Private → Globals → Place → Private → SeenLent → Passing
-leads_if_ended None after globals p me s = passes_nothing me s
-leads_if_ended (Some o) after globals p me s = leads o p after globals s.home.lines
-
-abbrev pub leads_tried : Tried → Place → Private → SeenLent → Passing
-leads_tried x p me s = leads_if_ended x.ended x.me x.globals p me s
 
 -- a run ends after some statements that led on
 abbrev pub ends_run : ℕ → Option Planned → Private → Globals → Ran
@@ -75,11 +71,10 @@ goes_or_ends passed.Stops goes ends = ends None
 goes_or_ends (passed.Ends p) goes ends = ends (Some p)
 
 module _ (ways : Ways) (at_once : ℕ → Bool) where
-  -- A statement is executed where it is planned at once: by its row, and it names no `@` variables. If it then asks for an access,
-  -- nothing is done.
+  -- a statement is executed where it is planned at once: by its row, and it names no `@` variables
   abbrev pub passes_by : Option Statement → Place → Private → SeenLent → Passing
   passes_by None p me s = passes_nothing me s
-  passes_by (Some u) p me s = if not (names_globals u.tree) && at_once u.row then leads_tried (tried (ways.plan u.row me s)) p me s else passes_nothing me s
+  passes_by (Some u) p me s = if not (names_globals u.tree) && at_once u.row then leads (ways.plan u.row me s) p s.home.lines else passes_nothing me s
 
   -- in a line of the program
   abbrev pub passes_in : Option ℕ → Place → Private → SeenLent → Passing

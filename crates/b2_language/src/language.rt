@@ -1,10 +1,10 @@
 // What the statements of a language do.
-ghost use Rattle.std.specs.Prelude.{◌≡◌, ℕ, Bool, true, List, IfNone, IfOk};
+ghost use Rattle.std.specs.Prelude.{◌≡◌, ℕ, Bool, true, List, None, IfOk};
+ghost use Rattle.std.specs.Option.{option_map_or};
 ghost use Rattle.b2_access.specs.declared.devices.Device.{Device};
 ghost use Rattle.b2_access.specs.Answering.{can_answer};
 ghost use Rattle.b2_access.specs.Found.{IsFound, seen_found};
 ghost use Rattle.b2_access.specs.Lending.{globals_lent, seen_lent};
-ghost use Rattle.b2_access.specs.Planning.{tried};
 ghost use Rattle.b2_language.specs.Languages.{AreLawful, AskForListed, KeepOpenFiles, Ways};
 
 use b2_access::{Access, Answer, DeviceTable, Found, Lent, Outcome, Planned, Private};
@@ -55,18 +55,19 @@ pub trait Language {
     fn is_at_once(row: u16) -> bool
         ensures at_once { result ≡ at_once row };
 
-    /// What `plan` says of such a statement, at its place in a line of the program: how it has ended. None where it asks for an access
-    /// after all: nothing has changed then, and `plan` says for which.
+    /// What `plan` says of such a statement, at its place in a line of the program: how it has ended. Where it asks for an access after
+    /// all, nothing has changed, the access goes to the caller, and the outcome says nothing.
     fn plan_at_once(
         alloc: Global,
         me: &mut Private,
         lent: &mut Lent<'_>,
         found: &Found<'_>,
-    ) -> Result<Option<Outcome>, NoMemory>
+        access: &mut Option<Access>,
+    ) -> Result<Outcome, NoMemory>
         requires at_once { at_once found.now.unit.now.row ≡ true }
         requires found { IsFound found.now found.now.home.now.lines me.old }
-        ensures planned { (devices : List Device) → IfOk result (λ o. record { me = me.new; globals = globals_lent lent.new; ended = o } ≡ tried ((ways devices).plan found.now.unit.now.row me.old (seen_found found.now (globals_lent lent.old)))) }
-        ensures unchanged { IfOk result (λ o. IfNone o ((me.new ≡ me.old) × (globals_lent lent.new ≡ globals_lent lent.old))) }
+        requires empty { access.old ≡ None }
+        ensures planned { (devices : List Device) → IfOk result (λ o. record { me = me.new; globals = globals_lent lent.new; planned = option_map_or Planned.Ask access.new (Planned.Done o) } ≡ (ways devices).plan found.now.unit.now.row me.old (seen_found found.now (globals_lent lent.old))) }
         ensures same_texts { (lent.new.own ≡ lent.old.own) × (lent.new.home ≡ lent.old.home) }
         ensures same_reference { lent.new.globals.ghost_name ≡ lent.old.globals.ghost_name }
         ensures part { me.new.part ≡ me.old.part };

@@ -23,7 +23,7 @@ use std::alloc::Global;
 pub enum Passed {
     /// Its statement was executed, and led on by itself.
     LeadsOn,
-    /// It isn't planned at once, or asks for an access, or none is there in the program: nothing was done.
+    /// It isn't planned at once, or none is there in the program: nothing was done.
     Stops,
     /// Its statement was planned, and doesn't lead on by itself.
     Ends(Planned),
@@ -34,7 +34,7 @@ pub enum Passed {
 pub struct Run {
     /// How many statements led on by themselves.
     pub steps: u16,
-    /// What the statement after them planned; none where the quota was used up, or where it isn't planned at once or asks for an access.
+    /// What the statement after them planned; none where the quota was used up, or where it isn't planned at once.
     pub last: Option<Planned>,
 }
 
@@ -53,7 +53,7 @@ fn led_to(me: &Private, home: &Text, line: &Atoms, place: Place, outcome: &Outco
 /// A statement at a place in a line of the program leads on by itself, or ends the run.
 fn lead(me: &mut Private, home: &Text, line: &Atoms, place: Place, outcome: Outcome) -> Passed
     requires line { line_named me.old.immediate home.now.lines place.line ≡ Some line.now }
-    ensures led { (globals : Globals) → record { me = me.new; globals = globals; passed = result } ≡ spec.leads outcome place me.old globals home.now.lines }
+    ensures led { (globals : Globals) → record { me = me.new; globals = globals; passed = result } ≡ spec.leads (record { me = me.old; globals = globals; planned = Planned.Done outcome }) place home.now.lines }
     ensures part { me.new.part ≡ me.old.part }
 {
     match led_to(me, home, line, place, &outcome) {
@@ -65,8 +65,7 @@ fn lead(me: &mut Private, home: &Text, line: &Atoms, place: Place, outcome: Outc
     }
 }
 
-/// A statement that was found in a line of the program is planned at once, and leads on or ends the run. Where it asks for an access
-/// after all, nothing was done.
+/// A statement that was found in a line of the program is planned at once, and leads on or ends the run, as one does that asks for an access.
 fn pass_at_once<L: Language>(
     alloc: Global,
     me: &mut Private,
@@ -79,10 +78,11 @@ fn pass_at_once<L: Language>(
     ensures same_reference { lent.new.globals.ghost_name ≡ lent.old.globals.ghost_name }
     ensures part { me.new.part ≡ me.old.part }
 {
-    let ended = L::plan_at_once(alloc, me, lent, found)?;
-    match ended {
-        Some(outcome) => Ok(lead(me, found.home, found.line, found.place, outcome)),
-        None => Ok(Passed::Stops),
+    let mut access = None;
+    let outcome = L::plan_at_once(alloc, me, lent, found, &mut access)?;
+    match access {
+        Some(access) => Ok(Passed::Ends(Planned::Ask(access))),
+        None => Ok(lead(me, found.home, found.line, found.place, outcome)),
     }
 }
 
@@ -123,8 +123,8 @@ fn pass<L: Language>(
     Ok(Passed::Stops)
 }
 
-/// Statements of the program that are planned at once, one after another: up to the first that doesn't lead on by itself, isn't
-/// planned at once, or asks for an access, or as many as a quota. After want of memory nothing is said of the partition.
+/// Statements of the program that are planned at once, one after another: up to the first that doesn't lead on by itself or isn't
+/// planned at once, or as many as a quota. After want of memory nothing is said of the partition.
 pub fn run_units<L: Language>(
     alloc: Global,
     me: &mut Private,

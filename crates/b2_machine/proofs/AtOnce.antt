@@ -3,14 +3,9 @@ use Rattle.std.proofs.Common.{◌≡◌, ℕ, ◌==◌, Bool, true, false, true�
 use Rattle.std.proofs.lemmas.Bool.Decides.{nat_tests}
 use Rattle.b2_atom.specs.declared.rows.TheConstants as row
 use Rattle.b2_flow.specs.declared.frame.Place.{Place}
-use Rattle.b2_text.specs.Program.{TextState}
-use Rattle.b2_vars.specs.Globals.{Globals}
 use Rattle.b2_access.specs.Lending.{SeenLent}
 use Rattle.b2_access.specs.Placed.{Statement, line_named, statement_placed, statement_on}
-use Rattle.b2_access.specs.Planning.{Planning, Tried, ended_if_done, tried}
-use Rattle.b2_access.specs.declared.planned.Outcome.{Outcome}
-use Rattle.b2_access.specs.declared.planned.Planned.{Planned}
-use Rattle.b2_access.specs.declared.planned.Planned.TheVariants as planned
+use Rattle.b2_access.specs.Planning.{Planning}
 use Rattle.b2_access.specs.declared.private.Private.{Private}
 use Rattle.b2_language.specs.Languages.{AreLawful, Ways}
 use Rattle.b2_machine.specs.Statements.{Begun, begins, begins_where, begun, builder_of, plan_by}
@@ -22,21 +17,6 @@ chosen b x y is = ap (λ (c : Bool). if c then x else y) is
 
 otherwise : {A : Type 0} (b : Bool) (x y : A) → b ≡ false → (if b then x else y) ≡ y
 otherwise b x y is = ap (λ (c : Bool). if c then x else y) is
-
--- what has ended where no access can be made was planned so
-done_planned : (o : Outcome) (p : Planned) → Some o ≡ ended_if_done p → planned.Done o ≡ p
-done_planned o (planned.Done q) is = cc
-done_planned o (planned.Ask a) is = cc
-
-pub done_tried : (me : Private) (globals : Globals) (o : Outcome) (x : Planning) → ◌≡◌ {A = Tried} (record { me = me; globals = globals; ended = Some o }) (tried x) → ◌≡◌ {A = Planning} (record { me = me; globals = globals; planned = planned.Done o }) x
-done_tried me globals o x is =
-    ap (λ (t : Tried). record { me = t.me; globals = t.globals; planned = planned.Done o }) is
-    ∙ ap (λ (p : Planned). record { me = x.me; globals = x.globals; planned = p }) (done_planned o x.planned (ap (λ (t : Tried). t.ended) is))
-
--- by other texts that are the same
-pub same_seen : (own home a b : TextState) (globals : Globals) → own ≡ a → home ≡ b → ◌≡◌ {A = SeenLent} (record { own = own; home = home; globals = globals }) (record { own = a; home = b; globals = globals })
-same_seen own home a b globals same_own same_home =
-    ap (λ (t : TextState). record { own = t; home = home; globals = globals }) same_own ∙ ap (λ (t : TextState). record { own = a; home = t; globals = globals }) same_home
 
 module _ (ways : Ways) (lawful : AreLawful ways) where
   -- LIST is none of the language's rows

@@ -5,7 +5,7 @@ ghost use Rattle.b2_rows.specs.Laws.{IsRow};
 ghost use Rattle.b2_rows.specs.Rows.{tree_at};
 ghost use Rattle.b2_access.specs.declared.devices.Device.{Device};
 ghost use Rattle.b2_access.specs.Answering.{can_answer};
-ghost use Rattle.b2_access.specs.Found.{IsFound, statement_found};
+ghost use Rattle.b2_access.specs.Found.{IsFound, seen_found, statement_found};
 ghost use Rattle.b2_access.specs.Lending.{globals_lent, seen_lent, SeenLent};
 ghost use Rattle.b2_access.specs.Placed.{line_named as line_of_place, statement_placed as named_at};
 ghost use Rattle.b2_language.specs.Running.{IsFoundAtOnce};
@@ -169,6 +169,22 @@ fn begun(
     }
 }
 
+/// What asks for an access at a place in a line of the program.
+fn asking_on(
+    me: &Private,
+    home: &Text,
+    line: &Atoms,
+    place: Place,
+    access: Access,
+    builder: Builder,
+) -> Progress
+    requires line { line_of_place me.now.immediate home.now.lines place.line ≡ Some line.now }
+    ensures asks { record { me = me.now; progress = result } ≡ spec.begun_by (Planned.Ask access) builder place me.now home.now.lines }
+{
+    let onward = onward_on(line, place.unit);
+    Progress::Asks(access, builder, onward)
+}
+
 /// What becomes of a plan for a unit at a place in a line of the program.
 fn begun_on(
     alloc: Global,
@@ -188,10 +204,7 @@ fn begun_on(
             let end = settle_on(alloc, me, home, line, place, outcome)?;
             Ok(Progress::Ended(end))
         }
-        Planned::Ask(access) => {
-            let onward = onward_on(line, place.unit);
-            Ok(Progress::Asks(access, builder, onward))
-        }
+        Planned::Ask(access) => Ok(asking_on(me, home, line, place, access, builder)),
     }
 }
 
@@ -236,28 +249,29 @@ fn begin_found<L: Language>(
     begun_on(alloc, me, home, found.line, found.place, planned, builder)
 }
 
-/// A statement that was found in a line of the program begins, where the language plans it at once. Where it asks for an access after
-/// all, for which nothing has changed, it is planned again as others are.
+/// A statement that was found in a line of the program begins, where the language plans it at once.
 fn begin_at_once<L: Language>(
     alloc: Global,
     me: &mut Private,
     lent: Lent<'_>,
-    devices: &DeviceTable,
     found: &Found<'_>,
 ) -> Result<Progress, NoMemory>
     requires found { IsFoundAtOnce L.at_once found.now me.old }
-    requires texts { (found.now.own.now ≡ lent.own.now) × (found.now.home.now ≡ lent.home.now) }
-    ensures begun { IfOk result (λ c. record { me = me.new; progress = c } ≡ spec.begins (L.ways devices.now) found.now.place me.old (seen_lent lent.entry)) }
+    ensures begun { (devices : List Device) → IfOk result (λ c. record { me = me.new; progress = c } ≡ spec.begins (L.ways devices) found.now.place me.old (seen_found found.now (globals_lent lent.entry))) }
     ensures part { me.new.part ≡ me.old.part }
 {
     let mut lent = lent;
-    let ended = L::plan_at_once(alloc, me, &mut lent, found)?;
-    match ended {
-        Some(outcome) => {
+    let mut access = None;
+    let outcome = L::plan_at_once(alloc, me, &mut lent, found, &mut access)?;
+    match access {
+        Some(access) => {
+            let builder = Builder::Language(found.unit.row);
+            Ok(asking_on(me, found.home, found.line, found.place, access, builder))
+        }
+        None => {
             let end = settle_on(alloc, me, found.home, found.line, found.place, outcome)?;
             Ok(Progress::Ended(end))
         }
-        None => begin_found::<L>(alloc, me, lent, devices, found),
     }
 }
 
@@ -366,7 +380,7 @@ fn begin_unit<L: Language>(
     ensures part { me.new.part ≡ me.old.part }
 {
     if !names_globals(found.unit) && L::is_at_once(found.unit.row) {
-        return begin_at_once::<L>(alloc, me, lent, devices, found);
+        return begin_at_once::<L>(alloc, me, lent, found);
     }
     begin_found::<L>(alloc, me, lent, devices, found)
 }

@@ -75,6 +75,18 @@ module _ (devices : List Device) (p : Place) (me : Private) (s : SeenLent) (line
       ∙ found_course stmt.is_refused (stmt.stops me s) (stmt.does me s) p me s u is (unit_here p me s line u is_line is_unit)
       ∙ sym (ap (λ (f : Family). plan_by devices f me s) (control u.row other at_once))
 
+-- one of control, whatever it asks for
+control_there : (p : Place) (me : Private) (s : SeenLent) (line : List ℕ) (u : Statement) → me.place ≡ Some p → line_named me.immediate s.home.lines p.line ≡ Some line → Some u ≡ statement_on (Some line) p.unit
+    → permitted stmt.is_refused (stmt.stops me s) (stmt.does me s) u (record { place = p; units = tree_units line }) ≡ stmt.plan me s
+control_there p me s line u is is_line is_unit =
+    sym (ap (λ (h : Here). permitted stmt.is_refused (stmt.stops me s) (stmt.does me s) u h) (here_is p me s line is_line))
+    ∙ found_course stmt.is_refused (stmt.stops me s) (stmt.does me s) p me s u is (unit_here p me s line u is_line is_unit)
+
+pub control_where_found : (devices : List Device) (p : Place) (me : Private) (s : SeenLent) (line : List ℕ) (u : Statement) (x : Planning)
+    → me.place ≡ Some p → line_named me.immediate s.home.lines p.line ≡ Some line → Some u ≡ statement_on (Some line) p.unit → plan devices u.row me s ≡ stmt.plan me s
+    → x ≡ permitted stmt.is_refused (stmt.stops me s) (stmt.does me s) u (record { place = p; units = tree_units line }) → x ≡ plan devices u.row me s
+control_where_found devices p me s line u x is is_line is_unit planned is_x = is_x ∙ control_there p me s line u is is_line is_unit ∙ sym planned
+
 -- at the terminal, where it prints or reads: in a program it may stand
 unrefused : (b program : Bool) → program ≡ true → (b && not program) ≡ false
 unrefused true program is = ap not is

@@ -3,8 +3,6 @@ pub mod LoadLines
 pub mod Numbered
 -- Found: what is planned where a unit was found is what the language plans at its place.
 mod Found
--- AskedAtOnce: where a statement of control that is planned at once asks for an access after all, nothing has changed.
-mod AskedAtOnce
 pub mod Folds
 pub mod Numbers
 pub mod Lasting

@@ -81,12 +81,12 @@ impl Language for Basic {
         me: &mut Private,
         lent: &mut Lent<'_>,
         found: &Found<'_>,
-    ) -> Result<Option<Outcome>, NoMemory> {
+        access: &mut Option<Access>,
+    ) -> Result<Outcome, NoMemory> {
         if b2_stmt_var::is_built(found.unit.row) {
-            let outcome = b2_stmt_var::execute(alloc, me, lent, found)?;
-            Ok(Some(outcome))
+            b2_stmt_var::execute(alloc, me, lent, found)
         } else {
-            b2_stmt::execute(alloc, me, lent, found)
+            b2_stmt::execute(alloc, me, lent, found, access)
         }
     }
 

@@ -1,16 +1,18 @@
 -- A unit by its row and its tree on its line, and what it does.
 use Rattle.std.proofs.Common.{◌≡◌, ℕ, ◌==◌, ◌||◌, Bool, true, false, List, refl, ap, subst, sym, ◌∙◌, Option, Some, None, Result, IfOk, is_some, if◌then◌else◌}
+use Rattle.std.specs.Option.{option_map_or}
 use Rattle.b2_atom.specs.Tree.{Trees}
 use Rattle.b2_atom.specs.declared.rows.TheConstants as row
 use Rattle.b2_access.specs.Borrowers.{homes_entered}
 use Rattle.b2_access.specs.Courses.{Here, permitted}
 use Rattle.b2_access.specs.Lending.{SeenLent}
 use Rattle.b2_access.specs.Placed.{Statement}
-use Rattle.b2_access.specs.Planning.{Tried, asks, done, stays, tried}
+use Rattle.b2_access.specs.Planning.{Planning, asks, done, stays}
 use Rattle.b2_flow.specs.declared.frame.Place.{Place}
 use Rattle.b2_vars.specs.Globals.{Globals}
 use Rattle.b2_access.specs.declared.accesses.Access.{Access}
 use Rattle.b2_access.specs.declared.planned.Outcome.{Outcome}
+use Rattle.b2_access.specs.declared.planned.Planned.TheVariants as planned
 use Rattle.b2_access.specs.declared.private.Private.{Private}
 use Rattle.b2_access.proofs.Courses.{may_stand}
 use Rattle.b2_stmt.specs.Asked.{carried, is_still, still}
@@ -76,9 +78,9 @@ access_planned u h me s a allowed is =
     may_stand is_refused (stops me s) (does me s) u h allowed ∙ ap (λ (o : Option Access). acts_unless o u h me s) is
 
 -- what is asked of the private state is carried out, unless it asks for the text of another
-pub tried_asked : {E : Type 0} (r : Result (Option Outcome) E) (after me stood : Private) (s : SeenLent) (left : Globals) (x y : Asked) (p : Place) → left ≡ s.globals → stood ≡ me → x ≡ y
-    → ((t : SeenLent) → IfOk r (λ o. ◌≡◌ {A = Tried} (record { me = after; globals = t.globals; ended = o }) (tried (by_access (asks_of_others x p stood s.own.lines s.home.lines) t stood (carried x p stood s.own.lines s.home.lines)))))
-    → IfOk r (λ o. ◌≡◌ {A = Tried} (record { me = after; globals = left; ended = o }) (tried (plans_asked y p me s)))
-tried_asked r after me stood s left x y p same_left same_me same h =
-    let A : Globals → Asked → Private → Type 0 = λ g q m. IfOk r (λ o. ◌≡◌ {A = Tried} (record { me = after; globals = g; ended = o }) (tried (plans_asked q p m s))) in
+pub planned_asked : {E : Type 0} (r : Result Outcome E) (access : Option Access) (after me stood : Private) (s : SeenLent) (left : Globals) (x y : Asked) (p : Place) → left ≡ s.globals → stood ≡ me → x ≡ y
+    → ((t : SeenLent) → IfOk r (λ o. ◌≡◌ {A = Planning} (record { me = after; globals = t.globals; planned = option_map_or planned.Ask access (planned.Done o) }) (by_access (asks_of_others x p stood s.own.lines s.home.lines) t stood (carried x p stood s.own.lines s.home.lines))))
+    → IfOk r (λ o. ◌≡◌ {A = Planning} (record { me = after; globals = left; planned = option_map_or planned.Ask access (planned.Done o) }) (plans_asked y p me s))
+planned_asked r access after me stood s left x y p same_left same_me same h =
+    let A : Globals → Asked → Private → Type 0 = λ g q m. IfOk r (λ o. ◌≡◌ {A = Planning} (record { me = after; globals = g; planned = option_map_or planned.Ask access (planned.Done o) }) (plans_asked q p m s)) in
     subst (λ (g : Globals). A g y me) (sym same_left) (subst (λ (m : Private). A s.globals y m) same_me (subst (λ (q : Asked). A s.globals q stood) same (h s)))

@@ -1,9 +1,12 @@
 // Texts of others: what RETURN, RETURN CLEAR ALL, RUN and GOSUB' ask for of them.
-ghost use Rattle.std.specs.Prelude.{◌≡◌, IfOk};
+ghost use Rattle.std.specs.Prelude.{◌≡◌, ◌&&◌, IfOk, None};
+ghost use Rattle.std.specs.Option.{option_map_or};
+ghost use Rattle.b2_flow.specs.Stacks.{entered_last};
 ghost use Rattle.b2_access.specs.Lending.{SeenLent};
-ghost use Rattle.b2_access.specs.Planning.{tried};
 ghost use Rattle.b2_stmt.specs.Asked.{HasLegalNames, carried};
 ghost use Rattle.b2_stmt.specs.Borrowing as spec;
+ghost use Rattle.b2_stmt.specs.Calls.{forgets, goes_back, may_forget_all};
+ghost use Rattle.b2_stmt.specs.Course.{runs};
 ghost use Rattle.b2_stmt.specs.Marked.{calls_mark, mark_place};
 ghost use Rattle.b2_stmt.specs.Plan.{by_access};
 
@@ -11,7 +14,7 @@ use crate::asked::{Asked, do_asked};
 use crate::calls::{forget, go_back, may_forget_all};
 use crate::course::run_program;
 use crate::marked::{call_into, code_of_none, mark_place};
-use b2_access::{Access, Outcome, Private, homes_entered};
+use b2_access::{Access, Outcome, Planned, Private, homes_entered};
 use b2_base::{NoMemory, Part};
 use b2_dec::ValueList;
 use b2_flow::Place;
@@ -82,64 +85,97 @@ pub fn ask_of_others(
     }
 }
 
-/// GOSUB' where a place was found for it, or none. None where a text is to be entered, and then nothing was done.
-fn try_call(
+/// GOSUB' where a place was found for it, or none. Where a text is to be entered, nothing is done, and that is asked for.
+fn call_or_enter(
     me: &mut Private,
     n: u8,
     found: Option<Place>,
     args: ValueList,
     back: Option<Place>,
-) -> Option<Outcome>
-    ensures ended { (s : SeenLent) → record { me = me.new; globals = s.globals; ended = result } ≡ tried (by_access (spec.asks_to_enter n found me.old) s me.old (calls_mark found args back me.old)) }
+    access: &mut Option<Access>,
+) -> Outcome
+    requires empty { access.old ≡ None }
+    ensures ended { (s : SeenLent) → record { me = me.new; globals = s.globals; planned = option_map_or Planned.Ask access.new (Planned.Done result) } ≡ by_access (spec.asks_to_enter n found me.old) s me.old (calls_mark found args back me.old) }
     ensures part { me.new.part ≡ me.old.part }
 {
     match found {
-        Some(to) => Some(call_into(me, None, to, args, back)),
+        Some(to) => call_into(me, None, to, args, back),
         None => {
-            if me.stack.has_room() && me.global.is_some() {
-                None
-            } else {
-                Some(Outcome::Failed(code_of_none(me)))
-            }
+            *access = ask_to_enter(n, None, me);
+            Outcome::Failed(code_of_none(me))
         }
     }
 }
 
-/// Does what was asked for. None where it asks for a text of another, and then nothing was done.
-pub fn try_asked(
+/// RETURN. Where its call entered a text nothing is done, and it asks for that to be left.
+fn go_back_or_leave(me: &mut Private, access: &mut Option<Access>) -> Outcome
+    requires empty { access.old ≡ None }
+    ensures ended { (s : SeenLent) → record { me = me.new; globals = s.globals; planned = option_map_or Planned.Ask access.new (Planned.Done result) } ≡ by_access (spec.asks_to_leave (entered_last me.old.stack)) s me.old (goes_back me.old) }
+    ensures part { me.new.part ≡ me.old.part }
+{
+    match me.stack.entered_last() {
+        Some(home) => {
+            *access = Some(Access::Leave { home });
+            Outcome::Repeat
+        }
+        None => go_back(me),
+    }
+}
+
+/// RETURN CLEAR. Where all are forgotten nothing is done, and it asks for all texts to be given back.
+fn forget_or_drop(
+    me: &mut Private,
+    place: &Place,
+    all: bool,
+    access: &mut Option<Access>,
+) -> Outcome
+    requires empty { access.old ≡ None }
+    ensures ended { (s : SeenLent) → record { me = me.new; globals = s.globals; planned = option_map_or Planned.Ask access.new (Planned.Done result) } ≡ by_access (spec.asks_to_drop (all && may_forget_all place.now me.old) me.old) s me.old (forgets all place.now me.old) }
+    ensures part { me.new.part ≡ me.old.part }
+{
+    let may_go = may_forget_all(me, *place);
+    if all && may_go {
+        *access = ask_to_drop(true, me);
+        return Outcome::Repeat;
+    }
+    forget(me, *place, all)
+}
+
+/// RUN. Where its line is found nothing is done, and it asks for all texts to be given back.
+fn run_or_drop(me: &mut Private, own: &Text, n: Option<u16>, access: &mut Option<Access>) -> Outcome
+    requires empty { access.old ≡ None }
+    ensures ended { (s : SeenLent) → record { me = me.new; globals = s.globals; planned = option_map_or Planned.Ask access.new (Planned.Done result) } ≡ by_access (spec.asks_to_drop (spec.finds_line n own.now.lines) me.old) s me.old (runs n own.now.lines me.old) }
+    ensures part { me.new.part ≡ me.old.part }
+{
+    if finds_line(n, own) {
+        *access = ask_to_drop(true, me);
+        return Outcome::Repeat;
+    }
+    run_program(me, own, n)
+}
+
+/// Does what was asked for. Where that is a text of another, nothing is done, and the access goes to the caller.
+pub fn do_or_ask(
     me: &mut Private,
     own: &Text,
     home: &Text,
     place: Place,
     asked: Asked,
-) -> Result<Option<Outcome>, NoMemory>
+    access: &mut Option<Access>,
+) -> Result<Outcome, NoMemory>
     requires named { HasLegalNames asked }
-    ensures ended { (s : SeenLent) → IfOk result (λ o. record { me = me.new; globals = s.globals; ended = o } ≡ tried (by_access (spec.asks_of_others asked place me.old own.now.lines home.now.lines) s me.old (carried asked place me.old own.now.lines home.now.lines))) }
+    requires empty { access.old ≡ None }
+    ensures ended { (s : SeenLent) → IfOk result (λ o. record { me = me.new; globals = s.globals; planned = option_map_or Planned.Ask access.new (Planned.Done o) } ≡ by_access (spec.asks_of_others asked place me.old own.now.lines home.now.lines) s me.old (carried asked place me.old own.now.lines home.now.lines)) }
     ensures part { me.new.part ≡ me.old.part }
 {
     match asked {
-        Asked::Return => {
-            if me.stack.entered_last().is_some() {
-                return Ok(None);
-            }
-            Ok(Some(go_back(me)))
-        }
-        Asked::Forget(all) => {
-            if all && may_forget_all(me, place) {
-                return Ok(None);
-            }
-            Ok(Some(forget(me, place, all)))
-        }
-        Asked::Run(n) => {
-            if finds_line(n, own) {
-                return Ok(None);
-            }
-            Ok(Some(run_program(me, own, n)))
-        }
+        Asked::Return => Ok(go_back_or_leave(me, access)),
+        Asked::Forget(all) => Ok(forget_or_drop(me, &place, all, access)),
+        Asked::Run(n) => Ok(run_or_drop(me, own, n, access)),
         Asked::CallMark(n, args, back) => {
             let found = mark_place(n, place, me.part, own, home);
-            Ok(try_call(me, n, found, args, back))
+            Ok(call_or_enter(me, n, found, args, back, access))
         }
-        asked => Ok(Some(do_asked(me, own, home, place, asked)?)),
+        asked => do_asked(me, own, home, place, asked),
     }
 }

@@ -1,22 +1,22 @@
 // What the statement at a partition's place plans.
-ghost use Rattle.std.specs.Prelude.{◌≡◌, false, IfOk, Some};
+ghost use Rattle.std.specs.Prelude.{◌≡◌, false, IfOk, None, Some};
+ghost use Rattle.std.specs.Option.{option_map_or};
 ghost use Rattle.b2_rows.specs.Following.{tree_units};
 ghost use Rattle.b2_access.specs.Courses.{course_at, permitted};
 ghost use Rattle.b2_access.specs.Found.{IsRead, here_found, seen_found, statement_found};
 ghost use Rattle.b2_access.specs.Lending.{globals_lent, seen_lent};
 ghost use Rattle.b2_access.specs.Placed.{statement_on as named_on};
-ghost use Rattle.b2_access.specs.Planning.{tried};
 ghost use Rattle.b2_stmt.specs.Asked.{HasLegalNames, is_still, still as still_of};
 ghost use Rattle.b2_stmt.specs.Clearing.{asks_access};
 ghost use Rattle.b2_stmt.specs.Plan as spec;
 ghost use Rattle.b2_stmt.specs.Plan.{around};
 
 use crate::asked::{Asked, ask, do_asked, still};
-use crate::borrowing::{ask_of_others, try_asked};
+use crate::borrowing::{ask_of_others, do_or_ask};
 use crate::clearing::asked_access;
 use crate::marked::take_args;
 use b2_access::{
-    DeviceTable, Found, Lent, Outcome, Planned, Private, failed, setting_of, statement_on,
+    Access, DeviceTable, Found, Lent, Outcome, Planned, Private, failed, setting_of, statement_on,
 };
 use b2_atom::{Atoms, rows};
 use b2_base::NoMemory;
@@ -122,21 +122,24 @@ pub fn asked_found(
     ask(alloc, &work, found.line, &found.place, found.unit)
 }
 
-/// Executes a statement that asks the private state for something. None where it asks for the text of another, and then nothing was done.
+/// Executes a statement that asks the private state for something. Where it asks for the text of another, nothing is done, and the access
+/// goes to the caller.
 fn execute_asked(
     alloc: Global,
     me: &mut Private,
     lent: &mut Lent<'_>,
     found: &Found<'_>,
-) -> Result<Option<Outcome>, NoMemory>
+    access: &mut Option<Access>,
+) -> Result<Outcome, NoMemory>
     requires read { IsRead found.now }
-    ensures ended { IfOk result (λ o. record { me = me.new; globals = globals_lent lent.new; ended = o } ≡ tried (spec.plans_asked (spec.asked_by (statement_found found.now) (here_found found.now) me.old (seen_found found.now (globals_lent lent.old))) found.now.place me.old (seen_found found.now (globals_lent lent.old)))) }
+    requires empty { access.old ≡ None }
+    ensures ended { IfOk result (λ o. record { me = me.new; globals = globals_lent lent.new; planned = option_map_or Planned.Ask access.new (Planned.Done o) } ≡ spec.plans_asked (spec.asked_by (statement_found found.now) (here_found found.now) me.old (seen_found found.now (globals_lent lent.old))) found.now.place me.old (seen_found found.now (globals_lent lent.old))) }
     ensures same_texts { (lent.new.own ≡ lent.old.own) × (lent.new.home ≡ lent.old.home) }
     ensures same_reference { lent.new.globals.ghost_name ≡ lent.old.globals.ghost_name }
     ensures part { me.new.part ≡ me.old.part }
 {
     let asked = asked_found(alloc, me, lent, found)?;
-    try_asked(me, found.own, found.home, found.place, asked)
+    do_or_ask(me, found.own, found.home, found.place, asked, access)
 }
 
 /// What a statement plans that asks the private state for something.
@@ -187,51 +190,55 @@ fn execute_still(me: &mut Private, lent: &mut Lent<'_>, found: &Found<'_>) -> Ou
     )
 }
 
-/// Executes a statement that may stand where it does, and asks for no access by its row. None where it asks for the text of another, and
-/// then nothing was done.
+/// Executes a statement that may stand where it does, and asks for no access by its row. Where it asks for the text of another, nothing is
+/// done, and the access goes to the caller.
 #[tactic(auto, using(crate::proofs::Executed::still_there, crate::proofs::Executed::taken_there, crate::proofs::Executed::asked_there))]
 fn execute_allowed(
     alloc: Global,
     me: &mut Private,
     lent: &mut Lent<'_>,
     found: &Found<'_>,
-) -> Result<Option<Outcome>, NoMemory>
+    access: &mut Option<Access>,
+) -> Result<Outcome, NoMemory>
     requires read { IsRead found.now }
-    ensures ended { IfOk result (λ o. record { me = me.new; globals = globals_lent lent.new; ended = o } ≡ tried (spec.acts (statement_found found.now) (here_found found.now) me.old (seen_found found.now (globals_lent lent.old)))) }
+    requires empty { access.old ≡ None }
+    ensures ended { IfOk result (λ o. record { me = me.new; globals = globals_lent lent.new; planned = option_map_or Planned.Ask access.new (Planned.Done o) } ≡ spec.acts (statement_found found.now) (here_found found.now) me.old (seen_found found.now (globals_lent lent.old))) }
     ensures same_texts { (lent.new.own ≡ lent.old.own) × (lent.new.home ≡ lent.old.home) }
     ensures same_reference { lent.new.globals.ghost_name ≡ lent.old.globals.ghost_name }
     ensures part { me.new.part ≡ me.old.part }
 {
     let row = found.unit.row;
     if is_still(row) {
-        return Ok(Some(execute_still(me, lent, found)));
+        return Ok(execute_still(me, lent, found));
     }
     if row == rows::DEFFN_MARKED {
-        return Ok(Some(take_args(me, lent, found)?));
+        return take_args(me, lent, found);
     }
-    execute_asked(alloc, me, lent, found)
+    execute_asked(alloc, me, lent, found, access)
 }
 
-/// Executes a statement that its caller has found, where it asks for no access by its row. None where it asks for the text of another, and
-/// then nothing was done.
+/// Executes a statement that its caller has found, where it asks for no access by its row. Where it asks for the text of another, nothing
+/// is done, the access goes to the caller, and the outcome says nothing.
 #[tactic(auto, using(b2_access::proofs::Courses::may_not_stand, crate::proofs::Executed::quiet_there))]
 pub fn execute(
     alloc: Global,
     me: &mut Private,
     lent: &mut Lent<'_>,
     found: &Found<'_>,
-) -> Result<Option<Outcome>, NoMemory>
+    access: &mut Option<Access>,
+) -> Result<Outcome, NoMemory>
     requires quiet { asks_access found.now.unit.now.row ≡ false }
     requires read { IsRead found.now }
-    ensures ended { IfOk result (λ o. record { me = me.new; globals = globals_lent lent.new; ended = o } ≡ tried (permitted spec.is_refused (spec.stops me.old (seen_found found.now (globals_lent lent.old))) (spec.does me.old (seen_found found.now (globals_lent lent.old))) (statement_found found.now) (here_found found.now))) }
+    requires empty { access.old ≡ None }
+    ensures ended { IfOk result (λ o. record { me = me.new; globals = globals_lent lent.new; planned = option_map_or Planned.Ask access.new (Planned.Done o) } ≡ permitted spec.is_refused (spec.stops me.old (seen_found found.now (globals_lent lent.old))) (spec.does me.old (seen_found found.now (globals_lent lent.old))) (statement_found found.now) (here_found found.now)) }
     ensures same_texts { (lent.new.own ≡ lent.old.own) × (lent.new.home ≡ lent.old.home) }
     ensures same_reference { lent.new.globals.ghost_name ≡ lent.old.globals.ghost_name }
     ensures part { me.new.part ≡ me.old.part }
 {
     if is_refused(found.unit.row, found.place.line.is_some()) {
-        return Ok(Some(failed(S26_PROGRAM_ONLY)));
+        return Ok(failed(S26_PROGRAM_ONLY));
     }
-    execute_allowed(alloc, me, lent, found)
+    execute_allowed(alloc, me, lent, found, access)
 }
 
 /// What a statement plans that may stand where it does, and asks for no access by its row.
