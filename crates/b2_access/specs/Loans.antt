@@ -99,3 +99,7 @@ pub record EndsWell {M : Type 0} (store : M → StoreState) (lending : Loan M) (
 
 abbrev pub LoansEndWell : {M : Type 0} → (M → StoreState) → Loan M → Type 0
 LoansEndWell {M} store lending = (who home : ℕ) (whose : At) (m : M) (w : VarsState) → EndsWell store lending who home whose m w
+
+-- LENT TWICE: texts that are lent once more, to the same partition for the same home and with no `@` variables, mean what they did before
+abbrev pub LendsTextsAgain : {M : Type 0} → Loan M → Type 0
+LendsTextsAgain {M} lending = (who home : ℕ) (m : M) → lending who home at.None (lending who home at.None m (unreached None)) (unreached None) ≡ lending who home at.None m (unreached None)

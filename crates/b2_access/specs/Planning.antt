@@ -35,19 +35,6 @@ finished s e = record { me = e.me; globals = s.globals; outcome = e.outcome }
 abbrev pub asks : SeenLent → Private → Access → Planning
 asks s me a = record { me = me; globals = s.globals; planned = planned.Ask a }
 
--- What is planned where no access can be made: how the statement has ended, None where it asks for one, for which nothing has changed.
-pub record Tried : Type 0 where
-  pub me : Private
-  pub globals : Globals
-  pub ended : Option Outcome
-
-abbrev pub ended_if_done : Planned → Option Outcome
-ended_if_done (planned.Done o) = Some o
-ended_if_done (planned.Ask a) = None
-
-abbrev pub tried : Planning → Tried
-tried p = record { me = p.me; globals = p.globals; ended = ended_if_done p.planned }
-
 -- nothing changes
 abbrev pub stays : Private → Outcome → Ended
 stays me o = record { me = me; outcome = o }

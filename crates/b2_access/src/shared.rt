@@ -8,7 +8,7 @@ ghost use Rattle.b2_access.specs.declared.lending.At.{At as AtSpec};
 ghost use Rattle.b2_access.specs.Answering.{AnswersByRow};
 ghost use Rattle.b2_access.specs.Leading.{AnswersLead, NamesLead};
 ghost use Rattle.b2_access.specs.Lending.{globals_lent};
-ghost use Rattle.b2_access.specs.Loans.{Loan, LendsFrom, LoansGlobals, NotesReached, Noting, globals_at, holder_of, left_at};
+ghost use Rattle.b2_access.specs.Loans.{Loan, LendsFrom, LendsTextsAgain, LoansGlobals, NotesReached, Noting, globals_at, holder_of, left_at};
 ghost use Rattle.b2_access.specs.Sharing.{ServingOf, IsLocal, KeepsListed};
 ghost use Rattle.b2_access.specs.Store.{StoreState, content};
 ghost use Rattle.b2_access.specs.Touching.{IsLegal};
@@ -102,4 +102,7 @@ pub trait Shared {
 
     /// A loan changes the `@` variables that were asked for, and nothing else.
     ghost lends_globals: { LoansGlobals store lending };
+
+    /// Texts that are lent twice without `@` variables are lent once.
+    ghost lends_texts_again: { LendsTextsAgain lending };
 }

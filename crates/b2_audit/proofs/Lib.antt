@@ -11,3 +11,4 @@ pub mod OwnTexts
 pub mod Others
 pub mod InParts
 pub mod Loans
+pub mod LentTwice

@@ -248,4 +248,6 @@ impl Shared for Stores {
     ghost notes = { λ who home at m left. refl };
 
     ghost lends_globals = { λ who home at m w. refl };
+
+    ghost lends_texts_again = { λ who home m. refl };
 }
