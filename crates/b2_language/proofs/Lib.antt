@@ -1,6 +1,4 @@
 -- LastUnits: after the last unit that a byte counts there is none. Lines: a line of the program is the same, whatever the immediate
--- line is. Passes: what becomes of a unit that was found. Runs: a run of units by its next statement.
+-- line is.
 mod LastUnits
 pub mod Lines
-mod Passes
-mod Runs

@@ -1,4 +1,4 @@
 pub mod Wanted
 pub mod Languages
 pub mod Following
-pub mod Running
+pub mod AtOnce

@@ -22,3 +22,6 @@ pub mod Begins
 pub mod Counted
 pub mod Unchanged
 pub mod StepOpenFiles
+pub mod Passing
+pub mod Runs
+pub mod Advances

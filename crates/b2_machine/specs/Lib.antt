@@ -6,9 +6,11 @@ pub mod Listed
 pub mod Statements
 pub mod Typing
 pub mod Keys
+pub mod Running
 pub mod Step
 pub mod Turn
 pub mod Stays
+pub mod Advancing
 pub mod Touched
 pub mod OpenFiles
 pub mod Counting

@@ -2,7 +2,8 @@
 //!
 //! A step is the first of six rules that applies: a reset, a halt, output that is pending, a literal or a line that is read, a
 //! numbered line, and else the statement at the partition's place. It makes at most one access of the store. A turn is a
-//! number of steps, and ends before its quota where one ends it. `step` and `turn` are proved to be the functions of `specs/`
+//! number of steps, and ends before its quota where one ends it; statements of the program that come one after another are executed over
+//! one loan of texts. `step` and `turn` are proved to be the functions of `specs/`
 //! over the meaning, the serving and the lending of whatever store they are given.
 //!
 //! Stands on `b2_language` for what statements do, on `b2_access` for the private state, accesses and the store,
@@ -10,7 +11,8 @@
 //!
 //! The definitions are in `specs/`: how a step ends in `Endings`, what is shown in `Messages`, becoming ready in `Readiness`,
 //! where a partition goes on in `Moving`, LIST in `Listed`, the choice among statements in `Statements`, typed lines in
-//! `Typing`, special function keys in `Keys`, the six rules in `Step`, turns in `Turn`, and what a step touches and writes in
+//! `Typing`, special function keys in `Keys`, the six rules in `Step`, turns in `Turn`, statements one after another over one loan in
+//! `Running`, how far a turn goes on at once in `Advancing`, and what a step touches and writes in
 //! `Touched`. What holds of steps stands in `laws`.
 #![tactic(auto)]
 
@@ -21,6 +23,7 @@ mod listed;
 mod messages;
 mod moving;
 mod readiness;
+mod running;
 mod statements;
 mod stepping;
 mod turning;

@@ -8,7 +8,7 @@ ghost use Rattle.b2_access.specs.Answering.{can_answer};
 ghost use Rattle.b2_access.specs.Found.{IsFound, seen_found, statement_found};
 ghost use Rattle.b2_access.specs.Lending.{globals_lent, seen_lent, SeenLent};
 ghost use Rattle.b2_access.specs.Placed.{line_named as line_of_place, statement_placed as named_at};
-ghost use Rattle.b2_language.specs.Running.{IsFoundAtOnce};
+ghost use Rattle.b2_language.specs.AtOnce.{IsFoundAtOnce};
 ghost use Rattle.b2_language.specs.Wanted as wanted;
 ghost use Rattle.b2_machine.specs.Listed.{lists};
 ghost use Rattle.b2_machine.specs.Statements as spec;

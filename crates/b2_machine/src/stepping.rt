@@ -8,6 +8,7 @@ ghost use Rattle.b2_access.specs.Homes.{PlaceIn};
 ghost use Rattle.b2_access.specs.Leading.{is_present};
 ghost use Rattle.b2_access.specs.Store.{content};
 ghost use Rattle.b2_access.specs.Touching.{IsLegal};
+ghost use Rattle.b2_machine.specs.Running.{RunsOn};
 ghost use Rattle.b2_machine.specs.Statements.{Opens, begins, finish_by, finishes, leaves};
 ghost use Rattle.b2_machine.specs.Stays.{Keeps, IsLegalOpening, IsLegalProgress};
 ghost use Rattle.b2_machine.specs.Step as spec;
@@ -16,6 +17,7 @@ use crate::ends::{Stepped, counts, repeats};
 use crate::keys::press_over;
 use crate::moving::Onward;
 use crate::readiness::{give_back, halt, reset};
+use crate::running::{Ran, run_on};
 use crate::statements::{Builder, Opening, Progress, begin_with, finish_with, open_over};
 use crate::typing::{
     after_literal, after_pending, after_put, ask_to_show, atoms_put, put_line, take_line,
@@ -268,6 +270,28 @@ fn execute_over<L: Language, S: Shared>(
     carry_out::<L, S>(alloc, me, s, place, whose, progress)
 }
 
+/// A statement that was opened over texts alone goes on.
+#[tactic(auto, using(crate::proofs::Kept::both_kept))]
+pub fn go_through<L: Language, S: Shared>(
+    alloc: Global,
+    me: &mut Private,
+    s: &mut S,
+    d: &DeviceTable,
+    place: Place,
+    opening: Opening,
+) -> Result<Stepped, NoMemory>
+    requires own { IsSome (content (S.store (S.meaning s.old)) (Object.Text me.old.part)) }
+    requires home { IsSome (content (S.store (S.meaning s.old)) (Object.Text place.home)) }
+    requires legal { IsLegalOpening opening }
+    ensures ended { (before : Private) (m : S.Meaning) → me.old.part ≡ before.part → Opens (L.ways d.now) place before me.old (spec.seen_by before.part place.home At.None (S.store m)) opening → S.meaning s.old ≡ spec.texts_lent S.store S.serving S.lending before.part place.home m → IfOk result (λ e. record { me = me.new; after = S.meaning s.new; end = e } ≡ spec.executes (L.ways d.now) S.store S.serving S.lending place before m) }
+    ensures kept { Keeps result (S.holds s.old) (S.holds s.new) me.old.part me.new.part (S.store (S.meaning s.old)) (S.store (S.meaning s.new)) }
+{
+    match opening {
+        Opening::Began(progress) => carry_out::<L, S>(alloc, me, s, place, &At::None, progress),
+        Opening::Wants(whose) => execute_over::<L, S>(alloc, me, s, d, place, &whose),
+    }
+}
+
 /// The statement at a place is executed.
 #[tactic(auto, using(crate::proofs::Kept::both_kept))]
 fn execute<L: Language, S: Shared>(
@@ -284,10 +308,33 @@ fn execute<L: Language, S: Shared>(
     ensures kept { Keeps result (S.holds s.old) (S.holds s.new) me.old.part me.new.part (S.store (S.meaning s.old)) (S.store (S.meaning s.new)) }
 {
     let opening = open::<L, S>(alloc, me, s, d, &place)?;
-    match opening {
-        Opening::Began(progress) => carry_out::<L, S>(alloc, me, s, place, &At::None, progress),
-        Opening::Wants(whose) => execute_over::<L, S>(alloc, me, s, d, place, &whose),
-    }
+    go_through::<L, S>(alloc, me, s, d, place, opening)
+}
+
+/// Statements in the program of a home, one after another over one loan of texts, at most so many; and the statement after them over
+/// the same texts, where one is left.
+pub fn run_lent<L: Language, S: Shared>(
+    alloc: Global,
+    me: &mut Private,
+    s: &mut S,
+    d: &DeviceTable,
+    home: Part,
+    left: u16,
+) -> Result<Ran, NoMemory>
+    requires own { IsSome (content (S.store (S.meaning s.old)) (Object.Text me.old.part)) }
+    requires home { IsSome (content (S.store (S.meaning s.old)) (Object.Text home)) }
+    ensures ran { IfOk result (RunsOn (L.ways d.now) home (spec.seen_by me.old.part home At.None (S.store (S.meaning s.old))) left me.old me.new) }
+    ensures lent { S.meaning s.new ≡ spec.texts_lent S.store S.serving S.lending me.old.part home (S.meaning s.old) }
+    ensures kept { Keeps result (S.holds s.old) (S.holds s.new) me.old.part me.new.part (S.store (S.meaning s.old)) (S.store (S.meaning s.new)) }
+{
+    let part = me.part;
+    let Lent {
+        own,
+        home: text,
+        globals,
+        ..
+    } = s.lend(part, home, &At::None);
+    run_on::<L>(alloc, me, own, text, globals, d, home, left)
 }
 
 /// The statement at the place is executed, or a line is read.

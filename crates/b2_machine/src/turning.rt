@@ -1,16 +1,30 @@
 // A turn: steps up to the first that ends it, or to as many as its quota.
-ghost use Rattle.std.specs.Prelude.{◌≡◌, ◌≤◌, ◌<◌, ◌+◌, IfOk, if◌then◌else◌};
+ghost use Rattle.std.specs.Prelude.{◌≡◌, ◌≤◌, ◌<◌, ◌+◌, ℕ, Some, IfOk, IsSome, if◌then◌else◌};
 ghost use Rattle.b2_access.specs.Homes.{IsWithin};
 ghost use Rattle.b2_access.specs.Leading.{NamesIn, is_present};
+ghost use Rattle.b2_machine.specs.Advancing.{Advances, ArePresent};
+ghost use Rattle.b2_machine.specs.Running.{place_in};
 ghost use Rattle.b2_machine.specs.Stays.{Keeps};
 ghost use Rattle.b2_machine.specs.Turn as spec;
 
-use crate::ends::{Turned, Why};
-use crate::stepping::step;
+use crate::ends::{Stepped, Turned, Why};
+use crate::running::{Opened, place_in};
+use crate::stepping::{go_through, run_lent, step};
 use b2_access::{DeviceTable, Private, Shared};
-use b2_base::NoMemory;
+use b2_base::{NoMemory, Part};
 use b2_language::Language;
 use std::alloc::Global;
+
+/// How far a turn went on.
+#[derive(Clone, Copy)]
+pub struct Went {
+    /// How many steps were taken.
+    pub taken: u16,
+    /// How many of them counted.
+    pub counted: u16,
+    /// Why the turn ends with the last of them, None where it goes on.
+    pub why: Option<Why>,
+}
 
 /// How many steps have counted after one more.
 fn counted_on(steps: u16, counted: bool) -> u16
@@ -18,6 +32,84 @@ fn counted_on(steps: u16, counted: bool) -> u16
     ensures { result ≡ (if counted then steps + 1 else steps) }
 {
     if counted { steps + 1 } else { steps }
+}
+
+/// After some steps, which counted, and one more.
+fn went_on(steps: u16, end: Stepped) -> Went
+    requires { steps < 65535 }
+    ensures { result ≡ record { taken = steps + 1; counted = if end.counted then steps + 1 else steps; why = end.why } }
+{
+    Went {
+        taken: steps + 1,
+        counted: counted_on(steps, end.counted),
+        why: end.why,
+    }
+}
+
+/// Steps of a partition at a place in the program of a home: its statements one after another, over one loan.
+fn run<L: Language, S: Shared>(
+    alloc: Global,
+    me: &mut Private,
+    s: &mut S,
+    d: &DeviceTable,
+    home: Part,
+    left: u16,
+) -> Result<Went, NoMemory>
+    requires present { ArePresent (S.store (S.meaning s.old)) me.old }
+    requires there { IsSome (place_in home me.old) }
+    requires some { 1 ≤ left }
+    ensures advances { IfOk result (Advances (L.ways d.now) S.store S.serving S.lending left me.old me.new (S.meaning s.old) (S.meaning s.new)) }
+    ensures kept { Keeps result (S.holds s.old) (S.holds s.new) me.old.part me.new.part (S.store (S.meaning s.old)) (S.store (S.meaning s.new)) }
+{
+    let ran = run_lent::<L, S>(alloc, me, s, d, home, left)?;
+    let steps = ran.steps;
+    let last = ran.last;
+    match last {
+        None => Ok(Went {
+            taken: steps,
+            counted: steps,
+            why: None,
+        }),
+        Some(opened) => {
+            let end = go_through::<L, S>(alloc, me, s, d, opened.place, opened.opening)?;
+            Ok(went_on(steps, end))
+        }
+    }
+}
+
+/// The home in whose program a partition stands at a statement that comes next.
+fn home_to_run_in(me: &Private) -> Option<Part>
+    ensures { (home : ℕ) → result ≡ Some home → IsSome (place_in home me.now) }
+{
+    match me.place {
+        Some(place) => match place_in(place.home, me) {
+            Some(_) => Some(place.home),
+            None => None,
+        },
+        None => None,
+    }
+}
+
+/// One step of a partition, or several.
+fn advance<L: Language, S: Shared>(
+    alloc: Global,
+    me: &mut Private,
+    s: &mut S,
+    d: &DeviceTable,
+    left: u16,
+) -> Result<Went, NoMemory>
+    requires present { ArePresent (S.store (S.meaning s.old)) me.old }
+    requires some { 1 ≤ left }
+    ensures advances { IfOk result (Advances (L.ways d.now) S.store S.serving S.lending left me.old me.new (S.meaning s.old) (S.meaning s.new)) }
+    ensures kept { Keeps result (S.holds s.old) (S.holds s.new) me.old.part me.new.part (S.store (S.meaning s.old)) (S.store (S.meaning s.new)) }
+{
+    match home_to_run_in(me) {
+        Some(home) => run::<L, S>(alloc, me, s, d, home, left),
+        None => {
+            let end = step::<L, S>(alloc, me, s, d)?;
+            Ok(went_on(0, end))
+        }
+    }
 }
 
 /// One turn of a partition that is present, as all are that it names, and all to whom names lead: at most `quota` steps that count. Where
@@ -37,10 +129,12 @@ pub fn turn<L: Language, S: Shared>(
     ensures kept { Keeps result (S.holds s.old) (S.holds s.new) me.old.part me.new.part (S.store (S.meaning s.old)) (S.store (S.meaning s.new)) }
 {
     let mut steps = 0;
-    for _ in 0..quota {
-        let end = step::<L, S>(alloc, me, s, d)?;
-        steps = counted_on(steps, end.counted);
-        let why = end.why;
+    let mut taken = 0;
+    while taken < quota {
+        let went = advance::<L, S>(alloc, me, s, d, quota - taken)?;
+        steps += went.counted;
+        taken += went.taken;
+        let why = went.why;
         match why {
             Some(why) => return Ok(Turned { steps, why }),
             None => {}
