@@ -11,4 +11,3 @@ pub mod OwnTexts
 pub mod Others
 pub mod InParts
 pub mod Loans
-pub mod LentTwice

@@ -1,4 +1,5 @@
 pub mod PartSets
 pub mod Marks
 pub mod Watching
+pub mod LentTwice
 pub mod Steps

@@ -32,7 +32,7 @@ impl<S: Shared> Shared for Watched<'_, S> {
     ghost use Rattle.b2_access.specs.Loans.{loan_touched};
     ghost use Rattle.std.specs.Prelude.{◌⊎◌};
     ghost use Rattle.b2_audit.specs.Watching.{GrowsMarks, watching, watched_loan, watched_noting, watched_notes, watching_is_local, watching_keeps_listed, watched_loan_globals};
-    ghost use Rattle.b2_audit.proofs.LentTwice.{watched_lends_again};
+    ghost use Rattle.b2_audit.specs.LentTwice.{watched_lends_again};
 
     ghost Meaning = { S.Meaning × Marks };
 
