@@ -1,6 +1,6 @@
 -- Products and quotients in code.
-use Rattle.std.proofs.Common.{◌≡◌, ℕ, zero, suc, ◌+◌, ◌-◌, ◌*◌, ◌/◌, ◌^◌, ◌<◌, ◌≤◌, ◌*ℤ◌, Bool, true, false, not, Result, Ok, sym, refl, ap, ◌∙◌, subst, arith, lit<, pow-add, mul_assoc, mul-zero, zero-mul, mul-pos, mul-le-mul_right, div-mul-le_self, ne_eqb, ◌⊎◌, ⊎_elim}
-use native.Mathlib.Nat.{mul-lt-mul_of_pos_right, mul-mul-mul_comm, lt-div-mul-add}
+use Rattle.std.proofs.Common.{◌≡◌, ℕ, zero, suc, ◌+◌, ◌-◌, ◌*◌, ◌/◌, ◌%◌, ◌^◌, ◌<◌, ◌≤◌, ◌*ℤ◌, Bool, true, false, not, Result, Ok, sym, refl, ap, ap₂, ◌∙◌, subst, arith, lit<, pow-add, mul_assoc, mul-zero, zero-mul, mul-pos, mul-le-mul, mul-le-mul_right, le-div_iff_mul-le, le_trans, lt_of_lt_of_le, div-mul-le_self, ne_eqb, mod-eq_of_lt, ◌⊎◌, ⊎_elim}
+use native.Mathlib.Nat.{mul-lt-mul_of_pos_right, mul-mul-mul_comm, lt-div-mul-add, div-div-eq-div-mul}
 use mathlib.Core.Bool.{beq}
 use Rattle.b2_dec.specs.declared.number.Mode.{Mode}
 use Rattle.b2_dec.specs.Number.{Number, zero_number, size, signed, differ}
@@ -34,13 +34,53 @@ product-sizes mode a b =
 size-mul : (a b : Number) → a.coef * b.coef * 10 ^ (a.place + b.place) ≡ size a * size b
 size-mul a b = ap (λ t. a.coef * b.coef * t) (pow-add 10 a.place b.place) ∙ mul-mul-mul_comm a.coef b.coef (10 ^ a.place) (10 ^ b.place)
 
+-- What a product has in units of 10^11, by the upper and the lower bits of what 2^11 leaves of it.
+product-parts : (t : ℕ) → t / 274877906944 / 48828125 * 274877906944 + (t / 274877906944 % 48828125 * 274877906944 + t % 274877906944) / 48828125 ≡ t / 48828125
+product-parts t = omega arith
+
+pub product-code : (p : ℕ) → p < 100000000000000000000000000
+    → p / 2048 / 274877906944 / 48828125 * 274877906944 % 18446744073709551616
+    + (p / 2048 / 274877906944 % 48828125 * 274877906944 % 18446744073709551616 + p / 2048 % 274877906944) / 48828125 ≡ p / 100000000000
+product-code p h =
+    let t : ℕ = p / 2048 in
+    let high : t / 274877906944 / 48828125 * 274877906944 < 18446744073709551616 = omega arith in
+    let low : t / 274877906944 % 48828125 * 274877906944 < 18446744073709551616 = omega arith in
+    ap₂ (λ u v. u + (v + t % 274877906944) / 48828125) (mod-eq_of_lt high) (mod-eq_of_lt low)
+    ∙ product-parts t ∙ div-div-eq-div-mul p 2048 48828125
+
+pub product-least : (x y : ℕ) → 1000000000000 ≤ x → 1000000000000 ≤ y → 10000000000000 ≤ x * y / 100000000000
+product-least x y h k = (le-div_iff_mul-le {k = 100000000000} (lit< tt)).1 (mul-le-mul h k)
+
+pub product-fits : (x y : ℕ) → x < 10000000000000 → y < 10000000000000 → x * y < 100000000000000000000000000
+product-fits x y h k =
+    let h' : x ≤ 9999999999999 = omega arith in
+    let k' : y ≤ 9999999999999 = omega arith in
+    let most : x * y ≤ 9999999999999 * 9999999999999 = mul-le-mul h' k' in
+    omega arith
+
+pub product-most : (x y : ℕ) → x < 10000000000000 → y < 10000000000000 → x * y / 100000000000 < 10 ^ 16
+product-most x y h k = omega (arith, product-fits x y h k)
+
+-- a whole part in larger units
+larger_units : (m b n d : ℕ) → IsWholePart m b n d → IsWholePart (m / 100000000000) (b + 11) n d
+larger_units m b n d whole =
+    let unit : 10 ^ (b + 11) * d ≡ 100000000000 * (10 ^ b * d) = rw (pow-add 10 b 11) (omega arith) in
+    let parts : (k : ℕ) → k * (10 ^ (b + 11) * d) ≡ k * 100000000000 * (10 ^ b * d) = λ k. ap (λ t. k * t) unit ∙ sym (mul_assoc k 100000000000 (10 ^ b * d)) in
+    let under : m / 100000000000 * 100000000000 ≤ m = omega arith in
+    let over : m + 1 ≤ (m / 100000000000 + 1) * 100000000000 = omega arith in
+    record {
+      low = rw (parts (m / 100000000000)) (le_trans (mul-le-mul_right (10 ^ b * d) under) whole.low);
+      high = rw (parts (m / 100000000000 + 1)) (lt_of_lt_of_le whole.high (mul-le-mul_right (10 ^ b * d) over));
+    }
+
 pub product-is : (mode : Mode) (a b : Number) (x y p q : ℕ) (s t : Bool) (r : Result Number ℕ) → x ≡ a.coef → y ≡ b.coef → p ≡ a.place → q ≡ b.place
-    → s ≡ a.neg → t ≡ b.neg → ((n d : ℕ) → 0 < d → IsWholePart (x * y) (p + q) n d → r ≡ rnd mode (not (beq s t)) n d) → r ≡ product_of mode a b
+    → s ≡ a.neg → t ≡ b.neg → ((n d : ℕ) → 0 < d → IsWholePart (x * y / 100000000000) (p + q + 11) n d → r ≡ rnd mode (not (beq s t)) n d) → r ≡ product_of mode a b
 product-is mode a b x y p q s t r ex ey ep eq es et made =
     let whole : IsWholePart (a.coef * b.coef) (a.place + b.place) (size a * size b) (10 ^ 222) =
     exact_is_whole (a.coef * b.coef) (a.place + b.place) (size a * size b) (10 ^ 222) (lit< tt)
     (sym (mul_assoc (a.coef * b.coef) (10 ^ (a.place + b.place)) (10 ^ 222)) ∙ ap (λ u. u * 10 ^ 222) (size-mul a b)) in
-    made (size a * size b) (10 ^ 222) (lit< tt) (rw (ex, ey, ep, eq) whole)
+    made (size a * size b) (10 ^ 222) (lit< tt)
+    (rw (ex, ey, ep, eq) (larger_units (a.coef * b.coef) (a.place + b.place) (size a * size b) (10 ^ 222) whole))
     ∙ ap (λ u. rnd mode u (size a * size b) (10 ^ 222)) (rw (es, et) (differ-is a.neg b.neg)) ∙ sym (product-sizes mode a b)
 
 pub product-none : (mode : Mode) (a b : Number) → (a.coef ≡ 0) ⊎ (b.coef ≡ 0) → product_of mode a b ≡ Ok zero_number

@@ -16,3 +16,7 @@ pub mod Roots
 pub mod Grid
 pub mod Spelled
 pub mod Edges
+pub mod Slots
+pub mod JoinedDigits
+pub mod PartedDigits
+pub mod PackedWords

@@ -2,7 +2,7 @@
 use Rattle.std.proofs.Common.{◌≡◌, ℕ, zero, suc, ◌+◌, ◌*◌, ◌/◌, ◌%◌, ◌^◌, ◌<◌, ◌≤◌, sym, ap, ap₂, ◌∙◌, arith, lit<, mod-lt, div-add-mod', div-one, inl, inr, lt-ltb, le-ltb}
 use Rattle.std.proofs.lemmas.Nat.{mod-mul-add, div-mul-add}
 use Rattle.std.proofs.lemmas.Bool.{cases_lt}
-use native.Mathlib.Nat.{pow-le-pow_right, div-div-eq-div-mul, div-lt_iff_lt-mul, pow-suc}
+use native.Mathlib.Nat.{div-div-eq-div-mul, div-lt_iff_lt-mul, pow-suc}
 use Rattle.b2_dec.specs.Number.{Number, IsNumber}
 use Rattle.b2_base.specs.Lexical.{decimal_byte, decimal_of}
 use Rattle.b2_dec.specs.Packing.{exponent_size, signs, packed_digits, pairs, packed, pairs_value}
@@ -48,12 +48,6 @@ exponent_size-most x h =
 
 pub packed_digits-most : (x : Number) → IsNumber x → packed_digits x < 1000000000000000
 packed_digits-most x h = omega (arith, exponent_size-most x h.highest, h.digits)
-
-pub hundred_most : (i : ℕ) → i ≤ 7 → 100 ^ i ≤ 100 ^ 7
-hundred_most i h = pow-le-pow_right {n = 100} (lit< tt) h
-
-pub byte_fits : (n b : ℕ) → n ≤ 200000000000000 → b < 256 → n * 100 + b / 16 * 10 + b % 16 < 100000000000000000
-byte_fits n b h k = omega (arith, div-add-mod' b 16)
 
 -- The first nibble, the next two digits and the others of a packed number.
 pub signs-packed : (x : Number) → packed_digits x < 1000000000000000 → (16 * signs x + packed_digits x / 100000000000000) / 16 ≡ signs x

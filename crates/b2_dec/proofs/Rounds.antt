@@ -1,5 +1,5 @@
 -- A whole part of fourteen digits or more settles what a fraction is rounded to.
-use Rattle.std.proofs.Common.{◌≡◌, ℕ, suc, ◌+◌, ◌-◌, ◌*◌, ◌^◌, ◌<◌, ◌≤◌, ◌==◌, Bool, Err, sym, refl, ap, ◌∙◌, subst, arith, lit<, pow-add, le-ltb, lt-ltb, ne_eqb, mul-le-mul_right, mul-pos, le_trans, lt_of_lt_of_le, inl, inr, mul_assoc}
+use Rattle.std.proofs.Common.{◌≡◌, ℕ, zero, suc, ◌+◌, ◌-◌, ◌*◌, ◌^◌, ◌<◌, ◌≤◌, ◌==◌, Bool, Err, sym, refl, ap, ◌∙◌, subst, arith, lit<, pow-add, le-ltb, lt-ltb, ne_eqb, mul-le-mul_right, mul-pos, le_trans, lt_of_lt_of_le, inl, inr, mul_assoc}
 use Rattle.std.proofs.lemmas.Bool.{cases_lt, cases_Bool}
 use native.Mathlib.Nat.{pow-succ'}
 use Rattle.b2_dec.specs.declared.number.Mode.{Mode}
@@ -76,6 +76,15 @@ rnd-from_digits mode neg m b n d r large least below dpos whole =
     let next : suc r ≡ 14 + i = omega arith in
     let below' : m < 10 ^ (14 + i) = subst (λ t. m < 10 ^ t) next (rw (pow-succ' 10 r) below) in
     rw (← count) (sym (rnd-whole_part mode neg m b n d i dpos whole least' below'))
+
+-- The same, by the number of digits that are dropped.
+pub rnd-by : (mode : Mode) (neg : Bool) (m b n d k : ℕ) → 1 ≤ k → 10 ^ (12 + k) ≤ m → m < 10 ^ (13 + k) → 0 < d → IsWholePart m b n d
+    → after_carry neg (whole_by mode m (10 ^ k)) (b + k) ≡ rnd mode neg n d
+rnd-by mode neg m b n d zero some least below dpos whole = absurd (omega arith)
+rnd-by mode neg m b n d (suc i) some least below dpos whole =
+    let low : 12 + suc i ≡ 13 + i = omega arith in
+    let high : 13 + suc i ≡ 14 + i = omega arith in
+    sym (rnd-whole_part mode neg m b n d i dpos whole (subst (λ t. 10 ^ t ≤ m) low least) (subst (λ t. m < 10 ^ t) high below))
 
 -- how many digits are dropped, and which thirteen stay
 pub dropped-some : (m r : ℕ) → 10000000000000 ≤ m → m < 10 * 10 ^ r → 1 ≤ r - 12

@@ -2,5 +2,6 @@ pub mod Number
 pub mod Spelling
 pub mod Rounding
 pub mod Arithmetic
+pub mod Lanes
 pub mod Packing
 pub mod Laws

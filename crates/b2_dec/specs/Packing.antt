@@ -1,7 +1,7 @@
 -- A number in eight bytes.
-use Rattle.std.specs.Prelude.{ℕ, zero, suc, ◌+◌, ◌-◌, ◌*◌, ◌/◌, ◌%◌, ◌^◌, nat_lt, if◌then◌else◌, List, [], ◌∷◌}
+use Rattle.std.specs.Prelude.{◌≡◌, ℕ, zero, suc, ◌+◌, ◌-◌, ◌*◌, ◌/◌, ◌%◌, ◌^◌, nat_lt, if◌then◌else◌, List, [], ◌∷◌}
 use Rattle.b2_base.specs.Lexical.{decimal_of, decimal_byte}
-use Rattle.b2_dec.specs.Number.{Number}
+use Rattle.b2_dec.specs.Number.{Number, IsNumber}
 
 -- the size of the exponent, which is 0 where the last digit stands at 99
 abbrev pub exponent_size : Number → ℕ
@@ -28,3 +28,13 @@ packed x = (16 * signs x + packed_digits x / 100000000000000) ∷ pairs 7 (packe
 abbrev pub pairs_value : ℕ → List ℕ → ℕ
 pairs_value n [] = n
 pairs_value n (b ∷ bs) = pairs_value (n * 100 + decimal_of b) bs
+
+-- all sixteen digits as one number: that of the signs, and the others
+abbrev pub all_digits : Number → ℕ
+all_digits x = signs x * 1000000000000000 + packed_digits x
+
+-- Bytes that are a packed number.
+pub record IsPacked (bytes : List ℕ) : Type 0 where
+  pub number : Number
+  pub is_number : IsNumber number
+  pub spelled : bytes ≡ packed number

@@ -51,7 +51,7 @@ fn towards_zero(a: Dec) -> Dec
     if place < 99 {
         return Dec::zero();
     }
-    let unit = ten_to(111 - place) as u64;
+    let unit = ten_to(111 - place);
     Dec::ending_at(a.is_negative(), coef / unit * unit, place as u8)
 }
 
@@ -67,7 +67,7 @@ fn from_zero(a: Dec) -> Dec
     if place < 99 {
         return Dec::ending_at(true, 1_000_000_000_000, 99);
     }
-    let unit = ten_to(111 - place) as u64;
+    let unit = ten_to(111 - place);
     if coef % unit == 0 {
         return a;
     }

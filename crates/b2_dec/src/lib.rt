@@ -9,6 +9,7 @@
 #![tactic(auto)]
 
 mod fractions;
+mod lanes;
 mod laws;
 mod number;
 mod order;
@@ -27,7 +28,7 @@ pub use laws::{
 };
 pub use number::{Dec, Mode};
 pub use order::{abs, cmp, sgn, whole};
-pub use packing::{pack, unpack};
+pub use packing::{pack, unpack, unpacked};
 pub use powers::{power, sqr};
 pub use products::{div, mul};
 pub use rests::{modulo, round_to};

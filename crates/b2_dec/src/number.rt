@@ -16,13 +16,20 @@ pub enum Mode {
 }
 
 /// A decimal number of thirteen digits. Contracts see it as its sign, its digits and the place of the last of them.
-#[derive(Clone, Copy)]
+#[derive(Clone, Copy, PartialEq, Eq)]
 pub struct Dec {
-    /// The thirteen digits, with the sign of the number.
-    signed_digits: i64,
-    /// The exponent of ten of the first digit.
-    exponent: i64,
+    /// The digits in the lowest 44 bits, the place of the last of them in the next eight, and then the sign.
+    word: u64,
 }
+
+/// What one place counts in a word.
+const PLACE: u64 = 1 << 44;
+
+/// What the sign of a number below zero counts in a word.
+const SIGN: u64 = 1 << 52;
+
+/// The word of zero.
+const ZERO: u64 = 99 * PLACE;
 
 impl Model for Dec {
     ghost use Rattle.b2_dec.specs.Number.{Number};
@@ -45,10 +52,7 @@ impl Dec {
     pub const fn zero() -> Dec
         ensures { result ≡ zero_number }
     {
-        Dec {
-            signed_digits: 0,
-            exponent: 0,
-        }
+        Dec { word: ZERO }
     }
 
     /// A whole number below 10^13.
@@ -62,11 +66,7 @@ impl Dec {
             return Dec::zero();
         }
         let missing = 12 - n.ilog10();
-        Dec::ending_at(
-            false,
-            (n as u128 * ten_to(missing)) as u64,
-            (111 - missing) as u8,
-        )
+        Dec::ending_at(false, n * ten_to(missing), (111 - missing) as u8)
     }
 
     /// The number of this sign whose thirteen digits end at this place, counted from 10^-111.
@@ -76,10 +76,16 @@ impl Dec {
         requires highest { place ≤ 198 }
         ensures { result ≡ record { neg = neg; coef = coef; place = place } }
     {
-        let digits = coef as i64;
+        Dec::of_parts(neg, coef, place)
+    }
+
+    /// The number of this sign with these digits, which end at this place.
+    pub(crate) fn of_parts(neg: bool, coef: u64, place: u8) -> Dec
+        requires { IsNumber (record { neg = neg; coef = coef; place = place }) }
+        ensures { result ≡ record { neg = neg; coef = coef; place = place } }
+    {
         Dec {
-            signed_digits: if neg { -digits } else { digits },
-            exponent: i64::from(place) - 99,
+            word: u64::from(neg) * SIGN + u64::from(place) * PLACE + coef,
         }
     }
 
@@ -88,16 +94,18 @@ impl Dec {
         ensures value { result ≡ self.place }
         ensures highest { result ≤ 198 }
     {
-        (self.exponent + 99) as u32
+        (self.word % SIGN / PLACE) as u32
     }
 
     /// The number of the other sign; zero is its own.
     pub(crate) fn opposite(self) -> Dec
         ensures { result ≡ opposite self }
     {
+        if self.word == ZERO {
+            return self;
+        }
         Dec {
-            signed_digits: -self.signed_digits,
-            exponent: self.exponent,
+            word: self.word ^ SIGN,
         }
     }
 
@@ -106,7 +114,7 @@ impl Dec {
         ensures zero { result ≡ (self.coef == 0) }
         ensures spelling { IsNumber self }
     {
-        self.signed_digits == 0
+        self.word == ZERO
     }
 
     /// Whether the number is below zero.
@@ -114,7 +122,7 @@ impl Dec {
         ensures value { result ≡ self.neg }
         ensures spelling { IsNumber self }
     {
-        self.signed_digits < 0
+        self.word >= SIGN
     }
 
     /// The thirteen digits as a whole number: 0, or from 10^12 to 10^13 - 1.
@@ -123,13 +131,13 @@ impl Dec {
         ensures digits { result < 10000000000000 }
         ensures spelling { IsNumber self }
     {
-        self.signed_digits.unsigned_abs()
+        self.word % PLACE
     }
 
     /// The exponent of ten of the first digit, from -99 to 99; 0 for zero.
     pub fn exponent(self) -> i8
         ensures { result ≡ pos self.place -ℤ pos 99 }
     {
-        self.exponent as i8
+        (self.place() as i32 - 99) as i8
     }
 }

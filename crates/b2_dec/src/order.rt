@@ -6,7 +6,7 @@ ghost use Rattle.b2_dec.specs.Number.{size, value, signed};
 ghost use Rattle.b2_dec.specs.Arithmetic.{fits_64, whole_of, sign_of};
 
 use crate::number::{Dec, Mode};
-use crate::rounding::{lowered, ten_to};
+use crate::rounding::ten_to;
 use std::cmp::Ordering;
 
 /// How two numbers stand in order.
@@ -61,27 +61,26 @@ pub fn whole(a: Dec) -> Option<i64>
         return None;
     }
     if place >= 111 {
-        return with_sign(a.is_negative(), lowered(coef, place - 111));
+        return with_sign(a.is_negative(), coef * ten_to(place - 111));
     }
     let below = 111 - place;
     if below > 12 {
         return None;
     }
-    let unit = ten_to(below) as u64;
+    let unit = ten_to(below);
     if coef % unit == 0 {
-        with_sign(a.is_negative(), (coef / unit) as u128)
+        with_sign(a.is_negative(), coef / unit)
     } else {
         None
     }
 }
 
 /// A size with its sign, where it fits.
-fn with_sign(neg: bool, size: u128) -> Option<i64>
-    requires { size < 10 ^ 38 }
+fn with_sign(neg: bool, size: u64) -> Option<i64>
     ensures { result ≡ (if fits_64 (signed neg size) then Some (signed neg size) else None) }
 {
     if neg {
-        (-(size as i128)).try_into().ok()
+        (-i128::from(size)).try_into().ok()
     } else {
         i64::try_from(size).ok()
     }

@@ -1,27 +1,22 @@
 // Numbers in eight bytes.
-ghost use Rattle.std.specs.Prelude.{◌≡◌, ◌+◌, ◌*◌, ◌/◌, ◌<◌, ◌≤◌, IfSome, Some, length};
+ghost use Rattle.std.specs.Prelude.{◌≡◌, ◌^◌, ◌<◌, ◌≤◌, ◌↔◌, IfSome, Some, IsTrue};
+ghost use Rattle.std.specs.Int.{w64, to_be_bytes};
 ghost use Rattle.b2_dec.specs.Number.{Number, IsNumber};
 ghost use Rattle.b2_dec.specs.Packing as spec;
-ghost use Rattle.b2_dec.specs.Packing.{packed};
+ghost use Rattle.b2_dec.specs.Packing.{packed, IsPacked};
 
+use crate::lanes::{nibbles_of, nibbles_value};
 use crate::number::Dec;
-use b2_base::lexical::{decimal_byte, decimal_of};
+use crate::rounding::COEFFICIENT_LIMIT;
+
+/// What the nibble of the two signs counts among the sixteen digits of a packed number.
+const SIGNS: u64 = 1_000_000_000_000_000;
 
 /// The number in eight bytes: a nibble for the two signs, two digits of the exponent's size, and the thirteen digits.
 pub fn pack(a: Dec) -> [u8; 8]
     ensures { result ≡ packed a }
 {
-    let n = exponent_size(a) * 10_000_000_000_000 + a.coefficient();
-    [
-        16 * signs(a) + (n / 100_000_000_000_000) as u8,
-        decimal_byte((n / 1_000_000_000_000 % 100) as u8),
-        decimal_byte((n / 10_000_000_000 % 100) as u8),
-        decimal_byte((n / 100_000_000 % 100) as u8),
-        decimal_byte((n / 1_000_000 % 100) as u8),
-        decimal_byte((n / 10_000 % 100) as u8),
-        decimal_byte((n / 100 % 100) as u8),
-        decimal_byte((n % 100) as u8),
-    ]
+    packed_word(a).to_be_bytes()
 }
 
 /// The number in eight bytes, None where no number is packed in this way.
@@ -30,51 +25,40 @@ pub fn unpack(b: &[u8; 8]) -> Option<Dec>
     ensures only { IfSome result (λ x. b.now ≡ packed x) }
 {
     let number = decoded(b)?;
-    if pack(number) == *b {
+    if is_packed(number, b) {
         Some(number)
     } else {
         None
     }
 }
 
-/// The number that is packed in these bytes, if one is.
-fn decoded(b: &[u8; 8]) -> Option<Dec>
-    ensures { (x : Number) → IsNumber x → b.now ≡ packed x → result ≡ Some x }
+/// The number that was packed in these eight bytes.
+pub fn unpacked(b: &[u8; 8]) -> Dec
+    requires { IsPacked b.now }
+    ensures { (x : Number) → IsNumber x → b.now ≡ packed x → result ≡ x }
 {
-    let n = pairs_value(b) % 1_000_000_000_000_000;
-    candidate(
-        b[0] / 16,
-        (n / 10_000_000_000_000) as u8,
-        n % 10_000_000_000_000,
+    let digits = digits_in(b);
+    Dec::of_parts(
+        is_below_zero(digits),
+        digits % COEFFICIENT_LIMIT,
+        place(digits),
     )
 }
 
-/// The number of a nibble of signs, an exponent's size and the thirteen digits, where the digits are those of a number.
-/// Other nibbles and exponents are let through.
-fn candidate(signs: u8, size: u8, coef: u64) -> Option<Dec>
-    requires { coef < 10000000000000 }
-    ensures { (x : Number) → IsNumber x → signs ≡ spec.signs x → size ≡ spec.exponent_size x → coef ≡ x.coef → result ≡ Some x }
+/// The eight bytes of a packed number as one word, the first of them highest.
+fn packed_word(a: Dec) -> u64
+    ensures { to_be_bytes w64 result ≡ packed a }
 {
-    if coef == 0 {
-        return Some(Dec::zero());
-    }
-    if coef < 1_000_000_000_000 || size > 99 {
-        return None;
-    }
-    let place = if signs >= 8 { 99 - size } else { 99 + size };
-    Some(Dec::ending_at(signs % 2 == 1, coef, place))
+    nibbles_of(all_digits(a))
 }
 
-/// The number that all nibbles of the bytes spell as digits.
-fn pairs_value(bytes: &[u8]) -> u64
-    requires { length bytes.now ≤ 8 }
-    ensures { result ≡ spec.pairs_value 0 bytes.now }
+/// The sixteen digits of a packed number.
+fn all_digits(a: Dec) -> u64
+    ensures value { result ≡ spec.all_digits a }
+    ensures bound { result < 10 ^ 16 }
+    ensures spelling { IsNumber a }
 {
-    let mut n = 0;
-    for byte in bytes {
-        n = n * 100 + u64::from(decimal_of(*byte));
-    }
-    n
+    signs(a) * SIGNS + exponent_size(a) * COEFFICIENT_LIMIT + a.coefficient()
 }
 
 /// The size of the exponent.
@@ -87,10 +71,59 @@ fn exponent_size(a: Dec) -> u64
 }
 
 /// The nibble of the two signs.
-fn signs(a: Dec) -> u8
+fn signs(a: Dec) -> u64
     ensures value { result ≡ spec.signs a }
     ensures bound { result ≤ 9 }
 {
     let number = if a.is_negative() { 1 } else { 0 };
     if a.place() < 99 { number + 8 } else { number }
+}
+
+/// The place of a number's last digit, from the digits of the packed number.
+fn place(digits: u64) -> u8
+    ensures value { (x : Number) → IsNumber x → digits ≡ spec.all_digits x → result ≡ x.place }
+    ensures bound { result ≤ 198 }
+{
+    let size = (digits / COEFFICIENT_LIMIT % 100) as u8;
+    if digits / SIGNS >= 8 {
+        99 - size
+    } else {
+        99 + size
+    }
+}
+
+/// Whether a number is below zero, from the digits of the packed number.
+fn is_below_zero(digits: u64) -> bool
+    ensures { (x : Number) → IsNumber x → digits ≡ spec.all_digits x → result ≡ x.neg }
+{
+    digits / SIGNS % 2 == 1
+}
+
+/// The number that is packed in these bytes, if one is. Other bytes are let through.
+fn decoded(b: &[u8; 8]) -> Option<Dec>
+    ensures { (x : Number) → IsNumber x → b.now ≡ packed x → result ≡ Some x }
+{
+    let digits = digits_in(b);
+    let coef = digits % COEFFICIENT_LIMIT;
+    if coef == 0 {
+        return Some(Dec::zero());
+    }
+    if coef < 1_000_000_000_000 {
+        return None;
+    }
+    Some(Dec::ending_at(is_below_zero(digits), coef, place(digits)))
+}
+
+/// Whether these bytes are a packed number.
+fn is_packed(a: Dec, b: &[u8; 8]) -> bool
+    ensures { IsTrue result ↔ (b.now ≡ packed a) }
+{
+    packed_word(a) == u64::from_be_bytes(*b)
+}
+
+/// The sixteen digits of the number that is packed in these bytes, if one is.
+fn digits_in(b: &[u8; 8]) -> u64
+    ensures { (x : Number) → IsNumber x → b.now ≡ packed x → result ≡ spec.all_digits x }
+{
+    nibbles_value(u64::from_be_bytes(*b))
 }

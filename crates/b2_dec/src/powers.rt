@@ -49,6 +49,6 @@ pub fn sqr(a: Dec) -> Result<Dec, Code>
     }
     // An even number of places is left for the root to halve.
     let more = 14 + (place + 1) % 2;
-    let root = (coef as u128 * ten_to(more)).isqrt();
+    let root = (coef as u128 * ten_to(more) as u128).isqrt();
     round_whole_part(false, root, (place + 333 - more) / 2, Mode::Cut)
 }

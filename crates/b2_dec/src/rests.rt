@@ -6,7 +6,7 @@ ghost use Rattle.b2_dec.specs.Rounding.{whole_by, rnd};
 ghost use Rattle.b2_dec.specs.Arithmetic.{modulo_of, multiple_of};
 
 use crate::number::{Dec, Mode};
-use crate::rounding::{round_exact, ten_to};
+use crate::rounding::{round_short, ten_to};
 use crate::sums::add;
 use b2_base::Code;
 use b2_base::codes::{C62_ZERO_DIVISOR, P34_RANGE};
@@ -29,9 +29,9 @@ pub fn modulo(a: Dec, b: Dec, m: Mode) -> Result<Dec, Code>
     }
     let rest = rest_of_raised(x, a.place() - b.place(), y);
     if same || rest == 0 {
-        return round_exact(b.is_negative(), rest as u128, b.place() + 111, m);
+        return round_short(b.is_negative(), rest, b.place() + 111, m);
     }
-    round_exact(b.is_negative(), (y - rest) as u128, b.place() + 111, m)
+    round_short(b.is_negative(), y - rest, b.place() + 111, m)
 }
 
 /// What `y` leaves of `x · 10 ^ places`.
@@ -44,8 +44,8 @@ fn rest_of_raised(x: u64, places: u32, y: u64) -> u64
     let mut rest = x % y;
     let mut left = places;
     while left > 0 {
-        let step = left.min(25);
-        rest = (rest as u128 * ten_to(step) % y as u128) as u64;
+        let step = left.min(6);
+        rest = rest * ten_to(step) % y;
         left -= step;
     }
     rest
@@ -79,10 +79,10 @@ fn nearest_multiple(a: Dec, last: u32) -> Result<Dec, Code>
     if dropped > 13 {
         return Ok(Dec::zero());
     }
-    let unit = ten_to(dropped) as u64;
-    round_exact(
+    let unit = ten_to(dropped);
+    round_short(
         a.is_negative(),
-        ((coef + unit / 2) / unit) as u128,
+        (coef + unit / 2) / unit,
         last + 111,
         Mode::Cut,
     )

@@ -10,8 +10,35 @@ use b2_base::codes::{C60_UNDERFLOW, C61_OVERFLOW};
 /// The number above the largest thirteen digits.
 pub const COEFFICIENT_LIMIT: u64 = 10_000_000_000_000;
 
+/// The number above the largest sixteen digits.
+const SHORT_LIMIT: u128 = 10_000_000_000_000_000;
+
+/// The powers of ten that a `u64` can be.
+const TENS: [u64; 20] = [
+    1,
+    10,
+    100,
+    1_000,
+    10_000,
+    100_000,
+    1_000_000,
+    10_000_000,
+    100_000_000,
+    1_000_000_000,
+    10_000_000_000,
+    100_000_000_000,
+    1_000_000_000_000,
+    10_000_000_000_000,
+    100_000_000_000_000,
+    1_000_000_000_000_000,
+    10_000_000_000_000_000,
+    100_000_000_000_000_000,
+    1_000_000_000_000_000_000,
+    10_000_000_000_000_000_000,
+];
+
 /// The powers of ten that a `u128` can be.
-const TENS: [u128; 39] = [
+const WIDE_TENS: [u128; 39] = [
     1,
     10,
     100,
@@ -53,22 +80,20 @@ const TENS: [u128; 39] = [
     100_000_000_000_000_000_000_000_000_000_000_000_000,
 ];
 
-/// A power of ten.
-pub(crate) fn ten_to(k: u32) -> u128
-    requires { k < 39 }
+/// A power of ten below 2^64.
+pub(crate) fn ten_to(k: u32) -> u64
+    requires { k < 20 }
     ensures { result ≡ 10 ^ k }
 {
     TENS[k as usize]
 }
 
-/// Digits in units of a lower place.
-pub(crate) fn lowered(coef: u64, places: u32) -> u128
-    requires digits { coef < 10000000000000 }
-    requires few { places ≤ 25 }
-    ensures value { result ≡ coef * 10 ^ places }
-    ensures bound { result ≤ 9999999999999 * 10 ^ 25 }
+/// A power of ten below 2^128.
+fn wide_ten_to(k: u32) -> u128
+    requires { k < 39 }
+    ensures { result ≡ 10 ^ k }
 {
-    coef as u128 * ten_to(places)
+    WIDE_TENS[k as usize]
 }
 
 /// The number with these thirteen digits, whose last one stands at a place counted from 10^-222; C60 and C61 where the
@@ -102,10 +127,10 @@ fn after_carry(neg: bool, coef: u64, place: u32) -> Result<Dec, Code>
 }
 
 /// The whole number that `m / 10 ^ dropped` becomes.
-fn whole_by(mode: Mode, m: u128, dropped: u32) -> u128
+fn whole_by(mode: Mode, m: u64, dropped: u32) -> u64
     requires some { 1 ≤ dropped }
-    requires few { dropped ≤ 26 }
-    requires fits { m < 10 ^ 38 }
+    requires few { dropped ≤ 3 }
+    requires fits { m < 10 ^ 16 }
     ensures { result ≡ spec.whole_by mode m (10 ^ dropped) }
 {
     let unit = ten_to(dropped);
@@ -115,6 +140,68 @@ fn whole_by(mode: Mode, m: u128, dropped: u32) -> u128
     }
 }
 
+/// The same of a number that may not fit a `u64`.
+fn wide_whole_by(mode: Mode, m: u128, dropped: u32) -> u128
+    requires some { 1 ≤ dropped }
+    requires few { dropped ≤ 26 }
+    requires fits { m < 10 ^ 38 }
+    ensures { result ≡ spec.whole_by mode m (10 ^ dropped) }
+{
+    let unit = wide_ten_to(dropped);
+    match mode {
+        Mode::Round => (m + unit / 2) / unit,
+        Mode::Cut => m / unit,
+    }
+}
+
+/// What every fraction becomes whose whole part is `m` in units of `10 ^ at`, counted from 10^-222, and has this many digits
+/// more than thirteen.
+fn round_by(neg: bool, m: u64, dropped: u32, at: u32, mode: Mode) -> Result<Dec, Code>
+    requires some { 1 ≤ dropped }
+    requires few { dropped ≤ 3 }
+    requires least { 10 ^ (12 + dropped) ≤ m }
+    requires most { m < 10 ^ (13 + dropped) }
+    requires near { at < 1000 }
+    ensures { (n d : ℕ) → 0 < d → IsWholePart m at n d → result ≡ rnd mode neg n d }
+{
+    after_carry(neg, whole_by(mode, m, dropped), at + dropped)
+}
+
+/// What every fraction becomes whose whole part is `m` in units of `10 ^ at`, counted from 10^-222, for fourteen to sixteen
+/// digits.
+pub(crate) fn round_part(neg: bool, m: u64, at: u32, mode: Mode) -> Result<Dec, Code>
+    requires digits { 10000000000000 ≤ m }
+    requires fits { m < 10 ^ 16 }
+    requires near { at < 1000 }
+    ensures { (n d : ℕ) → 0 < d → IsWholePart m at n d → result ≡ rnd mode neg n d }
+{
+    // Each of these divides by a number that is known here.
+    if m < 100_000_000_000_000 {
+        round_by(neg, m, 1, at, mode)
+    } else if m < 1_000_000_000_000_000 {
+        round_by(neg, m, 2, at, mode)
+    } else {
+        round_by(neg, m, 3, at, mode)
+    }
+}
+
+/// What the exact number `m · 10 ^ at`, counted from 10^-222, becomes, for at most sixteen digits.
+pub(crate) fn round_short(neg: bool, m: u64, at: u32, mode: Mode) -> Result<Dec, Code>
+    requires fits { m < 10 ^ 16 }
+    requires low { 25 ≤ at }
+    requires near { at < 1000 }
+    ensures { (n d : ℕ) → 0 < d → m * (10 ^ at * d) ≡ n * 10 ^ 222 → result ≡ rnd mode neg n d }
+{
+    if m >= COEFFICIENT_LIMIT {
+        return round_part(neg, m, at, mode);
+    }
+    if m == 0 {
+        return Ok(Dec::zero());
+    }
+    let missing = 12 - m.ilog10();
+    in_range(neg, m * ten_to(missing), at - missing)
+}
+
 /// What every fraction becomes whose whole part is `m` in units of `10 ^ at`, counted from 10^-222.
 pub fn round_whole_part(neg: bool, m: u128, at: u32, mode: Mode) -> Result<Dec, Code>
     requires digits { 10000000000000 ≤ m }
@@ -122,8 +209,11 @@ pub fn round_whole_part(neg: bool, m: u128, at: u32, mode: Mode) -> Result<Dec, 
     requires near { at < 1000 }
     ensures { (n d : ℕ) → 0 < d → IsWholePart m at n d → result ≡ rnd mode neg n d }
 {
+    if m < SHORT_LIMIT {
+        return round_part(neg, m as u64, at, mode);
+    }
     let dropped = m.ilog10() - 12;
-    let coef = whole_by(mode, m, dropped);
+    let coef = wide_whole_by(mode, m, dropped);
     after_carry(neg, coef as u64, at + dropped)
 }
 
@@ -134,12 +224,9 @@ pub fn round_exact(neg: bool, m: u128, at: u32, mode: Mode) -> Result<Dec, Code>
     requires near { at < 1000 }
     ensures { (n d : ℕ) → 0 < d → m * (10 ^ at * d) ≡ n * 10 ^ 222 → result ≡ rnd mode neg n d }
 {
-    if m == 0 {
-        return Ok(Dec::zero());
+    if m < SHORT_LIMIT {
+        round_short(neg, m as u64, at, mode)
+    } else {
+        round_whole_part(neg, m, at, mode)
     }
-    if m >= COEFFICIENT_LIMIT as u128 {
-        return round_whole_part(neg, m, at, mode);
-    }
-    let missing = 12 - m.ilog10();
-    in_range(neg, (m * ten_to(missing)) as u64, at - missing)
 }

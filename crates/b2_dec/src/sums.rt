@@ -1,9 +1,9 @@
 // Sums and differences.
-ghost use Rattle.std.specs.Prelude.{◌≡◌, ◌+◌, ◌<◌, ◌≤◌};
+ghost use Rattle.std.specs.Prelude.{◌≡◌, ◌+◌, ◌*◌, ◌/◌, ◌^◌, ◌<◌, ◌≤◌};
 ghost use Rattle.b2_dec.specs.Arithmetic.{sum_of, difference_of};
 
 use crate::number::{Dec, Mode};
-use crate::rounding::{lowered, round_exact, round_whole_part};
+use crate::rounding::{round_part, round_short, ten_to};
 use b2_base::Code;
 
 /// The rounded sum; C60 and C61 where it is too small or too large.
@@ -40,44 +40,69 @@ fn sum(high: Dec, low: Dec, mode: Mode) -> Result<Dec, Code>
     ensures { result ≡ sum_of mode high low }
 {
     let apart = high.place() - low.place();
-    if apart > 25 {
-        far_sum(high, low, mode)
+    if apart > 1 {
+        far_sum(high, low, apart, mode)
     } else {
         near_sum(high, low, apart, mode)
     }
 }
 
-/// The sum of two numbers that fit one `u128`, in units of the lower place.
+/// The sum of two numbers that are at most one place apart, in units of the lower place.
 fn near_sum(high: Dec, low: Dec, apart: u32, mode: Mode) -> Result<Dec, Code>
     requires apart { high.place ≡ low.place + apart }
-    requires near { apart ≤ 25 }
+    requires near { apart ≤ 1 }
     ensures { result ≡ sum_of mode high low }
 {
     let x = lowered(high.coefficient(), apart);
-    let y = low.coefficient() as u128;
+    let y = low.coefficient();
     let at = low.place() + 111;
     if high.is_negative() == low.is_negative() {
-        round_exact(high.is_negative(), x + y, at, mode)
+        round_short(high.is_negative(), x + y, at, mode)
     } else if x >= y {
-        round_exact(high.is_negative(), x - y, at, mode)
+        round_short(high.is_negative(), x - y, at, mode)
     } else {
-        round_exact(low.is_negative(), y - x, at, mode)
+        round_short(low.is_negative(), y - x, at, mode)
     }
 }
 
-/// The sum of two numbers of which the second is less than a hundredth of the first one's last digit.
-fn far_sum(high: Dec, low: Dec, mode: Mode) -> Result<Dec, Code>
+/// Digits in units of the same place or of the next lower one.
+fn lowered(coef: u64, places: u32) -> u64
+    requires digits { coef < 10000000000000 }
+    requires few { places ≤ 1 }
+    ensures value { result ≡ coef * 10 ^ places }
+    ensures bound { result < 100000000000000 }
+{
+    if places == 0 { coef } else { coef * 10 }
+}
+
+/// The sum of two numbers that are further apart: what the second one has in two more places than the first settles it.
+fn far_sum(high: Dec, low: Dec, apart: u32, mode: Mode) -> Result<Dec, Code>
     requires some { 1000000000000 ≤ high.coef }
     requires other { 1000000000000 ≤ low.coef }
-    requires digits { low.coef < 10000000000000 }
-    requires far { low.place + 25 < high.place }
+    requires apart { high.place ≡ low.place + apart }
+    requires far { 2 ≤ apart }
     ensures { result ≡ sum_of mode high low }
 {
-    let x = high.coefficient() as u128 * 100;
+    let x = high.coefficient() * 100;
+    let y = low.coefficient();
     let at = high.place() + 109;
     if high.is_negative() == low.is_negative() {
-        round_whole_part(high.is_negative(), x, at, mode)
+        round_part(high.is_negative(), x + units_above(y, apart - 2), at, mode)
     } else {
-        round_whole_part(high.is_negative(), x - 1, at, mode)
+        round_part(
+            high.is_negative(),
+            x - (units_above(y - 1, apart - 2) + 1),
+            at,
+            mode,
+        )
     }
+}
+
+/// The whole units of a higher place that digits have.
+fn units_above(coef: u64, places: u32) -> u64
+    requires { coef < 10000000000000 }
+    ensures value { result ≡ coef / 10 ^ places }
+    ensures bound { result ≤ coef }
+{
+    coef / ten_to(places.min(13))
 }

@@ -10,4 +10,4 @@ returns-then-x-eq0-2 c =
 pub returns : goal.returns
 returns c =
     quotient-is c.args.m c.args.a c.args.b _ _ _ _ _ _ _ c.coefficient-x.ensures.value c.coefficient-y.ensures.value c.place.ensures.value c.place-2.ensures.value
-    c.is_negative.ensures.value c.is_negative-2.ensures.value (λ e. c.if-y-eq0.false (c.coefficient-y.ensures.value ∙ e)) c.place-2.ensures.highest c.round_whole_part.ensures
+    c.is_negative.ensures.value c.is_negative-2.ensures.value (λ e. c.if-y-eq0.false (c.coefficient-y.ensures.value ∙ e)) c.place-2.ensures.highest c.round_part.ensures

@@ -38,7 +38,7 @@ returns-then-same-2 c =
     ⊎_elim (λ e. inl (sym (same_sign _ _ _ _ e c.is_negative.ensures.value c.is_negative-2.ensures.value)))
     (λ e. inr (not-back _ _ (other_sign _ _ _ _ e.0 c.is_negative.ensures.value c.is_negative-2.ensures.value), e.1)) c.then-same-2.either in
     rest-kept c.args.m c.args.a c.args.b (c.args.a.place - c.args.b.place) _ _ _ _ some here apart rest c.place-then-same-2.ensures.value
-    c.is_negative-then-same-2.ensures.value signs c.round_exact.ensures
+    c.is_negative-then-same-2.ensures.value signs c.round_short.ensures
 
 pub returns : goal.returns
 returns c =
@@ -48,4 +48,4 @@ returns c =
     let rest = rw (c.coefficient-x.ensures.value, c.coefficient-y.ensures.value, c.place-3.ensures.value, c.place-4.ensures.value) at c.rest_of_raised-rest.ensures.value in
     rest-turned c.args.m c.args.a c.args.b (c.args.a.place - c.args.b.place) _ _ _ _ some here apart rest c.place-5.ensures.value c.is_negative-3.ensures.value
     (not-back _ _ (other_sign _ _ _ _ c.if-same-2.false c.is_negative.ensures.value c.is_negative-2.ensures.value)) c.if-rest-eq0.false _
-    c.coefficient-y.ensures.value c.round_exact-2.ensures
+    c.coefficient-y.ensures.value c.round_short-2.ensures

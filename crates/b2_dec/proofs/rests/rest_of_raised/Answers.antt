@@ -10,8 +10,8 @@ loop-left-init c = (mod-lt c.args.x c.requires.some, mul-mod_first c.args.x (10 
 pub overflow_mul-rest : goal.overflow_mul-rest
 overflow_mul-rest c =
     let few : c.loop-left.rest ≤ 9999999999999 = omega (arith, c.loop-left.invariant.0) in
-    let step : c.min-step.result ≤ 25 = omega (arith, c.min-step.ensures) in
-    let bound : c.loop-left.rest * c.ten_to.result ≤ 9999999999999 * 10 ^ 25 = rw c.ten_to.ensures (mul-le-mul few (ten_le c.min-step.result 25 step)) in
+    let step : c.min-step.result ≤ 6 = omega (arith, c.min-step.ensures) in
+    let bound : c.loop-left.rest * c.ten_to.result ≤ 9999999999999 * 10 ^ 6 = rw c.ten_to.ensures (mul-le-mul few (ten_le c.min-step.result 6 step)) in
     search (arith, bound)
 
 pub loop-left-preserved : goal.loop-left-preserved

@@ -4,7 +4,7 @@ use Rattle.b2_dec.proofs.rounding.whole_by.Goals as goal
 
 pub overflow_add-result : goal.overflow_add-result
 overflow_add-result c =
-    let less : 10 ^ c.args.dropped ≤ 10 ^ 26 = ten_le c.args.dropped 26 c.requires.few in
+    let less : 10 ^ c.args.dropped ≤ 10 ^ 3 = ten_le c.args.dropped 3 c.requires.few in
     let half : c.ten_to-unit.result / 2 ≤ c.ten_to-unit.result = div-le_self _ 2 in
     omega arith
 

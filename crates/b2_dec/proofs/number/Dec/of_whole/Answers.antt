@@ -16,8 +16,8 @@ pub ending_at-requires-clause-digits : goal.ending_at-requires-clause-digits
 ending_at-requires-clause-digits c =
     rw c.ten_to.ensures (filled-most c.args.n _ (few_digits c.args.n _ c.requires c.ilog10-missing.ensures.power_le) c.ilog10-missing.ensures.next_power_gt)
 
-pub overflow_cast-n-2 : goal.overflow_cast-n-2
-overflow_cast-n-2 c =
+pub overflow_mul-n : goal.overflow_mul-n
+overflow_mul-n c =
     let most = filled-most c.args.n _ (few_digits c.args.n _ c.requires c.ilog10-missing.ensures.power_le) c.ilog10-missing.ensures.next_power_gt in
     rw c.ten_to.ensures (search (arith, most))
 
