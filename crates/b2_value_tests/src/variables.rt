@@ -144,8 +144,8 @@ fn shaped(vars: &mut Vars, v: Var, call: &str, sheet: &mut Sheet<'_>)
         len: sheet.small(),
     };
     match call {
-        "dim" => sheet.show_result(vars.dim(v, shape)),
-        "com" => sheet.show_result(vars.com(v, shape)),
+        "dim" => sheet.show_outcome(vars.dim(v, shape)),
+        "com" => sheet.show_outcome(vars.com(v, shape)),
         _ => sheet.show_outcome(vars.redim(v, shape)),
     }
 }
@@ -190,10 +190,10 @@ fn set(vars: &mut Vars, at: At, sheet: &mut Sheet<'_>)
 {
     match value(sheet) {
         Value::Number(x) if !at.v.alpha => {
-            sheet.show_result(vars.set(at.v, at.row, at.column, &Value::Number(x)));
+            sheet.show_outcome(vars.set(at.v, at.row, at.column, &Value::Number(x)));
         }
         Value::Alpha(bytes) if at.v.alpha => {
-            sheet.show_result(vars.set(at.v, at.row, at.column, &Value::Alpha(bytes)));
+            sheet.show_outcome(vars.set(at.v, at.row, at.column, &Value::Alpha(bytes)));
         }
         _ => sheet.misread(),
     }
@@ -207,7 +207,7 @@ fn set_number(vars: &mut Vars, at: At, sheet: &mut Sheet<'_>)
     if at.v.alpha {
         return sheet.misread();
     }
-    sheet.show_result(vars.set_number(at.v, at.row, at.column, x));
+    sheet.show_outcome(vars.set_number(at.v, at.row, at.column, x));
 }
 
 fn set_alpha(vars: &mut Vars, at: At, sheet: &mut Sheet<'_>)
@@ -217,7 +217,7 @@ fn set_alpha(vars: &mut Vars, at: At, sheet: &mut Sheet<'_>)
     if !at.v.alpha {
         return sheet.misread();
     }
-    sheet.show_result(vars.set_alpha(at.v, at.row, at.column, &bytes));
+    sheet.show_outcome(vars.set_alpha(at.v, at.row, at.column, &bytes));
 }
 
 fn set_part(vars: &mut Vars, at: At, sheet: &mut Sheet<'_>)
@@ -230,7 +230,7 @@ fn set_part(vars: &mut Vars, at: At, sheet: &mut Sheet<'_>)
             vars.set_part(at.v, at.row, at.column, from, &bytes);
             sheet.show("ok");
         }
-        Err(fault) => sheet.show_fault(fault),
+        Err(code) => sheet.show_code(code),
     }
 }
 
@@ -240,8 +240,8 @@ fn change_part(vars: &mut Vars, at: At, call: &str, sheet: &mut Sheet<'_>)
 {
     let from = sheet.count();
     let n = sheet.count();
-    if let Err(fault) = vars.reach_part(at.v, at.row, at.column, from, n) {
-        return sheet.show_fault(fault);
+    if let Err(code) = vars.reach_part(at.v, at.row, at.column, from, n) {
+        return sheet.show_code(code);
     }
     match call {
         "reach_part" => {}

@@ -1,5 +1,5 @@
 -- Where a value stands: its place is one of the shape's, and its bytes are among the variable's.
-use Rattle.std.proofs.Common.{◌≡◌, ℕ, suc, ◌+◌, ◌-◌, ◌*◌, ◌/◌, ◌<◌, ◌≤◌, max, Bool, true, false, cond, ◌&&◌, length, Option, Some, IfSome, refl, ap, sym, subst, ◌∙◌, arith, true≢false}
+use Rattle.std.proofs.Common.{◌≡◌, ℕ, suc, ◌+◌, ◌-◌, ◌*◌, ◌/◌, ◌<◌, ◌≤◌, max, Bool, true, false, cond, ◌&&◌, length, Option, Some, refl, ap, sym, subst, ◌∙◌, arith, true≢false}
 use Rattle.std.proofs.lemmas.Nat.{mul-add-lt, div-mul-add}
 use Rattle.std.proofs.Math.Nat.{mul-le-mul_right}
 use Rattle.std.proofs.lemmas.Bool.Decides.{nat_tests}
@@ -9,7 +9,7 @@ use Rattle.b2_vars.specs.declared.name.Var.{Var}
 use Rattle.b2_vars.specs.declared.shape.Shape.{Shape}
 use Rattle.b2_vars.specs.Shapes.{is_subscript, has_cell, cell_at, cells, number_cells, scalar_shape}
 use Rattle.b2_vars.specs.Variables.{VariableState, fresh}
-use Rattle.b2_vars.specs.Tables.{Table, IsSound, IsVariable, shape_at, variable_at}
+use Rattle.b2_vars.specs.Tables.{Table, IsVariable, shape_at, variable_at}
 use Rattle.b2_vars.specs.Calls.{IsPart, part_place}
 
 left_true : (a b : Bool) → a && b ≡ true → a ≡ true
@@ -39,10 +39,6 @@ value-le cell count len h = omega (arith, mul-le-mul_right {m = suc cell} {n = c
 pub variable_at-Some : (t : Table) (v : Var) (x : VariableState) → get t v ≡ Some x → variable_at v t ≡ x
 variable_at-Some t v x is = ap (λ (o : Option VariableState). unwrap_or o (fresh v (scalar_shape v) false)) is
 
--- what stands under a name of sound variables is a variable of that name
-pub sound-Some : (area count : ℕ) (t : Table) (v : Var) (x : VariableState) → IsSound area count t → get t v ≡ Some x → IsVariable v x
-sound-Some area count t v x sound is = subst (λ (o : Option VariableState). IfSome o (IsVariable v)) is (sound.each v)
-
 not_alpha : (v : Var) (s : Shape) → v.alpha ≡ false → number_cells v s ≡ cells s
 not_alpha v s is = ap (λ b. cond b 0 (cells s)) is
 
@@ -51,16 +47,13 @@ pub number-room : (t : Table) (v : Var) (r c : ℕ) → IsVariable v (variable_a
     → cell_at (shape_at v t) r c < length (variable_at v t).numbers
 number-room t v r c is number has = omega (arith, cell-lt (shape_at v t) r c has, is.numbers, not_alpha v (shape_at v t) number)
 
-pub value-within : (t : Table) (v : Var) (x : VariableState) (r c : ℕ) → IsVariable v x → get t v ≡ Some x → has_cell (shape_at v t) r c ≡ true
-    → cell_at (shape_at v t) r c * x.shape.len + x.shape.len ≤ length x.bytes
-value-within t v x r c sound is has =
-    let shape : shape_at v t ≡ x.shape = ap (λ (x : VariableState). x.shape) (variable_at-Some t v x is) in
-    let below : cell_at x.shape r c < cells x.shape = cell-lt x.shape r c (subst (λ (s : Shape). has_cell s r c ≡ true) shape has) in
-    omega (arith, ap (λ (s : Shape). cell_at s r c * x.shape.len) shape, value-le (cell_at x.shape r c) (cells x.shape) x.shape.len below, sound.bytes)
-
 -- the bytes of a value at a place, and a part of them, are among those of the variable
 pub cell-within : (t : Table) (v : Var) (cell : ℕ) → IsVariable v (variable_at v t) → cell < cells (shape_at v t) → cell * (shape_at v t).len + (shape_at v t).len ≤ length (variable_at v t).bytes
 cell-within t v cell is below = omega (arith, value-le cell (cells (shape_at v t)) (shape_at v t).len below, is.bytes)
+
+-- with its length as the program has it
+pub cell-room : (t : Table) (v : Var) (cell len : ℕ) → IsVariable v (variable_at v t) → cell < cells (shape_at v t) → len ≡ (shape_at v t).len → cell * len + len ≤ length (variable_at v t).bytes
+cell-room t v cell len is below same = subst (λ (n : ℕ). cell * n + n ≤ length (variable_at v t).bytes) (sym same) (cell-within t v cell is below)
 
 pub part-within : (t : Table) (v : Var) (r c from n : ℕ) → IsVariable v (variable_at v t) → IsPart v r c from n t → part_place v r c from t + n ≤ length (variable_at v t).bytes
 part-within t v r c from n is there =

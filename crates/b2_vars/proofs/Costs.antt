@@ -5,6 +5,9 @@ use Rattle.b2_vars.specs.declared.name.Var.{Var}
 use Rattle.b2_vars.specs.declared.shape.Shape.{Shape}
 use Rattle.b2_vars.specs.Shapes.{cost, cells, has_dimensions, is_up_to}
 
+pub is_zero : (n : ℕ) → (n == 0) ≡ true → n ≡ 0
+is_zero n e = grind (arith, nat_tests)
+
 -- a shape without dimensions has one value
 one_cell : (rows cols : ℕ) → (rows == 0 && cols == 0) ≡ true → max 1 rows * max 1 cols ≡ 1
 one_cell rows cols h =

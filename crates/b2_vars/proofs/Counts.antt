@@ -1,5 +1,5 @@
 -- What a finite map takes after one variable is put.
-use Rattle.std.proofs.Common.{◌≡◌, ℕ, ◌+◌, ◌≤◌, Bool, true, false, cond, List, [], ◌∷◌, length, refl, ap, sym, subst, ◌∙◌, arith, Option, Some, None, Ordering, Less, Equal, Greater}
+use Rattle.std.proofs.Common.{◌≡◌, ℕ, ◌+◌, Bool, true, false, cond, [], ◌∷◌, length, refl, ap, sym, ◌∙◌, arith, Option, Some, None, Ordering, Less, Equal, Greater}
 use Rattle.std.specs.Prelude.{T, ◌&&◌}
 use Rattle.std.specs.Option.{option_map_or}
 use Rattle.std.specs.Ordering.{is_eq, is_lt}
@@ -9,7 +9,7 @@ use Rattle.b2_vars.specs.declared.name.Var.{Var}
 use Rattle.b2_vars.specs.Names.{var_cmp}
 use Rattle.b2_vars.specs.Shapes.{cost}
 use Rattle.b2_vars.specs.Variables.{VariableState}
-use Rattle.b2_vars.specs.Tables.{Table, costs, count_of}
+use Rattle.b2_vars.specs.Tables.{Entries, Table, costs, count_of}
 use Rattle.b2_vars.proofs.NamesAsKeys.{names_total, names_exact}
 
 first : (a b : Bool) → T (a && b) → T a
@@ -25,9 +25,6 @@ less Less p = refl
 less Equal p = absurd p
 less Greater p = absurd p
 
-abbrev pub Entries : Type 0
-Entries = List (Var × VariableState)
-
 -- what a variable takes, 0 where there is none
 abbrev pub cost_of : Var → Option VariableState → ℕ
 cost_of v x = option_map_or (λ (x : VariableState). cost v x.shape) x 0
@@ -36,16 +33,6 @@ none_above : (k m : Var) (es : Entries) → var_cmp k m ≡ Less → T (below_al
 none_above k m [] below above = refl
 none_above k m (e ∷ es) below above =
     ap (λ r. cond (is_eq r) (Some e.1) (find var_cmp k es)) (names_total.trans k m e.0 below (less _ (first _ _ above))) ∙ none_above k m es below (second _ _ above)
-
--- what a name takes is part of the whole
-cost_of-le : (k : Var) (es : Entries) → cost_of k (find var_cmp k es) ≤ costs es
-cost_of-le k [] = omega arith
-cost_of-le k (e ∷ es) =
-    elim (var_cmp k e.0) as (λ r. var_cmp k e.0 ≡ r → cost_of k (cond (is_eq r) (Some e.1) (find var_cmp k es)) ≤ cost e.0 e.1.shape + costs es) [
-      | Less ↦ λ p. omega (arith, cost_of-le k es)
-      | Equal ↦ λ p. omega (arith, ap (λ x. cost x e.1.shape) (names_exact k e.0 p))
-      | Greater ↦ λ p. omega (arith, cost_of-le k es)
-    ] refl
 
 -- an entry that is put gives back what one of its name took
 costs-put : (k : Var) (a : VariableState) (es : Entries) → T (is_sorted var_cmp es) → costs (put var_cmp k a es) + cost_of k (find var_cmp k es) ≡ costs es + cost k a.shape
@@ -62,9 +49,6 @@ pub count-insert : (t : Table) (v : Var) (x : VariableState) → count_of (inser
 count-insert t v x =
     (λ i. costs (entries-insert names_total t v x i) + cost_of v (get-entries t v i))
     ∙ costs-put v x (entries t) (entries_sorted t)
-
-pub cost-le : (v : Var) (t : Table) → cost_of v (get t v) ≤ count_of t
-cost-le v t = subst (λ (o : Option VariableState). cost_of v o ≤ count_of t) (sym (get-entries t v)) (cost_of-le v (entries t))
 
 no_entries : (es : Entries) → length es ≡ 0 → costs es ≡ 0
 no_entries [] e = refl

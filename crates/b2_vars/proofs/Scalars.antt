@@ -1,5 +1,5 @@
 -- A variable that is made where nothing stands: it is found there, and a scalar has the shape that was seen before.
-use Rattle.std.proofs.Common.{◌≡◌, Bool, true, false, ℕ, ◌+◌, ◌<◌, ◌≤◌, arith, Option, None, Some, IsSome, IfSome, is_some, not, ◌&&◌, ◌==◌, [], ◌∷◌, refl, ap, sym, subst, ◌∙◌}
+use Rattle.std.proofs.Common.{◌≡◌, Bool, true, false, ℕ, ◌+◌, ◌<◌, ◌≤◌, arith, Option, None, Some, IsSome, IfSome, is_some, not, nat_lt, true≢false, ◌&&◌, ◌==◌, [], ◌∷◌, refl, ap, sym, subst, ◌∙◌}
 use Rattle.std.proofs.lemmas.Bool.Decides.{nat_tests}
 use Rattle.std.specs.Option.{unwrap_or}
 use Rattle.std.specs.FinMap.{get, insert, contains_key}
@@ -9,12 +9,12 @@ use Rattle.b2_vars.specs.declared.shape.Shape.{Shape}
 use Rattle.b2_vars.specs.Answers.{code_if, first_of}
 use Rattle.b2_vars.specs.Shapes.{scalar_shape, has_cell, is_subscript, cell_at, cells}
 use Rattle.b2_vars.specs.Variables.{VariableState, fresh}
-use Rattle.b2_vars.specs.Tables.{Table, VarsState, IsVariable, shape_at}
-use Rattle.b2_vars.specs.Calls.{made, with_new, with_scalar, no_part, get_code, IsCell, IsPart}
+use Rattle.b2_vars.specs.Tables.{Table, VarsState, IsVariable, IsSound, count_of, shape_at}
+use Rattle.b2_vars.specs.Calls.{made, with_new, with_scalar, no_part, get_code, full, IsCell, IsPart}
 use Rattle.b2_vars.proofs.EntriesAsMap.{get_put}
 use Rattle.b2_vars.proofs.Cells.{variable_at-Some, cell-lt}
 use Rattle.b2_vars.proofs.Costs.{no_dimensions}
-use Rattle.b2_vars.proofs.Soundness.{found-put}
+use Rattle.b2_vars.proofs.Soundness.{found-put, room-old}
 
 pub found-new : (t : Table) (v : Var) (s : Shape) (common : Bool) → IsSome (get (with_new v s common t) v)
 found-new t v s common = by (get t v) refl
@@ -61,7 +61,22 @@ scalar_has : (v : Var) (o : Option VariableState) → v.array ≡ false → IfSo
 scalar_has v None array is = refl
 scalar_has v (Some x) array is = no_size x.shape.rows x.shape.cols (no_dimensions v x.shape array is.dimensions)
 
-pub scalar-code : (t : Table) (v : Var) (r c : ℕ) → ((q : Var) → IfSome (get t q) (IsVariable q)) → v.array ≡ false → r ≡ 0 → c ≡ 0 → get_code v r c t ≡ None
-scalar-code t v r c each array row column =
-    let has : has_cell (shape_at v t) r c ≡ true = (λ i. has_cell (shape_at v t) (row i) (column i)) ∙ scalar_has v (get t v) array (each v) in
+pub scalar-code : (t : Table) (v : Var) (r c : ℕ) → IfSome (get t v) (IsVariable v) → v.array ≡ false → r ≡ 0 → c ≡ 0 → get_code v r c t ≡ None
+scalar-code t v r c sound array row column =
+    let has : has_cell (shape_at v t) r c ≡ true = (λ i. has_cell (shape_at v t) (row i) (column i)) ∙ scalar_has v (get t v) array sound in
     (λ i. first_of (code_if (array i && not (contains_key t v)) P59_NO_ARRAY ∷ code_if (not (has i)) P57_SUBSCRIPT ∷ []))
+
+-- a place above 0 is that of a name under which a variable stands
+pub some-found : (place : ℕ) (t : Table) (v : Var) → nat_lt 0 place ≡ contains_key t v → 1 ≤ place → IsSome (get t v)
+some-found place t v there some = sym there ∙ positive
+  where
+    positive : nat_lt 0 place ≡ true
+    positive = grind (arith, nat_tests)
+
+-- where it stands, nothing more is taken
+pub full-there : (area : ℕ) (t : Table) (v : Var) (s : Shape) (common : Bool) → IsSound area (count_of t) t → IsSome (get t v) → full area (with_new v s common t) ≡ None
+full-there area t v s common sound found = by (get t v) found
+  where
+    by : (o : Option VariableState) → IsSome o → full area (made o v (fresh v s common) t) ≡ None
+    by None h = absurd (true≢false (sym h))
+    by (Some x) h = room-old area (count_of t) t sound

@@ -2,9 +2,10 @@ pub mod Names
 pub mod Shapes
 pub mod Answers
 pub mod Variables
-pub mod VariableLending
 pub mod Tables
+pub mod Block
 pub mod Calls
 pub mod Globals
 pub mod Assigned
+pub mod BlockLending
 pub mod VarsLending

@@ -1,7 +1,5 @@
 -- Variables as contracts see them: a finite map from names, within an area.
-use Rattle.std.specs.Prelude.{◌≡◌, ◌≤◌, ◌<◌, ℕ, ◌+◌, true, false, List, [], ◌∷◌, length, IfSome, IsSome, slice_get, refl}
-use Rattle.std.specs.Map.{values_of}
-use Rattle.indexmap.specs.IndexMap.{set_value_at}
+use Rattle.std.specs.Prelude.{◌≡◌, ◌≤◌, ℕ, ◌+◌, true, false, List, [], ◌∷◌, length, IfSome, refl}
 use Rattle.std.specs.Coded.{Coded, code_by, coded×, coded_ℕ}
 use Rattle.std.specs.FinMap as map
 use Rattle.std.specs.Option.{unwrap_or}
@@ -22,8 +20,12 @@ pub record VarsState : Type 0 where
 abbrev pub coded_vars : Coded VarsState
 coded_vars = code_by (ℕ × Table) (coded× coded_ℕ (map.code coded_var coded_variable)) (λ s. (s.area, s.table)) (λ p. record { area = p.0; table = p.1 }) (λ _. refl)
 
+-- names with what stands under them, in an order
+abbrev pub Entries : Type 0
+Entries = List (Var × VariableState)
+
 -- what entries take
-abbrev pub costs : List (Var × VariableState) → ℕ
+abbrev pub costs : Entries → ℕ
 costs [] = 0
 costs (e ∷ es) = cost e.0 e.1.shape + costs es
 
@@ -40,7 +42,7 @@ abbrev pub shape_at : Var → Table → Shape
 shape_at v t = (variable_at v t).shape
 
 -- the map that entries stand for
-abbrev pub table_of : List (Var × VariableState) → Table
+abbrev pub table_of : Entries → Table
 table_of es = map.from_entries es
 
 -- a variable has a name, a shape that its name allows, and as many values as its shape says
@@ -56,14 +58,3 @@ pub record IsSound (area count : ℕ) (t : Table) : Type 0 where
   pub counted : count ≡ count_of t
   pub fits : count ≤ area
   pub each : (v : Var) → IfSome (map.get t v) (IsVariable v)
-
--- the value under a name stands at this place of the entries
-pub record IsPlaceOf (v : Var) (es : List (Var × VariableState)) (i : ℕ) : Type 0 where
-  pub within : i < length es
-  pub value : slice_get (values_of es) i ≡ map.get (table_of es) v
-  pub writes : (x : VariableState) → table_of (set_value_at es i x) ≡ map.insert (table_of es) v x
-
--- the variable of a name stands at this place of the entries
-pub record IsEntryOf (v : Var) (es : List (Var × VariableState)) (i : ℕ) : Type 0 where
-  pub found : IsSome (map.get (table_of es) v)
-  pub place : IsPlaceOf v es i

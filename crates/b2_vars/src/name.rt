@@ -6,7 +6,7 @@ use b2_base::lexical::{is_digit, is_letter};
 
 /// The name of a variable: a letter, at most one digit after it, and whether its values are bytes and whether it is an
 /// array. Names that differ in any of these are different variables.
-#[derive(Clone, Copy, PartialEq, Eq, Hash)]
+#[derive(Clone, Copy, PartialEq, Eq)]
 pub struct Var {
     pub letter: u8,
     pub digit: Option<u8>,

@@ -105,8 +105,9 @@ pub fn size_of(v: Var, shape: Shape) -> usize
 }
 
 /// What a variable takes beside its values.
-fn overhead(v: Var) -> usize
+pub fn overhead(v: Var) -> usize
     ensures overhead { result ≡ overhead v }
+    ensures some { 4 ≤ result }
     ensures small { result ≤ 9 }
 {
     match (v.alpha, v.array) {

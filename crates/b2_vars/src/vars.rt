@@ -4,7 +4,7 @@ ghost use Rattle.std.specs.Borrow.{sem};
 ghost use Rattle.std.specs.FinMap as map;
 ghost use Rattle.std.specs.Fn.{FnOnceReturnsAtMut};
 ghost use Rattle.std.specs.Option.{option_map};
-ghost use Rattle.b2_vars.specs.Answers.{Answers, AnswersOrFails};
+ghost use Rattle.b2_vars.specs.Answers.{Answers};
 ghost use Rattle.b2_vars.specs.Calls.{ChangesPart, IsPart, IsCell, full, no_array, get_code, set_code, part_code, dim_code, com_code, redim_code, missing_code, with_new, with_scalar, with_change, with_bytes_of, part_place, common_only};
 ghost use Rattle.b2_vars.specs.Names.{is_legal_name};
 ghost use Rattle.b2_vars.specs.Shapes.{has_dimensions, has_length, cell_at, size_of, alpha_bytes};
@@ -12,14 +12,13 @@ ghost use Rattle.b2_vars.specs.Tables.{count_of, shape_at, variable_at, IsVariab
 ghost use Rattle.b2_vars.specs.Variables.{VariableState, fresh, value_at, number_at, alpha_at, is_alpha, bytes_from, with_number, with_alpha, with_value, reshaped};
 ghost use Rattle.b2_vars.specs.VarsLending.{LendsPart, LendsAll};
 
+use crate::block::Block;
+use crate::checks;
 use crate::name::Var;
-use crate::shape::{Shape, cell_at, cost, scalar_shape};
-use crate::table::{self, Table};
-use crate::variable::Variable;
+use crate::shape::{Shape, alpha_bytes, cell_at, cost, scalar_shape};
 use b2_base::codes::{A02_DATA_AREA, P59_NO_ARRAY};
-use b2_base::{Code, Fault, NoMemory};
+use b2_base::{Code, NoMemory};
 use b2_dec::{Bytes, Dec, Value};
-use indexmap::IndexMap;
 use std::alloc::Global;
 use std::marker::Model;
 
@@ -29,34 +28,27 @@ const BLANKS: [u8; 16] = [b' '; 16];
 /// Variables within an area of bytes. Contracts see the area, and a finite map from names to shapes and values.
 #[derive(Drop)]
 pub struct Vars {
-    alloc: Global,
-    area: usize,
-    count: usize,
-    table: Table,
+    block: Block,
 }
 
 impl Model for Vars {
-    ghost use Rattle.b2_vars.specs.Tables.{VarsState, coded_vars, table_of, IsSound};
+    ghost use Rattle.b2_vars.specs.Block.{state_of};
+    ghost use Rattle.b2_vars.specs.Tables.{VarsState, coded_vars};
 
     ghost Value = { VarsState };
 
     ghost coded = { coded_vars };
 
-    ghost view = { λ v. record { area = v.area; table = table_of v.table.entries } };
-
-    ghost invariant = { λ v. IsSound v.area v.count (table_of v.table.entries) };
+    ghost view = { λ v. state_of v.block };
 }
 
 impl Vars {
-    /// No variables, in an area of `area` bytes. It takes no memory.
+    /// No variables, in an area of `area` bytes. It takes all the memory that they ever use.
     pub fn new(alloc: Global, area: usize) -> Result<Vars, NoMemory>
-        ensures { result ≡ Ok (record { area = area; table = map.empty }) }
+        ensures { IfOk result (λ v. v ≡ record { area = area; table = map.empty }) }
     {
         Ok(Vars {
-            alloc,
-            area,
-            count: 0,
-            table: IndexMap::new(alloc),
+            block: Block::new(alloc, area)?,
         })
     }
 
@@ -66,10 +58,11 @@ impl Vars {
         ensures shape { result ≡ option_map (λ (x : VariableState). x.shape) (map.get self.now.table v) }
         ensures sound { IfSome (map.get self.now.table v) (IsVariable v) }
     {
-        match table::look(&self.table, v) {
-            Some(variable) => Some(variable.shape()),
-            None => None,
+        let place = self.block.place(v);
+        if place == 0 {
+            return None;
         }
+        Some(self.block.shape(v, place))
     }
 
     /// What the variables take, at most the area.
@@ -77,7 +70,7 @@ impl Vars {
         ensures count { result ≡ count_of self.now.table }
         ensures fits { result ≤ self.now.area }
     {
-        self.count
+        self.block.count()
     }
 
     /// A value. A scalar that was never set is zero or 16 blanks. P59 and P57 come in this order, each exactly where the
@@ -102,16 +95,13 @@ impl Vars {
         ensures value { IfOk result (λ x. x ≡ number_at (cell_at (shape_at v self.now.table) r c) (map.get self.now.table v)) }
         ensures code { Answers (get_code v r c self.now.table) result }
     {
-        match table::entry_index(&self.table, v) {
-            Some(i) => {
-                let cell = table::cell_in(&self.table, v, i, r, c)?;
-                Ok(table::number_in(&self.table, v, i, cell))
-            }
-            None => {
-                table::cell_of(&self.table, v, r, c)?;
-                Ok(Dec::zero())
-            }
+        let place = self.block.place(v);
+        if place == 0 {
+            checks::cell_of(&self.block, v, r, c)?;
+            return Ok(Dec::zero());
         }
+        let cell = checks::cell_in(&self.block, v, place, r, c)?;
+        Ok(self.block.number(v, place, cell))
     }
 
     /// The bytes of an alpha value, as `get`.
@@ -122,21 +112,24 @@ impl Vars {
         ensures short { IfOk result (λ x. length x.now ≤ 124) }
         ensures code { Answers (get_code v r c self.now.table) result }
     {
-        let cell = table::cell_of(&self.table, v, r, c)?;
-        match table::look(&self.table, v) {
-            Some(variable) => Ok(variable.value(cell)),
-            None => Ok(&BLANKS),
+        let place = self.block.place(v);
+        if place == 0 {
+            checks::cell_of(&self.block, v, r, c)?;
+            return Ok(&BLANKS);
         }
+        let cell = checks::cell_in(&self.block, v, place, r, c)?;
+        let len = usize::from(self.block.shape(v, place).len);
+        Ok(self.block.part(v, place, cell * len, len))
     }
 
     /// Assigns a value of the variable's kind: bytes are cut to the variable's length or padded with blanks. A scalar that
     /// isn't there is made first. P59, P57 and A02 come in this order, each exactly where the array isn't there, it has no
     /// such element, or the new scalar would take the count past the area. After an error all is as before.
-    pub fn set(&mut self, v: Var, r: u16, c: u16, x: &Value) -> Result<(), Fault>
+    pub fn set(&mut self, v: Var, r: u16, c: u16, x: &Value) -> Result<(), Code>
         requires named { is_legal_name v ≡ true }
         requires kind { is_alpha x.now ≡ v.alpha }
         ensures ok { OnOk result (self.new ≡ with_change v (with_value (cell_at (shape_at v self.old.table) r c) x.now) (with_scalar v self.old)) }
-        ensures code { AnswersOrFails (set_code v r c self.old) result }
+        ensures code { Answers (set_code v r c self.old) result }
         ensures err { OnErr result (self.new ≡ self.old) }
     {
         match x {
@@ -146,21 +139,20 @@ impl Vars {
     }
 
     /// Assigns a number, as `set`.
-    pub fn set_number(&mut self, v: Var, r: u16, c: u16, n: Dec) -> Result<(), Fault>
+    pub fn set_number(&mut self, v: Var, r: u16, c: u16, n: Dec) -> Result<(), Code>
         requires named { is_legal_name v ≡ true }
         requires number { v.alpha ≡ false }
         ensures ok { OnOk result (self.new ≡ with_change v (with_number (cell_at (shape_at v self.old.table) r c) n) (with_scalar v self.old)) }
-        ensures code { AnswersOrFails (set_code v r c self.old) result }
+        ensures code { Answers (set_code v r c self.old) result }
         ensures err { OnErr result (self.new ≡ self.old) }
     {
-        match table::entry_index(&self.table, v) {
-            Some(i) => {
-                let cell = table::cell_in(&self.table, v, i, r, c)?;
-                table::set_number_in(&mut self.table, v, i, cell, n);
-                Ok(())
-            }
-            None => self.set_new_number(v, r, c, n),
+        let place = self.block.place(v);
+        if place == 0 {
+            return self.set_new_number(v, r, c, n);
         }
+        let cell = checks::cell_in(&self.block, v, place, r, c)?;
+        self.block.set_number(v, place, cell, n);
+        Ok(())
     }
 
     /// Reaches a value, as `get`, and doesn't read it.
@@ -168,15 +160,16 @@ impl Vars {
         requires { is_legal_name v ≡ true }
         ensures { Answers (get_code v r c self.now.table) result }
     {
-        table::require_value(&self.table, v, r, c)
+        let _place = self.block.place(v);
+        checks::require_value(&self.block, v, r, c)
     }
 
     /// Assigns bytes to an alpha value, as `set`.
-    pub fn set_alpha(&mut self, v: Var, r: u16, c: u16, bytes: &[u8]) -> Result<(), Fault>
+    pub fn set_alpha(&mut self, v: Var, r: u16, c: u16, bytes: &[u8]) -> Result<(), Code>
         requires named { is_legal_name v ≡ true }
         requires alpha { v.alpha ≡ true }
         ensures ok { OnOk result (self.new ≡ with_change v (with_alpha (cell_at (shape_at v self.old.table) r c) bytes.now) (with_scalar v self.old)) }
-        ensures code { AnswersOrFails (set_code v r c self.old) result }
+        ensures code { Answers (set_code v r c self.old) result }
         ensures err { OnErr result (self.new ≡ self.old) }
     {
         let cell = self.reach(v, r, c)?;
@@ -188,15 +181,15 @@ impl Vars {
     /// `change_part` want passed, and a scalar that isn't there is made. P59, P57, P34 and A02 come in this order, each
     /// exactly where the array isn't there, it has no such element, the value has no such part, or the new scalar would
     /// take the count past the area. After an error all is as before.
-    pub fn reach_part(&mut self, v: Var, r: u16, c: u16, from: usize, n: usize) -> Result<(), Fault>
+    pub fn reach_part(&mut self, v: Var, r: u16, c: u16, from: usize, n: usize) -> Result<(), Code>
         requires { is_legal_name v ≡ true }
         ensures ok { OnOk result (self.new ≡ with_scalar v self.old) }
         ensures part { OnOk result (IsPart v r c from n self.new.table) }
-        ensures code { AnswersOrFails (part_code v r c from n self.old) result }
+        ensures code { Answers (part_code v r c from n self.old) result }
         ensures err { OnErr result (self.new ≡ self.old) }
     {
-        let _cell = table::cell_of(&self.table, v, r, c)?;
-        table::require_part(&self.table, v, from, n)?;
+        let _cell = checks::cell_of(&self.block, v, r, c)?;
+        checks::require_part(&self.block, v, from, n)?;
         self.make_scalar(v)
     }
 
@@ -207,9 +200,8 @@ impl Vars {
         ensures part { result.now ≡ bytes_from (part_place v r c from self.old.table) n (variable_at v self.old.table).bytes }
     {
         let at = self.part_place(v, r, c, from);
-        let i = table::entry_index(&self.table, v).unwrap();
-        let variable = &mut self.table[i];
-        variable.part_mut(at, n)
+        let place = self.block.known_place(v);
+        self.block.part_mut(v, place, at, n)
     }
 
     /// Puts bytes into a part of an alpha value. Nothing else changes.
@@ -218,7 +210,8 @@ impl Vars {
         ensures { self.new ≡ with_bytes_of v (part_place v r c from self.old.table) self.old bytes.now }
     {
         let at = self.part_place(v, r, c, from);
-        table::set_part(&mut self.table, v, at, bytes);
+        let place = self.block.known_place(v);
+        self.block.write(v, place, at, bytes);
     }
 
     /// Hands a part of an alpha value to a closure, which may change it. Nothing else changes.
@@ -236,7 +229,8 @@ impl Vars {
         ensures { ChangesPart (λ x y. FnOnceReturnsAtMut F.FnOnce change x tt y) v (part_place v r c from self.old.table) n self.old self.new }
     {
         let at = self.part_place(v, r, c, from);
-        table::change_part(&mut self.table, v, at, n, change);
+        let place = self.block.known_place(v);
+        self.block.change(v, place, at, n, change);
     }
 
     /// The bytes of all values of an alpha array, along rows. P59 comes exactly where nothing stands under the name.
@@ -246,10 +240,11 @@ impl Vars {
         ensures long { IfOk result (λ x. length x.now ≡ alpha_bytes (shape_at v self.now.table)) }
         ensures code { Answers (missing_code v self.now.table) result }
     {
-        match table::look(&self.table, v) {
-            Some(variable) => Ok(variable.bytes()),
-            None => Err(Code::known(P59_NO_ARRAY)),
+        let place = self.block.place(v);
+        if place == 0 {
+            return Err(Code::known(P59_NO_ARRAY));
         }
+        Ok(self.block.bytes(v, place))
     }
 
     /// Reaches all values of a variable, the test that `all_mut` and `change_all` want passed. P59 comes exactly where
@@ -259,7 +254,7 @@ impl Vars {
         ensures there { OnOk result (IsSome (map.get self.now.table v)) }
         ensures code { Answers (missing_code v self.now.table) result }
     {
-        table::require_variable(&self.table, v)
+        checks::require_variable(&self.block, v)
     }
 
     /// The bytes of all values of an alpha array, along rows, to be written.
@@ -268,9 +263,9 @@ impl Vars {
         ensures* writes_back { sem 𝓛 (LendsAll self.entry v result) }
         ensures all { result.now ≡ (variable_at v self.old.table).bytes }
     {
-        let i = table::entry_index(&self.table, v).unwrap();
-        let variable = &mut self.table[i];
-        variable.all_mut()
+        let place = self.block.known_place(v);
+        let n = alpha_bytes(self.block.shape(v, place));
+        self.block.part_mut(v, place, 0, n)
     }
 
     /// Hands the bytes of all values of an alpha array to a closure, which may change them. Nothing else changes.
@@ -279,34 +274,35 @@ impl Vars {
         requires callable { F.IsAlwaysCallable change }
         ensures { ChangesPart (λ x y. FnOnceReturnsAtMut F.FnOnce change x tt y) v 0 (length (variable_at v self.old.table).bytes) self.old self.new }
     {
-        let n = table::byte_count(&self.table, v);
-        table::change_part(&mut self.table, v, 0, n, change);
+        let place = self.block.known_place(v);
+        let n = alpha_bytes(self.block.shape(v, place));
+        self.block.change(v, place, 0, n, change);
     }
 
     /// Makes a variable that isn't common, of zeros or blanks. Where it is there in the same shape, nothing happens. P50,
     /// P53, P55 and A02 come in this order, each exactly where the name can't have these dimensions or this length, it is
     /// there in another shape, or the count would pass the area. After an error all is as before.
-    pub fn dim(&mut self, v: Var, shape: Shape) -> Result<(), Fault>
+    pub fn dim(&mut self, v: Var, shape: Shape) -> Result<(), Code>
         requires { is_legal_name v ≡ true }
         ensures ok { OnOk result (self.new ≡ record self.old { table = with_new v shape false self.old.table }) }
-        ensures code { AnswersOrFails (dim_code v shape self.old) result }
+        ensures code { Answers (dim_code v shape self.old) result }
         ensures err { OnErr result (self.new ≡ self.old) }
     {
-        table::require_allowed(v, shape)?;
-        table::require_shape(&self.table, v, shape)?;
+        checks::require_allowed(v, shape)?;
+        checks::require_shape(&self.block, v, shape)?;
         self.make(v, shape, false)
     }
 
     /// Makes a common variable, as `dim`; P56, before P55, comes exactly where it is there and not common.
-    pub fn com(&mut self, v: Var, shape: Shape) -> Result<(), Fault>
+    pub fn com(&mut self, v: Var, shape: Shape) -> Result<(), Code>
         requires { is_legal_name v ≡ true }
         ensures ok { OnOk result (self.new ≡ record self.old { table = with_new v shape true self.old.table }) }
-        ensures code { AnswersOrFails (com_code v shape self.old) result }
+        ensures code { Answers (com_code v shape self.old) result }
         ensures err { OnErr result (self.new ≡ self.old) }
     {
-        table::require_allowed(v, shape)?;
-        table::require_common(&self.table, v)?;
-        table::require_shape(&self.table, v, shape)?;
+        checks::require_allowed(v, shape)?;
+        checks::require_common(&self.block, v)?;
+        checks::require_shape(&self.block, v, shape)?;
         self.make(v, shape, true)
     }
 
@@ -319,9 +315,9 @@ impl Vars {
         ensures code { Answers (redim_code v shape self.old.table) result }
         ensures err { OnErr result (self.new ≡ self.old) }
     {
-        table::require_variable(&self.table, v)?;
-        table::require_allowed(v, shape)?;
-        table::require_room(&self.table, v, shape)?;
+        checks::require_variable(&self.block, v)?;
+        checks::require_allowed(v, shape)?;
+        checks::require_room(&self.block, v, shape)?;
         self.reshape(v, shape);
         Ok(())
     }
@@ -330,28 +326,26 @@ impl Vars {
     pub fn clear(&mut self)
         ensures { self.new ≡ record self.old { table = map.empty } }
     {
-        self.table.clear();
-        self.count = 0;
+        self.block.clear();
     }
 
     /// Only the common variables are left.
     pub fn clear_non_common(&mut self)
         ensures { self.new ≡ record self.old { table = common_only self.old.table } }
     {
-        table::retain_common(&mut self.table);
-        self.count = table::total_cost(&self.table);
+        self.block.retain_common();
     }
 
     /// Reaches a value, whose place along rows it gives; a scalar that isn't there is made.
-    fn reach(&mut self, v: Var, r: u16, c: u16) -> Result<usize, Fault>
+    fn reach(&mut self, v: Var, r: u16, c: u16) -> Result<usize, Code>
         requires { is_legal_name v ≡ true }
         ensures place { IfOk result (λ cell. cell ≡ cell_at (shape_at v self.old.table) r c) }
         ensures ok { OnOk result (self.new ≡ with_scalar v self.old) }
         ensures there { IfOk result (λ cell. IsCell v cell self.new.table) }
-        ensures code { AnswersOrFails (set_code v r c self.old) result }
+        ensures code { Answers (set_code v r c self.old) result }
         ensures err { OnErr result (self.new ≡ self.old) }
     {
-        let cell = table::cell_of(&self.table, v, r, c)?;
+        let cell = checks::cell_of(&self.block, v, r, c)?;
         self.make_scalar(v)?;
         Ok(cell)
     }
@@ -362,16 +356,17 @@ impl Vars {
         ensures place { result ≡ part_place v r c from self.now.table }
         ensures small { result < 2 ^ 63 }
     {
-        let shape = table::shape_at(&self.table, v);
+        let place = self.block.known_place(v);
+        let shape = self.block.shape(v, place);
         cell_at(shape, r, c) * usize::from(shape.len) + from
     }
 
     /// Assigns a number to a variable that may not be there.
-    fn set_new_number(&mut self, v: Var, r: u16, c: u16, n: Dec) -> Result<(), Fault>
+    fn set_new_number(&mut self, v: Var, r: u16, c: u16, n: Dec) -> Result<(), Code>
         requires named { is_legal_name v ≡ true }
         requires number { v.alpha ≡ false }
         ensures ok { OnOk result (self.new ≡ with_change v (with_number (cell_at (shape_at v self.old.table) r c) n) (with_scalar v self.old)) }
-        ensures code { AnswersOrFails (set_code v r c self.old) result }
+        ensures code { Answers (set_code v r c self.old) result }
         ensures err { OnErr result (self.new ≡ self.old) }
     {
         let cell = self.reach(v, r, c)?;
@@ -385,7 +380,8 @@ impl Vars {
         requires there { IsCell v cell self.old.table }
         ensures { self.new ≡ with_change v (with_number cell n) self.old }
     {
-        table::set_number(&mut self.table, v, cell, n);
+        let place = self.block.known_place(v);
+        self.block.set_number(v, place, cell, n);
     }
 
     /// Assigns to the alpha value at a place.
@@ -393,8 +389,9 @@ impl Vars {
         requires { IsCell v cell self.old.table }
         ensures { self.new ≡ with_change v (with_alpha cell bytes.now) self.old }
     {
-        let len = usize::from(table::shape_at(&self.table, v).len);
-        table::assign(&mut self.table, v, cell * len, len, bytes);
+        let place = self.block.known_place(v);
+        let len = usize::from(self.block.shape(v, place).len);
+        self.block.assign(v, place, cell * len, len, bytes);
     }
 
     /// Gives a variable another shape that takes no more.
@@ -405,18 +402,17 @@ impl Vars {
         requires room { size_of v shape ≤ size_of v (shape_at v self.old.table) }
         ensures { self.new ≡ with_change v (reshaped v shape) self.old }
     {
-        let others = self.count - cost(v, table::shape_at(&self.table, v));
-        table::reshape(&mut self.table, v, shape);
-        self.count = others + cost(v, shape);
+        let place = self.block.known_place(v);
+        self.block.reshape(v, place, shape);
     }
 
     /// Makes a scalar that isn't there.
-    fn make_scalar(&mut self, v: Var) -> Result<(), Fault>
+    fn make_scalar(&mut self, v: Var) -> Result<(), Code>
         requires named { is_legal_name v ≡ true }
         requires array { no_array v self.old.table ≡ None }
         ensures ok { OnOk result (self.new ≡ with_scalar v self.old) }
         ensures there { OnOk result (IsSome (map.get self.new.table v)) }
-        ensures code { AnswersOrFails (full self.old.area (with_scalar v self.old).table) result }
+        ensures code { Answers (full self.old.area (with_scalar v self.old).table) result }
         ensures err { OnErr result (self.new ≡ self.old) }
     {
         self.make(v, scalar_shape(v), false)
@@ -424,38 +420,35 @@ impl Vars {
 
     /// Makes a variable of zeros or blanks, where nothing stands under the name. A02 comes exactly where the count would
     /// pass the area.
-    fn make(&mut self, v: Var, shape: Shape, common: bool) -> Result<(), Fault>
+    fn make(&mut self, v: Var, shape: Shape, common: bool) -> Result<(), Code>
         requires named { is_legal_name v ≡ true }
         requires allowed { map.get self.old.table v ≡ None → (has_dimensions v shape ≡ true) × (has_length v shape ≡ true) }
         ensures ok { OnOk result (self.new ≡ record self.old { table = with_new v shape common self.old.table }) }
         ensures there { OnOk result (IsSome (map.get self.new.table v)) }
-        ensures code { AnswersOrFails (full self.old.area (with_new v shape common self.old.table)) result }
+        ensures code { Answers (full self.old.area (with_new v shape common self.old.table)) result }
         ensures err { OnErr result (self.new ≡ self.old) }
     {
-        match table::look(&self.table, v) {
-            Some(_) => Ok(()),
-            None => self.add(v, shape, common),
+        if self.block.place(v) > 0 {
+            return Ok(());
         }
+        self.add(v, shape, common)
     }
 
     /// Puts a new variable of zeros or blanks under its name.
-    fn add(&mut self, v: Var, shape: Shape, common: bool) -> Result<(), Fault>
+    fn add(&mut self, v: Var, shape: Shape, common: bool) -> Result<(), Code>
         requires missing { map.get self.old.table v ≡ None }
         requires named { is_legal_name v ≡ true }
         requires dimensions { has_dimensions v shape ≡ true }
         requires value_length { has_length v shape ≡ true }
         ensures ok { OnOk result (self.new ≡ record self.old { table = map.insert self.old.table v (fresh v shape common) }) }
         ensures there { OnOk result (IsSome (map.get self.new.table v)) }
-        ensures code { AnswersOrFails (full self.old.area (map.insert self.old.table v (fresh v shape common))) result }
+        ensures code { Answers (full self.old.area (map.insert self.old.table v (fresh v shape common))) result }
         ensures err { OnErr result (self.new ≡ self.old) }
     {
-        let cost = cost(v, shape);
-        if cost > self.area - self.count {
-            return Err(Fault::Code(Code::known(A02_DATA_AREA)));
+        if cost(v, shape) > self.block.free() {
+            return Err(Code::known(A02_DATA_AREA));
         }
-        let variable = Variable::fresh(self.alloc, v, shape, common)?;
-        table::put(&mut self.table, v, variable)?;
-        self.count += cost;
+        self.block.add(v, shape, common);
         Ok(())
     }
 }

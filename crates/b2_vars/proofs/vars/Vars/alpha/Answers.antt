@@ -1,11 +1,13 @@
-use Rattle.std.proofs.Common.{◌+◌, ◌*◌, ◌≤◌, ℕ, length, subst, sym}
-use Rattle.b2_vars.specs.Tables.{table_of}
-use Rattle.b2_vars.proofs.Cells.{sound-Some, value-within}
+use Rattle.std.proofs.Common.{◌<◌, ◌∙◌, ap, sym, subst, ℕ}
+use Rattle.b2_vars.specs.declared.shape.Shape.{Shape}
+use Rattle.b2_vars.specs.Shapes.{cells}
+use Rattle.b2_vars.specs.Tables.{table_of, shape_at}
+use Rattle.b2_vars.proofs.Cells.{cell-lt, cell-room}
 use Rattle.b2_vars.proofs.vars.Vars.alpha.Goals as goal
 
-pub value-requires-clause-room : goal.value-requires-clause-room
-value-requires-clause-room c =
-    let t = table_of c.self.inside.table.entries in
-    let x = c.in-Some.variable.now in
-    let sound = sound-Some c.self.inside.area c.self.inside.count t c.args.v x c.self.invariant (sym c.in-Some.ensures) in
-    subst (λ (k : ℕ). k * x.shape.len + x.shape.len ≤ length x.bytes) (sym c.in_ok-cell.ensures.place) (value-within t c.args.v x c.args.r c.args.c sound (sym c.in-Some.ensures) c.in_ok-cell.ensures.there)
+pub part-requires-clause-room : goal.part-requires-clause-room
+part-requires-clause-room c =
+    let t = table_of c.self.inside.block.entries in
+    let v = c.args.v in
+    let below : c.in_ok-cell.cell < cells (shape_at v t) = subst (λ (k : ℕ). k < cells (shape_at v t)) (sym c.in_ok-cell.ensures.place) (cell-lt (shape_at v t) c.args.r c.args.c c.in_ok-cell.ensures.there) in
+    cell-room t v c.in_ok-cell.cell c.from-len.result c.shape.ensures.sound below (c.from-len.ensures ∙ ap (λ (s : Shape). s.len) c.shape.ensures.shape)

@@ -1,21 +1,12 @@
 use Rattle.std.proofs.Common.{ap, sym, subst, arith}
-use Rattle.b2_vars.specs.Tables.{VarsState, IsSound, table_of}
+use Rattle.b2_vars.specs.Tables.{VarsState, table_of}
 use Rattle.b2_vars.specs.Calls.{IsPart, part_place}
 use Rattle.b2_vars.proofs.Cells.{part-within}
-use Rattle.b2_vars.proofs.Soundness.{sound-bytes, sound-found}
 use Rattle.b2_vars.proofs.vars.Vars.change_part.Goals as goal
 
-pub change_part-requires-clause-room : goal.change_part-requires-clause-room
-change_part-requires-clause-room g c =
-    let t = table_of c.self.inside.table.entries in
+pub change-requires-clause-room : goal.change-requires-clause-room
+change-requires-clause-room g c =
+    let t = table_of c.self.inside.block.entries in
     let v = c.args.v in
     let there : IsPart v c.args.r c.args.c c.args.from c.args.n t = subst (λ (s : VarsState). IsPart v c.args.r c.args.c c.args.from c.args.n s.table) (sym c.self.view_is) c.requires.part in
-    let is = sound-found c.self.inside.area c.self.inside.count t v c.self.invariant there.found in
-    omega (arith, part-within t v c.args.r c.args.c c.args.from c.args.n is there, c.part_place-at.ensures.place, ap (λ (s : VarsState). part_place v c.args.r c.args.c c.args.from s.table) c.self.view_is)
-
-pub invariant_of-self : goal.invariant_of-self
-invariant_of-self g c =
-    let t = table_of c.self.inside.table.entries in
-    let v = c.args.v in
-    let there : IsPart v c.args.r c.args.c c.args.from c.args.n t = subst (λ (s : VarsState). IsPart v c.args.r c.args.c c.args.from c.args.n s.table) (sym c.self.view_is) c.requires.part in
-    subst (IsSound c.self.inside.area c.self.inside.count) (sym c.change_part.ensures.3) (sound-bytes c.self.inside.area c.self.inside.count t v c.part_place-at.result c.change_part.ensures.0 c.self.invariant there.found)
+    omega (arith, part-within t v c.args.r c.args.c c.args.from c.args.n c.known_place-place.ensures.sound there, c.part_place-at.ensures.place, ap (λ (s : VarsState). part_place v c.args.r c.args.c c.args.from s.table) c.self.view_is)

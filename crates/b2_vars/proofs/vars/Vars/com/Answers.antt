@@ -1,5 +1,5 @@
 use Rattle.std.proofs.Common.{◌≡◌, ℕ, Option, None, sym, subst, true}
-use Rattle.b2_vars.specs.Answers.{AnswersOrFails}
+use Rattle.b2_vars.specs.Answers.{Answers}
 use Rattle.b2_vars.specs.Tables.{VarsState}
 use Rattle.b2_vars.specs.Calls.{bad_dimensions, bad_length, not_common, other_shape, full, with_new}
 use Rattle.b2_vars.proofs.Refusals.{fifth}
@@ -11,6 +11,6 @@ returns-clause-code c =
     let s = c.args.self.now in
     let common : not_common v s.table ≡ None = subst (λ (s : VarsState). not_common v s.table ≡ None) c.self.view_is c.in_ok-require_common.ensures in
     let same : other_shape v c.args.shape s.table ≡ None = subst (λ (s : VarsState). other_shape v c.args.shape s.table ≡ None) c.self.view_is c.in_ok-require_shape.ensures in
-    subst (λ (code : Option ℕ). AnswersOrFails code c.make.result)
+    subst (λ (code : Option ℕ). Answers code c.make.result)
     (sym (fifth (bad_dimensions v c.args.shape) (bad_length v c.args.shape) (not_common v s.table) (other_shape v c.args.shape s.table) (full s.area (with_new v c.args.shape true s.table)) c.in_ok-require_allowed.ensures common same))
     c.make.ensures.code
