@@ -47,7 +47,7 @@ pub fn typed_by_mark(text: &Text, n: u8) -> Option<&[u8]>
     let Some(line) = text.line(spot.line) else {
         return None;
     };
-    let Some(unit) = statement_on(line.atoms, usize::from(spot.unit)) else {
+    let Some(unit) = statement_on(&line.lend(), usize::from(spot.unit)) else {
         return None;
     };
     bytes_of_mark(&unit)

@@ -5,7 +5,7 @@ ghost use Rattle.b2_rows.specs.Laws.{IsRow};
 ghost use Rattle.b2_rows.specs.Rows.{tree_at};
 ghost use Rattle.b2_access.specs.Placed as spec;
 
-use b2_atom::Atoms;
+use b2_atom::{Atoms, LentAtoms};
 use b2_flow::Place;
 use b2_rows::{RowUnit, row_unit};
 use b2_text::Text;
@@ -18,7 +18,7 @@ pub struct Found<'a> {
     /// The text of its home.
     pub home: &'a Text,
     /// Its line.
-    pub line: &'a Atoms,
+    pub line: &'a LentAtoms<'a>,
     /// Its unit.
     pub unit: &'a RowUnit<'a>,
     /// Its place.
@@ -30,16 +30,16 @@ pub fn line_named<'a>(
     immediate: &'a Option<Atoms>,
     home: &'a Text,
     n: Option<u16>,
-) -> Option<&'a Atoms>
-    ensures { option_map (λ l. l.now) result ≡ spec.line_named immediate.now home.now.lines n }
+) -> Option<LentAtoms<'a>>
+    ensures { result ≡ spec.line_named immediate.now home.now.lines n }
 {
     match n {
         Some(n) => match home.line(n) {
-            Some(line) => Some(line.atoms),
+            Some(line) => Some(line.lend()),
             None => None,
         },
         None => match immediate {
-            Some(line) => Some(line),
+            Some(line) => Some(line.lend()),
             None => None,
         },
     }
@@ -47,7 +47,7 @@ pub fn line_named<'a>(
 
 /// The k-th statement of a line.
 #[tactic(auto, using(crate::proofs::Statements::statement_is))]
-pub fn statement_on(line: &Atoms, k: usize) -> Option<RowUnit<'_>>
+pub fn statement_on<'a>(line: &LentAtoms<'a>, k: usize) -> Option<RowUnit<'a>>
     ensures statement { option_map (λ u. record { row = u.row; tree = tree_at u.row u.bytes.now }) result ≡ spec.statement_on (Some line.now) k }
     ensures whole { IfSome result (λ u. IsRow u.row u.bytes.now (tree_at u.row u.bytes.now)) }
     ensures uses { IfSome result (λ u. u.uses ≡ uses_in (tree_at u.row u.bytes.now)) }
@@ -67,7 +67,7 @@ pub fn statement_placed<'a>(
     ensures uses { IfSome result (λ u. u.uses ≡ uses_in (tree_at u.row u.bytes.now)) }
 {
     match line_named(immediate, home, place.line) {
-        Some(line) => statement_on(line, usize::from(place.unit)),
+        Some(line) => statement_on(&line, usize::from(place.unit)),
         None => None,
     }
 }

@@ -3,7 +3,7 @@ ghost use Rattle.std.specs.Prelude.{◌≡◌, ◌<◌, ◌+◌};
 ghost use Rattle.b2_rows.specs.Following.{unit_or_next, tree_units};
 ghost use Rattle.b2_access.specs.Places as spec;
 
-use b2_atom::Atoms;
+use b2_atom::LentAtoms;
 use b2_flow::Place;
 use b2_rows::{Goal, next_unit};
 use b2_text::Text;
@@ -43,7 +43,7 @@ fn line_after(home: &Text, place: Place) -> Option<Place>
 
 /// The place after a unit of a line where nothing else is said: the next unit, else the next line of the text, which is its
 /// home's; none at the end of the text and of an immediate line.
-pub fn place_after(home: &Text, line: &Atoms, place: Place) -> Option<Place>
+pub fn place_after(home: &Text, line: &LentAtoms<'_>, place: Place) -> Option<Place>
     requires { place.unit < 255 }
     ensures place { result ≡ spec.goal_place home.now.lines place (unit_or_next (place.unit + 1) (tree_units line.now)) }
 {

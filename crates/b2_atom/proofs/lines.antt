@@ -13,7 +13,8 @@
 -- a statement up to its THEN, ELSE or ERROR is read alike before other tokens and before nothing, and by Own, that a tree of
 -- items without statements has no units in it.
 -- UnitRows: the row that the table chooses for a unit is the one that reads it (`each_unit_by_its_row`).
--- Units has what the functions that find the units of a line and look them up rest on.
+-- Units has what the functions that find the units of a line and look them up rest on, and Walked the one that walks to a unit.
+-- SmallRows: the row of a statement fits into the word of a span.
 pub mod Anywhere
 pub mod LineLaws
 pub mod ReadAgain
@@ -22,3 +23,5 @@ pub mod Own
 pub mod OneUnit
 pub mod EachUnit
 pub mod UnitRows
+pub mod Walked
+pub mod SmallRows

@@ -1,5 +1,5 @@
 -- Lines as atoms: which lists of bytes spell a line, and its units.
-use Rattle.std.specs.Prelude.{◌≡◌, ℕ, zero, suc, ◌-◌, ◌≤◌, ◌&&◌, ◌==◌, nat_le, nat_lt, map, Bool, true, false, List, [], ◌∷◌, length, take, drop, if◌then◌else◌, Result, Ok, Err, is_ok, Option, Some, None}
+use Rattle.std.specs.Prelude.{◌≡◌, ℕ, zero, suc, ◌-◌, ◌/◌, ◌%◌, ◌≤◌, ◌&&◌, ◌==◌, nat_le, nat_lt, map, Bool, true, false, List, [], ◌∷◌, length, take, drop, if◌then◌else◌, Result, Ok, Err, is_ok, Option, Some, None}
 use Rattle.std.specs.List.{All}
 use Rattle.b2_base.specs.Byte as byte
 use Rattle.b2_base.specs.Lexical.{first}
@@ -113,17 +113,45 @@ units_from (suc n) p t = leading_unit p t ∷ units_after (units_from n) (after_
 unfoldable pub units_of : Text → List LineUnit
 units_of t = units_from (length t) First t
 
+-- the number of a place in a line, and the place of a number
+abbrev pub position_number : Position → ℕ
+position_number First = 0
+position_number Further = 1
+position_number Following = 2
+
+abbrev pub numbered_position : ℕ → Position
+numbered_position n = if n == 0 then First else (if n == 1 then Further else Following)
+
+-- what a word says of a unit: the row of its statement, where it stands, and what it uses
+abbrev pub row_of : ℕ → ℕ
+row_of word = word / 16
+
+abbrev pub position_of : ℕ → Position
+position_of word = numbered_position (word / 4 % 4)
+
+abbrev pub uses_of_word : ℕ → Uses
+uses_of_word word = record { globals = word / 2 % 2 == 1; functions = word % 2 == 1 }
+
+abbrev pub span_row : Span → ℕ
+span_row s = row_of s.word
+
+abbrev pub span_position : Span → Position
+span_position s = position_of s.word
+
+abbrev pub span_uses : Span → Uses
+span_uses s = uses_of_word s.word
+
 -- a unit by its span: its place, and which of the line's bytes are its own
 abbrev pub spanned : Text → Span → LineUnit
-spanned line s = record { position = s.position; bytes = take s.width (drop s.from line) }
+spanned line s = record { position = span_position s; bytes = take s.width (drop s.from line) }
 
 -- a span keeps the row of its unit
 abbrev pub KeepsRow : Text → Span → Type 0
-KeepsRow line s = s.row ≡ unit_row (spanned line s)
+KeepsRow line s = span_row s ≡ unit_row (spanned line s)
 
 -- and what the unit uses
 abbrev pub KeepsUses : Text → Span → Type 0
-KeepsUses line s = s.uses ≡ unit_uses (spanned line s)
+KeepsUses line s = span_uses s ≡ unit_uses (spanned line s)
 
 -- the spans of all units of a line, each with its unit's row and with what the unit uses
 pub record KeepsUnits (line : Text) (spans : List Span) : Type 0 where

@@ -43,8 +43,9 @@ pub use leaves::{
     hex_pair_width, image_width, is_alpha_name, literal_width, local_name_width, number_width,
     numeric_name_width, relation_width, signed_number_width, slot_width, small_width,
 };
-pub use line::{Atoms, Cursor, FoundUnit, read_source, reads_row};
+pub use line::{Atoms, Cursor, FoundUnit, LentAtoms, read_source, reads_row, source_of};
 pub use output::{Stop, Uses};
+pub use spans::Span;
 use table::{FORMS, ROWS_0, ROWS_1, ROWS_2, ROWS_3};
 use words::WORDS;
 pub use words::{

@@ -2,11 +2,11 @@
 ghost use Rattle.std.specs.Prelude.{◌≡◌, ◌≢◌, ◌≤◌, ◌<◌, length, drop, ◌+◌, ◌==◌, IfErr, IfOk, IfSome, MatchResult, Some, None, if◌then◌else◌, true, is_ok, slice_get};
 ghost use Rattle.std.specs.Option.{option_map};
 ghost use Rattle.b2_atom.specs.Grammar as spec;
-ghost use Rattle.b2_atom.specs.Lines.{IsKnown, is_line, line_atoms, line_source, short_line, units_of, further_unit, IsReadBy, unit_row, unit_uses};
+ghost use Rattle.b2_atom.specs.Lines.{IsKnown, KeepsUnits, is_line, line_atoms, line_source, short_line, units_of, further_unit, IsReadBy, unit_row, unit_uses};
 
 use crate::laws::what_is_read_is_a_line;
 use crate::output::{Output, Source, Stop, Uses, bytes_of};
-use crate::spans::{Span, further_unit, span_at, spans_of};
+use crate::spans::{Span, further_unit, span_at, spans_of, walked_unit};
 use crate::walk::{DEPTH, LEVELS, parse_line, part};
 use crate::words::Origin;
 use b2_base::NoMemory;
@@ -29,6 +29,24 @@ impl Model for Atoms {
     ghost view = { λ a. a.bytes.items };
 
     ghost invariant = { λ a. KeepsUnits a.bytes.items a.units.items };
+}
+
+/// The atoms of a line where they lie, with its units. Contracts see it as the list of its bytes.
+#[derive(Drop)]
+pub struct LentAtoms<'a> {
+    bytes: &'a [u8],
+    units: &'a [Span],
+}
+
+impl<'a> Model for LentAtoms<'a> {
+    ghost use Rattle.std.specs.Prelude.{ℕ, List};
+    ghost use Rattle.b2_atom.specs.Lines.{KeepsUnits};
+
+    ghost Value = { List ℕ };
+
+    ghost view = { λ a. a.bytes.now };
+
+    ghost invariant = { λ a. KeepsUnits a.bytes.now a.units.now };
 }
 
 /// The bytes of a unit from a place on. Contracts see it as the list of them.
@@ -94,7 +112,7 @@ pub fn read_source(alloc: Global, origin: Origin, text: &[u8]) -> Result<Vec<u8>
     }
 }
 
-/// The canonical source of a line of atoms.
+/// The canonical source of a text of atoms, or why it spells no line.
 #[tactic(auto, using(crate::proofs::reading::Binds::shown, crate::proofs::reading::Binds::shown_none), unfolding(crate::specs::Lines::line_source))]
 fn line_source(alloc: Global, line: &[u8]) -> Result<Vec<u8>, Stop>
     ensures { MatchResult result (λ bytes. line_source line.now ≡ Ok bytes.items) (λ e. e ≢ Stop.NoMemory → line_source line.now ≡ Err e) }
@@ -107,6 +125,20 @@ fn line_source(alloc: Global, line: &[u8]) -> Result<Vec<u8>, Stop>
     match parse_line(&mut output, Origin::Atoms, line) {
         Ok(_) => Ok(bytes_of(alloc, output)),
         Err(stop) => Err(stop),
+    }
+}
+
+/// The canonical source of a line of atoms.
+#[tactic(auto, using(crate::proofs::reading::Binds::line_has_source))]
+pub fn source_of(alloc: Global, line: &[u8]) -> Result<Vec<u8>, NoMemory>
+    requires line { is_line line.now ≡ true }
+    ensures { IfOk result (λ bytes. line_source line.now ≡ Ok bytes.items) }
+{
+    match line_source(alloc, line) {
+        Ok(bytes) => Ok(bytes),
+        Err(Stop::NoMemory) => Err(NoMemory),
+        Err(Stop::At(_code, _left)) => unreachable!(),
+        Err(Stop::Deep) => unreachable!(),
     }
 }
 
@@ -151,6 +183,24 @@ impl Atoms {
         bytes.as_slice()
     }
 
+    /// Its bytes and units, lent.
+    pub fn lend(&self) -> LentAtoms<'_>
+        ensures { result ≡ self.now }
+    {
+        LentAtoms {
+            bytes: &self.bytes,
+            units: &self.units,
+        }
+    }
+
+    /// Where its units are, for those who keep the line elsewhere.
+    pub fn spans(&self) -> &[Span]
+        ensures { KeepsUnits self.now result.now }
+    {
+        let units = &self.units;
+        units.as_slice()
+    }
+
     /// A line of its own with the same bytes.
     pub fn try_clone(&self, alloc: Global) -> Result<Atoms, NoMemory>
         ensures { IfOk result (λ copy. copy ≡ self.now) }
@@ -161,16 +211,10 @@ impl Atoms {
     }
 
     /// Its canonical source.
-    #[tactic(auto, using(crate::proofs::reading::Binds::line_has_source))]
     pub fn source(&self, alloc: Global) -> Result<Vec<u8>, NoMemory>
         ensures { IfOk result (λ bytes. line_source self.now ≡ Ok bytes.items) }
     {
-        match line_source(alloc, &self.bytes) {
-            Ok(bytes) => Ok(bytes),
-            Err(Stop::NoMemory) => Err(NoMemory),
-            Err(Stop::At(_code, _left)) => unreachable!(),
-            Err(Stop::Deep) => unreachable!(),
-        }
+        source_of(alloc, &self.bytes)
     }
 
     /// How many units it has: statements, where one that follows THEN, ELSE or ERROR is a unit of its own.
@@ -223,12 +267,88 @@ impl Atoms {
     }
 }
 
+impl<'a> LentAtoms<'a> {
+    /// A line with its units, whoever keeps them.
+    pub fn over(bytes: &'a [u8], units: &'a [Span]) -> LentAtoms<'a>
+        requires { KeepsUnits bytes.now units.now }
+        ensures { result ≡ bytes.now }
+    {
+        LentAtoms { bytes, units }
+    }
+
+    /// Its bytes.
+    pub fn bytes(&self) -> &'a [u8]
+        ensures value { result.now ≡ self.now }
+        ensures line { is_line self.now ≡ true }
+    {
+        self.bytes
+    }
+
+    /// How many units it has: statements, where one that follows THEN, ELSE or ERROR is a unit of its own.
+    pub fn units(&self) -> usize
+        ensures count { result ≡ length (units_of self.now) }
+        ensures few { result ≤ 255 }
+    {
+        self.units.len()
+    }
+
+    /// A cursor over the k-th unit, counted from 0, None exactly where there are at most k units.
+    pub fn unit(&self, k: usize) -> Option<Cursor<'a>>
+        ensures { result ≡ option_map (λ u. u.bytes) (slice_get (units_of self.now) k) }
+    {
+        match span_at(self.units, k) {
+            Some(span) => Some(Cursor::over(span.unit_bytes(self.bytes))),
+            None => None,
+        }
+    }
+
+    /// The k-th unit, with its row, what it uses, and whether it is the last.
+    pub fn find_unit(&self, k: usize) -> Option<FoundUnit<'a>>
+        ensures bytes { option_map (λ u. u.cursor) result ≡ option_map (λ u. u.bytes) (slice_get (units_of self.now) k) }
+        ensures row { option_map (λ u. u.row) result ≡ option_map unit_row (slice_get (units_of self.now) k) }
+        ensures uses { option_map (λ u. u.uses) result ≡ option_map unit_uses (slice_get (units_of self.now) k) }
+        ensures read { IfSome result (λ u. IsReadBy u.row u.cursor) }
+        ensures short { IfSome result (λ u. length u.cursor ≤ 255) }
+        ensures last { IfSome result (λ u. u.is_last ≡ (k + 1 == length (units_of self.now))) }
+        ensures few { IfSome result (λ u. k < 255) }
+    {
+        let count = self.units();
+        match span_at(self.units, k) {
+            Some(span) => Some(FoundUnit {
+                cursor: Cursor::over(span.unit_bytes(self.bytes)),
+                row: span.unit_row(),
+                uses: span.unit_uses(),
+                is_last: k + 1 == count,
+            }),
+            None => None,
+        }
+    }
+
+    /// The first unit after the k-th that follows a `:`, or the number of units where there is none.
+    pub fn skip(&self, k: usize) -> usize
+        ensures { result ≡ further_unit k 0 (units_of self.now) }
+    {
+        further_unit(self.units, k)
+    }
+}
+
 impl<'a> Cursor<'a> {
     /// A cursor over bytes.
     pub fn over(bytes: &'a [u8]) -> Cursor<'a>
         ensures { result ≡ bytes.now }
     {
         Cursor { left: bytes }
+    }
+
+    /// A cursor over the k-th unit of a line of atoms, counted from 0, None exactly where it has at most k units. It walks the
+    /// line: `Atoms::unit` looks the unit up.
+    pub fn of_line(line: &'a [u8], k: usize) -> Option<Cursor<'a>>
+        ensures { result ≡ option_map (λ u. u.bytes) (slice_get (units_of line.now) k) }
+    {
+        match walked_unit(line, k) {
+            Some(bytes) => Some(Cursor::over(bytes)),
+            None => None,
+        }
     }
 
     /// The next byte, None exactly at the unit's end.

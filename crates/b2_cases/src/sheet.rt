@@ -298,14 +298,6 @@ impl<'a> Sheet<'a> {
         }
     }
 
-    /// Shows `ok`, or why a call was refused.
-    pub fn show_result(&mut self, outcome: Result<(), Fault>) {
-        match outcome {
-            Ok(()) => self.show("ok"),
-            Err(fault) => self.show_fault(fault),
-        }
-    }
-
     /// Shows the code of a refusal and a blank.
     pub fn show_refused(&mut self, outcome: Result<(), Code>) {
         if let Err(code) = outcome {

@@ -64,8 +64,8 @@ fn put_bytes(sheet: &mut Sheet<'_>, text: &mut Text, number: u16, bytes: &[u8])
 {
     match Atoms::of(sheet.alloc(), bytes) {
         Ok(Some(atoms)) => {
-            if let Err(fault) = text.put(number, &atoms) {
-                sheet.show_fault(fault);
+            if let Err(code) = text.put(number, &atoms) {
+                sheet.show_code(code);
             }
         }
         Ok(None) => sheet.misread(),
@@ -95,13 +95,14 @@ fn put_remark(text: &mut Text, sheet: &mut Sheet<'_>) {
 /// `lines`: the lines of the text, each its number and its atoms; `none` where there are none.
 fn show_lines(text: &Text, sheet: &mut Sheet<'_>) {
     let mut is_first = true;
-    for (number, atoms) in text.lines(0, 9999) {
+    let mut left = text.lines(0, 9999);
+    while let Some(line) = left.next() {
         if !is_first {
             sheet.show("; ");
         }
-        sheet.show_number(u64::from(*number));
+        sheet.show_number(u64::from(line.number));
         sheet.show(" ");
-        sheet.show_bytes(atoms.bytes());
+        sheet.show_bytes(line.atoms);
         is_first = false;
     }
     if is_first {

@@ -273,8 +273,9 @@ fn definition_of<'a>(env: &Env<'a>, name: u8) -> Option<&'a [u8]>
     let Some(line) = home.line(spot.line) else {
         return None;
     };
-    spells_a_line(line.atoms);
-    match row_unit(line.atoms, usize::from(spot.unit)) {
+    let atoms = line.lend();
+    spells_a_line(&atoms);
+    match row_unit(&atoms, usize::from(spot.unit)) {
         Some(unit) => Some(unit.bytes),
         None => None,
     }

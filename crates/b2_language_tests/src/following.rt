@@ -1,6 +1,6 @@
 // The units of a line of a program, and what follows them.
 use crate::row_names::name_of;
-use b2_atom::{Atoms, Origin};
+use b2_atom::{Atoms, LentAtoms, Origin};
 use b2_cases::{Sheet, number_of};
 use b2_rows::{Goal, after_false, next_unit, past_colon, row_unit, taken_fault};
 
@@ -36,12 +36,12 @@ pub fn unit(sheet: &mut Sheet<'_>) {
     let typed = sheet.bytes();
     let k = usize::from(number_of(sheet.cell()));
     match Atoms::read(sheet.alloc(), Origin::Program, &typed) {
-        Ok(Some(line)) => show_unit(sheet, &line, k),
+        Ok(Some(line)) => show_unit(sheet, &line.lend(), k),
         _ => sheet.show("no line"),
     }
 }
 
-fn show_unit(sheet: &mut Sheet<'_>, line: &Atoms, k: usize) {
+fn show_unit(sheet: &mut Sheet<'_>, line: &LentAtoms<'_>, k: usize) {
     let Some(unit) = row_unit(line, k) else {
         return sheet.show("no unit");
     };
@@ -64,12 +64,12 @@ pub fn uses(sheet: &mut Sheet<'_>) {
     let typed = sheet.bytes();
     let k = usize::from(number_of(sheet.cell()));
     match Atoms::read(sheet.alloc(), Origin::Program, &typed) {
-        Ok(Some(line)) => sheet.show(uses_of(&line, k)),
+        Ok(Some(line)) => sheet.show(uses_of(&line.lend(), k)),
         _ => sheet.show("no line"),
     }
 }
 
-fn uses_of(line: &Atoms, k: usize) -> &'static str {
+fn uses_of(line: &LentAtoms<'_>, k: usize) -> &'static str {
     match row_unit(line, k) {
         Some(unit) => match (unit.uses.functions, unit.uses.globals) {
             (true, true) => "both",

@@ -85,7 +85,7 @@ pub fn listed(sheet: &mut Sheet<'_>, atoms: &[u8]) {
 
 fn show_listed(sheet: &mut Sheet<'_>, number: u16, line: &Atoms) {
     let mut text = Vec::new(sheet.alloc());
-    match list(sheet.alloc(), number, line, &mut text) {
+    match list(sheet.alloc(), number, line.bytes(), &mut text) {
         Ok(()) => sheet.show_bytes(&text),
         Err(_) => sheet.no_memory(),
     }

@@ -2,11 +2,11 @@
 use crate::atom_cells::{atoms_of, show_atoms};
 use b2_atom::Atoms;
 use b2_atom::words::REM;
-use b2_base::cut;
+use b2_base::codes::A01_TEXT_AREA;
 use b2_base::lexical::{first, is_digit, is_letter};
+use b2_base::{Code, cut};
 use b2_cases::{Sheet, number_of, small_of, str_of, whole_of};
 use b2_text::{Spot, Text};
-use std::mem;
 
 /// The text that is asked, and one whose lines it may take.
 #[derive(Drop)]
@@ -94,23 +94,29 @@ fn put_bytes(sheet: &mut Sheet<'_>, text: &mut Text, number: u16, atoms: &[u8]) 
     match Atoms::of(sheet.alloc(), atoms) {
         Ok(Some(line)) => match text.put(number.min(9999), &line) {
             Ok(()) => sheet.show("done"),
-            Err(fault) => sheet.show_fault(fault),
+            Err(code) => sheet.show_code(code),
         },
         Ok(None) => sheet.show("no line"),
         Err(_) => sheet.no_memory(),
     }
 }
 
-/// `take`: the text takes the lines of the other one, which has none after it.
+/// `take`: the text takes the lines of the other one in place of its own.
 fn take(sheet: &mut Sheet<'_>, texts: &mut Texts) {
-    let Ok(none) = Text::new(sheet.alloc(), OTHER_AREA) else {
-        return sheet.no_memory();
-    };
-    let other = mem::replace(&mut texts.other, none);
-    match texts.asked.take_lines(other) {
-        Ok(()) => sheet.show("done"),
-        Err(code) => sheet.show_code(code),
+    if texts.other.size() > texts.asked.area() {
+        return sheet.show_code(Code::known(A01_TEXT_AREA));
     }
+    texts.asked.clear();
+    let mut left = texts.other.lines(0, 9999);
+    while let Some(line) = left.next() {
+        let Ok(Some(atoms)) = Atoms::of(sheet.alloc(), line.atoms) else {
+            return sheet.no_memory();
+        };
+        if let Err(code) = texts.asked.put(line.number.min(9999), &atoms) {
+            return sheet.show_code(code);
+        }
+    }
+    sheet.show("done");
 }
 
 /// Shows what is found in a text.
@@ -150,7 +156,7 @@ fn show_line(sheet: &mut Sheet<'_>, text: &Text, number: u16) {
         Some(line) => {
             sheet.show_number(u64::from(line.number));
             sheet.show(" ");
-            show_atoms(sheet, line.atoms.bytes());
+            show_atoms(sheet, line.atoms);
         }
         None => sheet.show("none"),
     }
@@ -163,11 +169,12 @@ fn show_lines(sheet: &mut Sheet<'_>, text: &Text, range: (u16, u16)) {
         return sheet.misread();
     }
     let mut is_first = true;
-    for (number, _) in text.lines(from, to) {
+    let mut left = text.lines(from, to);
+    while let Some(line) = left.next() {
         if !is_first {
             sheet.show(" ");
         }
-        sheet.show_number(u64::from(*number));
+        sheet.show_number(u64::from(line.number));
         is_first = false;
     }
 }

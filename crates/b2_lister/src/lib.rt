@@ -5,10 +5,11 @@
 //! `list` appends a line's number, a blank and its source. The definition is `listing` in `specs/Listing.antt`.
 #![tactic(auto)]
 
-ghost use Rattle.std.specs.Prelude.{◌≡◌, ◌++◌, OnOk, OnErr};
+ghost use Rattle.std.specs.Prelude.{◌≡◌, ◌++◌, true, OnOk, OnErr};
+ghost use Rattle.b2_atom.specs.Lines.{is_line};
 ghost use Rattle.b2_lister.specs.Listing.{five_digits, listing};
 
-use b2_atom::Atoms;
+use b2_atom::source_of;
 use b2_base::NoMemory;
 use b2_base::lexical::without_zeros;
 use std::alloc::Global;
@@ -31,12 +32,13 @@ fn five_digits(number: u16) -> [u8; 5]
 }
 
 /// Appends the number of a line, a blank and its canonical source; after `NoMemory` nothing is appended.
-pub fn list(alloc: Global, line: u16, atoms: &Atoms, into: &mut Vec<u8>) -> Result<(), NoMemory>
+pub fn list(alloc: Global, line: u16, atoms: &[u8], into: &mut Vec<u8>) -> Result<(), NoMemory>
+    requires line { is_line atoms.now ≡ true }
     ensures ok { OnOk result (into.new.items ≡ into.old.items ++ listing line atoms.now) }
     ensures err { OnErr result (into.new.items ≡ into.old.items) }
 {
     let digits = five_digits(line);
-    let source = atoms.source(alloc)?;
+    let source = source_of(alloc, atoms)?;
     let mut text = Vec::new(alloc);
     text.extend_from_slice(without_zeros(&digits))?;
     text.push(b' ')?;

@@ -5,7 +5,7 @@ ghost use Rattle.b2_rows.specs.Rows.{is_part, tree_at};
 ghost use Rattle.b2_lister.specs.Listing.{listing};
 ghost use Rattle.b2_machine.specs.Listed as spec;
 
-use b2_atom::Atoms;
+use b2_atom::LentAtoms;
 use b2_base::lexical::rest_after;
 use b2_base::{ByteList, NoMemory};
 use b2_lister::list;
@@ -24,10 +24,10 @@ pub fn named_range(unit: &[u8]) -> (u16, u16)
 }
 
 /// Adds a line as it is listed, and a newline.
-fn add_line(alloc: Global, n: u16, atoms: &Atoms, out: &mut Vec<u8>) -> Result<(), NoMemory>
+fn add_line(alloc: Global, n: u16, atoms: &LentAtoms<'_>, out: &mut Vec<u8>) -> Result<(), NoMemory>
     ensures { OnOk result (out.new.items ≡ out.old.items ++ listing n atoms.now ++ 10 ∷ []) }
 {
-    list(alloc, n, atoms, out)?;
+    list(alloc, n, atoms.bytes(), out)?;
     out.push(b'\n')?;
     Ok(())
 }
@@ -41,8 +41,9 @@ pub fn range_listed(alloc: Global, text: &Text, from: u16, to: u16) -> Result<By
     if from > to {
         return Ok(ByteList::new(out));
     }
-    for (n, atoms) in text.lines(from, to) {
-        add_line(alloc, *n, atoms, &mut out)?;
+    let mut left = text.lines(from, to);
+    while let Some(line) = left.next() {
+        add_line(alloc, line.number, &line.lend(), &mut out)?;
     }
     Ok(ByteList::new(out))
 }

@@ -10,7 +10,7 @@ use crate::ends::{Stepped, Why, counts, ends_turn};
 use crate::messages::error_at;
 use crate::readiness::{become_ready, become_ready_quietly, end_line, note_error};
 use b2_access::{Outcome, Private, goal_place, line_named, statement_placed};
-use b2_atom::{Atoms, rows};
+use b2_atom::{LentAtoms, rows};
 use b2_base::{Code, NoMemory};
 use b2_flow::Place;
 use b2_language::{move_to, place_on};
@@ -29,7 +29,7 @@ pub enum Onward {
 
 /// Where a line goes on after one of its units.
 #[tactic(auto, using(crate::proofs::UnitCounts::last_onward))]
-pub fn onward_on(line: &Atoms, unit: u8) -> Onward
+pub fn onward_on(line: &LentAtoms<'_>, unit: u8) -> Onward
     ensures { result ≡ spec.goes_onward unit (tree_units line.now) }
 {
     spells_a_line(line);
@@ -48,7 +48,7 @@ pub fn onward_from(me: &Private, home: &Text, place: Place) -> Onward
     ensures { result ≡ spec.onward_from place me.now home.now.lines }
 {
     match line_named(&me.immediate, home, place.line) {
-        Some(line) => onward_on(line, place.unit),
+        Some(line) => onward_on(&line, place.unit),
         None => Onward::NextLine,
     }
 }
@@ -71,7 +71,7 @@ fn following_place(me: &Private, home: &Text, place: Place) -> Option<Place>
     ensures { result ≡ following_place place me.now home.now.lines }
 {
     match line_named(&me.immediate, home, place.line) {
-        Some(line) => place_on(home, line, place),
+        Some(line) => place_on(home, &line, place),
         None => goal_place(home, place, Goal::NextLine),
     }
 }
@@ -136,7 +136,7 @@ fn is_taken(code: Code) -> bool
 
 /// Where an ERROR of a line takes a fault of the unit at a place.
 #[tactic(auto, using(crate::proofs::UnitCounts::few_taken))]
-fn error_on(line: &Atoms, place: Place) -> Option<Place>
+fn error_on(line: &LentAtoms<'_>, place: Place) -> Option<Place>
     ensures { result ≡ option_map (λ k. record place { unit = k }) (fault_taken place.unit (tree_units line.now)) }
 {
     spells_a_line(line);
@@ -158,7 +158,7 @@ fn error_place(me: &Private, home: &Text, place: &Place, code: Code) -> Option<P
         return None;
     }
     match line_named(&me.immediate, home, place.line) {
-        Some(line) => error_on(line, *place),
+        Some(line) => error_on(&line, *place),
         None => None,
     }
 }
@@ -233,7 +233,7 @@ pub fn settle_on(
     alloc: Global,
     me: &mut Private,
     home: &Text,
-    line: &Atoms,
+    line: &LentAtoms<'_>,
     place: Place,
     outcome: Outcome,
 ) -> Result<Stepped, NoMemory>

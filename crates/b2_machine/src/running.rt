@@ -137,14 +137,15 @@ fn pass<L: Language>(
     let Some(line) = home.line(n) else {
         return Ok(Passed::Stops);
     };
-    let Some(unit) = statement_on(line.atoms, usize::from(place.unit)) else {
+    let line = line.lend();
+    let Some(unit) = statement_on(&line, usize::from(place.unit)) else {
         return Ok(Passed::Stops);
     };
     if !names_globals(&unit) && L::is_at_once(unit.row) {
         let found = Found {
             own,
             home,
-            line: line.atoms,
+            line: &line,
             unit: &unit,
             place: *place,
         };

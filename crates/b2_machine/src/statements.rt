@@ -22,7 +22,7 @@ use b2_access::{
     Access, Answer, At, DeviceTable, Found, Lent, Outcome, Planned, Private, after_show, failed,
     statement_on, statement_placed,
 };
-use b2_atom::{Atoms, rows};
+use b2_atom::{LentAtoms, rows};
 use b2_base::NoMemory;
 use b2_base::codes::{S26_PROGRAM_ONLY, S27_LEFT_OUT};
 use b2_flow::Place;
@@ -173,7 +173,7 @@ fn begun(
 fn asking_on(
     me: &Private,
     home: &Text,
-    line: &Atoms,
+    line: &LentAtoms<'_>,
     place: Place,
     access: Access,
     builder: Builder,
@@ -190,7 +190,7 @@ fn begun_on(
     alloc: Global,
     me: &mut Private,
     home: &Text,
-    line: &Atoms,
+    line: &LentAtoms<'_>,
     place: Place,
     planned: Planned,
     builder: Builder,
@@ -406,7 +406,8 @@ pub fn open_over<L: Language>(
         let end = become_ready_quietly(alloc, me)?;
         return Ok(Opening::Began(Progress::Ended(end)));
     };
-    let Some(unit) = statement_on(line.atoms, usize::from(place.unit)) else {
+    let line = line.lend();
+    let Some(unit) = statement_on(&line, usize::from(place.unit)) else {
         let end = become_ready_quietly(alloc, me)?;
         return Ok(Opening::Began(Progress::Ended(end)));
     };
@@ -415,7 +416,7 @@ pub fn open_over<L: Language>(
             let found = Found {
                 own: lent.own,
                 home,
-                line: line.atoms,
+                line: &line,
                 unit: &unit,
                 place: *place,
             };

@@ -5,6 +5,7 @@ pub mod Filling
 pub mod Copies
 pub mod Parsing
 pub mod Merging
+pub mod Gathering
 pub mod Copying
 pub mod Files
 pub mod Starts

@@ -50,7 +50,7 @@ middle-low least l [] ys h = h.0
 middle-low least l (x ∷ xs) ys h = let rest = middle-low (x.0 + 1) l xs ys h.1 in omega (arith, rest, h.0)
 
 -- a line is put after those before it
-with-middle : (least : ℕ) (l : ℕ × List ℕ) (xs ys : Lines) → Rising least (xs ++ l ∷ ys) → with_line l.0 l.1 xs ≡ xs ++ l ∷ []
+pub with-middle : (least : ℕ) (l : ℕ × List ℕ) (xs ys : Lines) → Rising least (xs ++ l ∷ ys) → with_line l.0 l.1 xs ≡ xs ++ l ∷ []
 with-middle least l [] ys h = refl
 with-middle least l (x ∷ xs) ys h =
     let rest = middle-low (x.0 + 1) l xs ys h.1 in

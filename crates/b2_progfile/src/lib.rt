@@ -16,6 +16,7 @@
 //! gives is a function of images, and a relation besides; the laws say that the functions say what the relations do.
 #![tactic(auto)]
 
+mod gathered;
 pub mod laws;
 mod loading;
 mod moving;

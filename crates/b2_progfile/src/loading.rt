@@ -4,16 +4,18 @@ ghost use Rattle.std.specs.FinMap.{get};
 ghost use Rattle.b2_catalog.specs.Catalogue.{catalogue};
 ghost use Rattle.b2_text.specs.Program.{size_of};
 ghost use Rattle.b2_progfile.specs.Loading.{LoadFails, Loads, TooLarge, load_refusal, loaded, merged, text_loaded};
+ghost use Rattle.b2_progfile.specs.Programs.{Ascending};
 ghost use Rattle.b2_catalog.specs.Results.{FailsBy};
 
-use crate::reading::{WIDE_AREA, put_wide, read_program};
-use crate::spelling::MOST_NUMBER;
-use b2_base::codes::{D82_NO_FILE, D89_OTHER_KIND};
+use crate::gathered::{Gathered, fits, gather_all, lines_of_text, refill};
+use crate::reading::read_program;
+use b2_base::codes::{A01_TEXT_AREA, D82_NO_FILE, D89_OTHER_KIND};
 use b2_base::{Code, Fault, Name8, NoMemory};
 use b2_catalog::{Entry, look};
 use b2_platter::Platter;
 use b2_text::Text;
 use std::alloc::Global;
+use std::collections::BTreeMap;
 
 /// The live program file of a name. D82 where there is no live file of the name, else D89 where it is data.
 fn live_program(p: &Platter, name: Name8) -> Result<Entry, Code>
@@ -33,69 +35,44 @@ fn live_program(p: &Platter, name: Name8) -> Result<Entry, Code>
     Ok(e)
 }
 
-/// Puts the lines of a text to those of another, whose area holds any.
-fn put_lines(t: &mut Text, from: &Text) -> Result<(), NoMemory>
-    ensures { OnOk result (t.new ≡ record t.old { lines = merged from.now.lines t.old.lines }) }
-{
-    let _first = from.next_after(None);
-    for (number, atoms) in from.lines(0, MOST_NUMBER) {
-        put_wide(t, *number, atoms)?;
-    }
-    Ok(())
-}
-
-/// A text of no lines, in an area that holds any.
-fn wide(alloc: Global) -> Result<Text, NoMemory>
-    ensures { IfOk result (λ t. t.lines ≡ []) }
-{
-    Text::new(alloc, WIDE_AREA)
-}
-
-/// A text of its own with the same lines, in an area that holds any.
-fn text_copied(alloc: Global, t: &Text) -> Result<Text, NoMemory>
-    ensures { IfOk result (λ copy. copy.lines ≡ t.now.lines) }
-{
-    let _first = t.next_after(None);
-    let mut copy = wide(alloc)?;
-    put_lines(&mut copy, t)?;
-    Ok(copy)
-}
-
 /// The lines to which a program is put: none where it replaces them, else those of the text.
-fn base(alloc: Global, t: &Text, replace: bool) -> Result<Text, NoMemory>
-    ensures { IfOk result (λ base. base.lines ≡ (if replace then [] else t.now.lines)) }
+fn base(alloc: Global, t: &Text, replace: bool) -> Result<Gathered, NoMemory>
+    ensures { IfOk result (λ base. base.entries ≡ (if replace then [] else t.now.lines)) }
 {
     if replace {
-        return wide(alloc);
+        return Ok(BTreeMap::new(alloc));
     }
-    text_copied(alloc, t)
+    lines_of_text(alloc, t)
 }
 
-/// The lines of a text after a load, in an area that holds any.
-fn loaded(alloc: Global, t: &Text, program: &Text, replace: bool) -> Result<Text, NoMemory>
-    ensures { IfOk result (λ all. all.lines ≡ loaded replace program.now.lines t.now.lines) }
+/// The lines of a text after a load.
+fn loaded(alloc: Global, t: &Text, program: &Gathered, replace: bool) -> Result<Gathered, NoMemory>
+    ensures { IfOk result (λ all. all.entries ≡ loaded replace program.now.entries t.now.lines) }
 {
     let mut all = base(alloc, t, replace)?;
-    put_lines(&mut all, program)?;
+    gather_all(alloc, &mut all, program)?;
     Ok(all)
 }
 
 /// Gives a text the lines that it has after a load of a program. A01 exactly where they would pass its area. After a fault
 /// it is as before.
-fn put_program(alloc: Global, t: &mut Text, program: &Text, replace: bool) -> Result<(), Fault>
-    ensures ok { OnOk result (t.new ≡ record t.old { lines = loaded replace program.now.lines t.old.lines }) }
-    ensures fits { OnOk result (size_of (loaded replace program.now.lines t.old.lines) ≤ t.old.area) }
-    ensures err { IfErr result (TooLarge t.old.area (loaded replace program.now.lines t.old.lines)) }
+fn put_program(alloc: Global, t: &mut Text, program: &Gathered, replace: bool) -> Result<(), Fault>
+    requires { Ascending 0 program.now.entries }
+    ensures ok { OnOk result (t.new ≡ record t.old { lines = loaded replace program.now.entries t.old.lines }) }
+    ensures fits { OnOk result (size_of (loaded replace program.now.entries t.old.lines) ≤ t.old.area) }
+    ensures err { IfErr result (TooLarge t.old.area (loaded replace program.now.entries t.old.lines)) }
     ensures kept { OnErr result (t.new ≡ t.old) }
 {
-    let new = match loaded(alloc, t, program, replace) {
-        Ok(new) => new,
+    let all = match loaded(alloc, t, program, replace) {
+        Ok(all) => all,
         Err(_) => return Err(Fault::NoMemory),
     };
-    match t.take_lines(new) {
-        Ok(()) => Ok(()),
-        Err(code) => Err(Fault::Code(code)),
+    let _first = t.next_after(None);
+    if !fits(&all, t.area()) {
+        return Err(Fault::Code(Code::known(A01_TEXT_AREA)));
     }
+    refill(t, &all);
+    Ok(())
 }
 
 /// Loads the live program file of a name: its lines replace those of the text, or are put to them. D82 where there is no

@@ -5,21 +5,19 @@ ghost use Rattle.b2_base.specs.declared.codes.TheConstants.{D88_FORMAT};
 ghost use Rattle.b2_base.specs.Lexical.{first};
 ghost use Rattle.b2_platter.specs.declared.layout.Layout.TheVariants.{Narrow};
 ghost use Rattle.b2_platter.specs.Image.{total_of, sectors_at};
-ghost use Rattle.b2_text.specs.Program.{Lines, with_line};
+ghost use Rattle.b2_text.specs.Program.{Lines};
 ghost use Rattle.b2_progfile.specs.Programs.{AllPieces, IsProgramText, SpellsProgram, held_bytes};
 ghost use Rattle.b2_platter.specs.Reading.{Unspelled};
 ghost use Rattle.b2_progfile.specs.Loading.{IsProgramEnd, IsLineAt};
 
+use crate::gathered::{Gathered, gather};
 use crate::spelling::{MOST_NUMBER, PIECE, PROGRAM_END};
 use b2_atom::Atoms;
 use b2_base::codes::D88_FORMAT;
 use b2_base::{Code, Fault, NoMemory, lexical};
 use b2_platter::{Platter, slot};
-use b2_text::Text;
 use std::alloc::Global;
-
-/// The area of a text that is made for a program that is read: it holds any.
-pub(crate) const WIDE_AREA: usize = 16_777_216;
+use std::collections::BTreeMap;
 
 /// What is answered where no program is spelled.
 fn no_program() -> Fault
@@ -81,17 +79,6 @@ fn next_line(alloc: Global, bytes: &[u8], least: u16) -> Result<(u16, Atoms), Fa
     Ok((number, atoms))
 }
 
-/// Puts a line into a text that holds any; the one fault is that memory failed.
-pub(crate) fn put_wide(t: &mut Text, number: u16, atoms: &Atoms) -> Result<(), NoMemory>
-    requires { number ≤ 9999 }
-    ensures { OnOk result (t.new ≡ record t.old { lines = with_line number atoms.now t.old.lines }) }
-{
-    match t.put(number, atoms) {
-        Ok(()) => Ok(()),
-        Err(_) => Err(NoMemory),
-    }
-}
-
 /// Whether bytes of which the first ends a program are its end: the same byte again, and fewer than 255 bytes 00.
 fn is_program_end(bytes: &[u8]) -> bool
     requires { first bytes.now ≡ 255 }
@@ -108,11 +95,11 @@ fn is_program_end(bytes: &[u8]) -> bool
 }
 
 /// The lines of a program that some bytes spell. D88 exactly where they spell none.
-fn lines_of(alloc: Global, bytes: &[u8]) -> Result<Text, Fault>
-    ensures ok { IfOk result (λ t. IsProgramText t.lines bytes.now) }
+fn lines_of(alloc: Global, bytes: &[u8]) -> Result<Gathered, Fault>
+    ensures ok { IfOk result (λ t. IsProgramText t.entries bytes.now) }
     ensures err { IfErr result (Unspelled ((lines : Lines) → ¬ IsProgramText lines bytes.now)) }
 {
-    let mut t = Text::new(alloc, WIDE_AREA)?;
+    let mut t = BTreeMap::new(alloc);
     let mut rest = bytes;
     let mut least = 0;
     while lexical::first(rest) != PROGRAM_END {
@@ -120,8 +107,8 @@ fn lines_of(alloc: Global, bytes: &[u8]) -> Result<Text, Fault>
             Ok(line) => line,
             Err(fault) => return Err(fault),
         };
-        put_wide(&mut t, number, &atoms)?;
         rest = lexical::rest_after(lexical::rest_after(rest, 3), atoms.bytes().len());
+        gather(&mut t, number, atoms)?;
         least = number + 1;
     }
     if !is_program_end(rest) {
@@ -131,9 +118,14 @@ fn lines_of(alloc: Global, bytes: &[u8]) -> Result<Text, Fault>
 }
 
 /// The program that some sectors spell. D88 exactly where they spell none.
-pub(crate) fn read_program(alloc: Global, p: &Platter, at: u32, count: u32) -> Result<Text, Fault>
+pub(crate) fn read_program(
+    alloc: Global,
+    p: &Platter,
+    at: u32,
+    count: u32,
+) -> Result<Gathered, Fault>
     requires { at + count ≤ total_of Narrow p.now }
-    ensures ok { IfOk result (λ t. SpellsProgram t.lines (sectors_at p.now at count)) }
+    ensures ok { IfOk result (λ t. SpellsProgram t.entries (sectors_at p.now at count)) }
     ensures err { IfErr result (Unspelled ((lines : Lines) → ¬ SpellsProgram lines (sectors_at p.now at count))) }
 {
     let bytes = match held_bytes(alloc, p, at, count) {

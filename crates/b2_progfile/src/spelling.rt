@@ -4,7 +4,7 @@ ghost use Rattle.b2_atom.specs.Lines.{is_line};
 ghost use Rattle.b2_progfile.specs.Programs.{line_bytes, all_line_bytes, program_bytes, Ascending};
 ghost use Rattle.b2_progfile.specs.Saving.{lines_between, lines_within, piece_at, pieces_count};
 
-use b2_atom::Atoms;
+use b2_atom::LentAtoms;
 use b2_base::{NoMemory, lexical};
 use b2_text::Text;
 use std::alloc::Global;
@@ -22,7 +22,7 @@ pub const PIECE_BYTES: usize = 255;
 pub const MOST_NUMBER: u16 = 9999;
 
 /// The atoms of a line.
-fn line_of(atoms: &Atoms) -> &[u8]
+fn line_of<'a>(atoms: &LentAtoms<'a>) -> &'a [u8]
     ensures value { result.now ≡ atoms.now }
     ensures line { is_line atoms.now ≡ true }
     ensures short { length atoms.now ≤ 255 }
@@ -31,7 +31,7 @@ fn line_of(atoms: &Atoms) -> &[u8]
 }
 
 /// Adds a line.
-fn spell_line(out: &mut Vec<u8>, number: u16, atoms: &Atoms) -> Result<(), NoMemory>
+fn spell_line(out: &mut Vec<u8>, number: u16, atoms: &LentAtoms<'_>) -> Result<(), NoMemory>
     ensures bytes { OnOk result (out.new.items ≡ out.old.items ++ line_bytes (number, atoms.now)) }
     ensures line { is_line atoms.now ≡ true }
 {
@@ -53,8 +53,9 @@ fn add_lines(out: &mut Vec<u8>, t: &Text, from: u16, to: u16) -> Result<(), NoMe
     if from > to {
         return Ok(());
     }
-    for (number, atoms) in t.lines(from, to) {
-        spell_line(out, *number, atoms)?;
+    let mut left = t.lines(from, to);
+    while let Some(line) = left.next() {
+        spell_line(out, line.number, &line.lend())?;
     }
     Ok(())
 }

@@ -28,7 +28,10 @@ pub fn assign_number(vars: &mut Vars, to: Element, x: Dec) -> Result<(), Fault>
     requires named { IsNumeric to.var }
     ensures { Ends (assigned_number to x vars.old) vars.old vars.new result }
 {
-    vars.set_number(to.var, to.row, to.column, x)
+    match vars.set_number(to.var, to.row, to.column, x) {
+        Ok(()) => Ok(()),
+        Err(code) => Err(Fault::Code(code)),
+    }
 }
 
 /// Sees to it that what an alpha receiver names is there: a scalar that isn't is made.
@@ -42,7 +45,10 @@ fn reach(vars: &mut Vars, to: &AlphaReceiver) -> Result<(), Fault>
     let element = to.element;
     let from = usize::from(to.portion.from);
     let count = usize::from(to.portion.count);
-    vars.reach_part(element.var, element.row, element.column, from, count)
+    match vars.reach_part(element.var, element.row, element.column, from, count) {
+        Ok(()) => Ok(()),
+        Err(code) => Err(Fault::Code(code)),
+    }
 }
 
 /// The bytes that an alpha receiver names.

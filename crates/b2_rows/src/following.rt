@@ -10,7 +10,7 @@ ghost use Rattle.b2_rows.specs.Following as spec;
 use crate::begins::{is_at, is_line_at};
 use crate::leaves::line_at;
 use crate::row_units::{row_unit, spells_a_line};
-use b2_atom::Atoms;
+use b2_atom::LentAtoms;
 use b2_atom::words::{ELSE, ERROR};
 use b2_base::lexical::rest_after;
 
@@ -26,7 +26,7 @@ pub enum Goal {
 }
 
 /// The bytes of a unit, None where the line has no such unit.
-fn bytes_of_unit(line: &Atoms, k: usize) -> Option<&[u8]>
+fn bytes_of_unit<'a>(line: &LentAtoms<'a>, k: usize) -> Option<&'a [u8]>
     ensures few { IfSome result (λ unit. k < 255) }
     ensures bytes { option_copied result ≡ option_map (λ u. u.bytes) (slice_get (units_of line.now) k) }
 {
@@ -38,7 +38,7 @@ fn bytes_of_unit(line: &Atoms, k: usize) -> Option<&[u8]>
 
 /// A unit of the line, or the next line where there is no such unit.
 #[tactic(auto, using(crate::proofs::WhatFollows::within_line, crate::proofs::WhatFollows::beyond_line))]
-fn unit_or_next(line: &Atoms, k: usize) -> Goal
+fn unit_or_next(line: &LentAtoms<'_>, k: usize) -> Goal
     ensures goal { result ≡ spec.unit_or_next k (spec.tree_units line.now) }
 {
     spells_a_line(line);
@@ -50,7 +50,7 @@ fn unit_or_next(line: &Atoms, k: usize) -> Goal
 }
 
 /// Where a step goes on after the k-th unit where nothing else is said: at the next unit.
-pub fn next_unit(line: &Atoms, k: usize) -> Goal
+pub fn next_unit(line: &LentAtoms<'_>, k: usize) -> Goal
     requires { k < 255 }
     ensures goal { result ≡ spec.unit_or_next (k + 1) (spec.tree_units line.now) }
 {
@@ -59,7 +59,7 @@ pub fn next_unit(line: &Atoms, k: usize) -> Goal
 
 /// Where a step goes on that passes the rest of the k-th unit's statement: past the next `:`.
 #[tactic(auto, using(crate::proofs::WhatFollows::past_is))]
-pub fn past_colon(line: &Atoms, k: usize) -> Goal
+pub fn past_colon(line: &LentAtoms<'_>, k: usize) -> Goal
     ensures goal { result ≡ spec.past_colon k (spec.tree_units line.now) }
 {
     spells_a_line(line);
@@ -84,7 +84,7 @@ fn else_goal(unit: &[u8], k: usize) -> Goal
 /// Where a step goes on after a false IF that is the k-th unit: past the next `:`, and where an ELSE stands there, where that
 /// leads.
 #[tactic(auto, using(crate::proofs::WhatFollows::false_none, crate::proofs::WhatFollows::false_plain, crate::proofs::WhatFollows::false_part, crate::proofs::WhatFollows::false_else))]
-pub fn after_false(line: &Atoms, k: usize) -> Goal
+pub fn after_false(line: &LentAtoms<'_>, k: usize) -> Goal
     ensures goal { result ≡ spec.after_false k (spec.tree_units line.now) }
 {
     spells_a_line(line);
@@ -104,7 +104,7 @@ pub fn after_false(line: &Atoms, k: usize) -> Goal
 /// The unit at which a step goes on after a fault of the k-th, None where no ERROR takes it: where an ERROR stands after the
 /// next `:`, the unit after that.
 #[tactic(auto, using(crate::proofs::WhatFollows::none_taken, crate::proofs::WhatFollows::error_takes, crate::proofs::WhatFollows::no_error))]
-pub fn taken_fault(line: &Atoms, k: usize) -> Option<usize>
+pub fn taken_fault(line: &LentAtoms<'_>, k: usize) -> Option<usize>
     ensures goal { result ≡ spec.taken_fault k (spec.tree_units line.now) }
 {
     spells_a_line(line);

@@ -7,7 +7,7 @@ ghost use Rattle.b2_rows.specs.Rows.{is_part, tree_at};
 ghost use Rattle.b2_rows.specs.Laws.{IsRow};
 ghost use Rattle.b2_rows.specs.Following.{tree_units};
 
-use b2_atom::{Atoms, Uses, reads_row};
+use b2_atom::{LentAtoms, Uses, reads_row};
 
 /// A unit of a line.
 #[derive(Drop)]
@@ -31,7 +31,7 @@ pub fn is_read(row: u16, text: &[u8]) -> bool
 }
 
 /// The bytes of a line of atoms spell a line.
-pub fn spells_a_line(line: &Atoms)
+pub fn spells_a_line(line: &LentAtoms<'_>)
     ensures { is_line line.now ≡ true }
 {
     line.bytes();
@@ -39,7 +39,7 @@ pub fn spells_a_line(line: &Atoms)
 
 /// The k-th unit of a line, counted from 0, None where there are at most k units.
 #[tactic(auto, using(crate::proofs::LineTrees::none_found, crate::proofs::LineTrees::unit_is_row, crate::proofs::LineTrees::row_is, crate::proofs::LineTrees::uses_are, crate::proofs::LineTrees::tree_of_unit))]
-pub fn row_unit(line: &Atoms, k: usize) -> Option<RowUnit<'_>>
+pub fn row_unit<'a>(line: &LentAtoms<'a>, k: usize) -> Option<RowUnit<'a>>
     ensures row { option_map (λ u. u.row) result ≡ option_map (λ v. v.row) (slice_get (tree_units line.now) k) }
     ensures tree { option_map (λ u. tree_at u.row u.bytes.now) result ≡ option_map (λ v. v.tree) (slice_get (tree_units line.now) k) }
     ensures uses { option_map (λ u. u.uses) result ≡ option_map (λ v. uses_in v.tree) (slice_get (tree_units line.now) k) }

@@ -88,8 +88,11 @@ fn number_of(line: &[u8]) -> u16
 /// Puts a numbered line into a text.
 fn put_line(alloc: Global, text: &mut Text, line: &[u8]) -> Result<(), Unanswered> {
     let source = rest_after(line, digits_width(line));
-    text.put(number_of(line), &line_of(alloc, Origin::Program, source)?)?;
-    Ok(())
+    let atoms = line_of(alloc, Origin::Program, source)?;
+    match text.put(number_of(line), &atoms) {
+        Ok(()) => Ok(()),
+        Err(_) => Err(Unanswered::Misread),
+    }
 }
 
 /// The program of the lines of a cell.
@@ -206,7 +209,7 @@ fn moved(me: &Private, home: &Text, place: Place) -> Option<Place> {
         return None;
     }
     match line_named(&me.immediate, home, place.line) {
-        Some(line) => place_after(home, line, place),
+        Some(line) => place_after(home, &line, place),
         None => None,
     }
 }

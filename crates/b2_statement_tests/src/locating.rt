@@ -85,7 +85,7 @@ fn after_words<'a>(line: &'a Atoms, call: &[u8]) -> &'a [u8] {
 
 /// What stands in the line after a number of bytes.
 fn after_count(line: &Atoms, count: usize) -> &[u8] {
-    match row_unit(line, 0) {
+    match row_unit(&line.lend(), 0) {
         Some(unit) => rest_after(unit.bytes, count),
         None => &[],
     }

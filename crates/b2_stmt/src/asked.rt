@@ -24,7 +24,7 @@ use crate::course::{line_to_run, resume, run_program, select, stop, stop_text, t
 use crate::loops::{Loop, begin_loop, counter_at, loop_at, next_round};
 use crate::marked::{call_mark, number_called};
 use b2_access::{Outcome, Private, failed, failing, place_after, to_found, to_goal, to_line};
-use b2_atom::{Atoms, rows};
+use b2_atom::{LentAtoms, rows};
 use b2_base::codes::{D87_FILE_NAME, S26_PROGRAM_ONLY, S27_LEFT_OUT};
 use b2_base::{ByteList, NoMemory};
 use b2_dec::{Mode, ValueList};
@@ -62,7 +62,7 @@ pub enum Asked {
 }
 
 /// The place of a loop's body, which stands after the FOR also where no unit follows.
-fn body_place(home: &Text, line: &Atoms, place: Place) -> Place
+fn body_place(home: &Text, line: &LentAtoms<'_>, place: Place) -> Place
     requires { place.unit < 255 }
     ensures { result ≡ spec.body_place (record { place = place; units = tree_units line.now }) home.now.lines }
 {
@@ -91,7 +91,13 @@ fn ask_loop(work: &Workspace<'_>, unit: &[u8], body: Place) -> Asked
 }
 
 /// What ON asks for, by the line that was chosen.
-fn line_chosen(goto: bool, line: Option<u16>, home: &Text, atoms: &Atoms, place: Place) -> Asked
+fn line_chosen(
+    goto: bool,
+    line: Option<u16>,
+    home: &Text,
+    atoms: &LentAtoms<'_>,
+    place: Place,
+) -> Asked
     requires few { place.unit < 255 }
     ensures asked { result ≡ spec.line_chosen goto line (record { place = place; units = tree_units atoms.now }) home.now.lines }
     ensures named { HasLegalNames result }
@@ -104,7 +110,7 @@ fn line_chosen(goto: bool, line: Option<u16>, home: &Text, atoms: &Atoms, place:
 }
 
 /// What ON asks for.
-fn ask_choice(work: &Workspace<'_>, line: &Atoms, place: Place, unit: &[u8]) -> Asked
+fn ask_choice(work: &Workspace<'_>, line: &LentAtoms<'_>, place: Place, unit: &[u8]) -> Asked
     requires part { is_part row.ON unit.now ≡ true }
     requires few { place.unit < 255 }
     ensures asked { result ≡ spec.asks_on (tree_at row.ON unit.now) (record { place = place; units = tree_units line.now }) (context_of (workspace work.now)) work.now.home.now.lines }
@@ -121,7 +127,7 @@ fn ask_choice(work: &Workspace<'_>, line: &Atoms, place: Place, unit: &[u8]) -> 
 }
 
 /// How IF ends.
-fn if_outcome(work: &Workspace<'_>, line: &Atoms, place: Place, unit: &[u8]) -> Outcome
+fn if_outcome(work: &Workspace<'_>, line: &LentAtoms<'_>, place: Place, unit: &[u8]) -> Outcome
     requires part { is_part row.IF unit.now ≡ true }
     requires few { place.unit < 255 }
     ensures { result ≡ to_found work.now.home.now.lines place (if_goal_of (context_of (workspace work.now)) place.unit (tree_units line.now) (tree_at row.IF unit.now)) }
@@ -142,7 +148,13 @@ fn if_outcome(work: &Workspace<'_>, line: &Atoms, place: Place, unit: &[u8]) -> 
 }
 
 /// How a statement ends that changes nothing.
-pub fn still(work: &Workspace<'_>, line: &Atoms, place: Place, row: u16, unit: &[u8]) -> Outcome
+pub fn still(
+    work: &Workspace<'_>,
+    line: &LentAtoms<'_>,
+    place: Place,
+    row: u16,
+    unit: &[u8],
+) -> Outcome
     requires part { is_part row unit.now ≡ true }
     requires few { place.unit < 255 }
     ensures { result ≡ spec.still row (tree_at row unit.now) (record { place = place; units = tree_units line.now }) (context_of (workspace work.now)) work.now.home.now.lines }
@@ -207,7 +219,7 @@ fn copy_of(place: &Place) -> Place
 pub fn ask(
     alloc: Global,
     work: &Workspace<'_>,
-    line: &Atoms,
+    line: &LentAtoms<'_>,
     place: &Place,
     unit: &RowUnit<'_>,
 ) -> Result<Asked, NoMemory>

@@ -10,7 +10,7 @@ ghost use Rattle.b2_stmt.specs.Branches as spec;
 
 use b2_access::{Outcome, failed, named_at};
 use b2_atom::words::GLOBAL_PART;
-use b2_atom::{Atoms, Cursor};
+use b2_atom::{Cursor, LentAtoms};
 use b2_base::Code;
 use b2_base::codes::D87_FILE_NAME;
 use b2_base::lexical::rest_after;
@@ -29,7 +29,7 @@ pub fn goto_goal(unit: &[u8]) -> Goal
 
 /// Past the next `:` after the k-th unit, as an ELSE that is reached in passing.
 #[tactic(auto, using(crate::proofs::GoalUnits::past_unit))]
-pub fn passed_goal(line: &Atoms, k: usize) -> Goal
+pub fn passed_goal(line: &LentAtoms<'_>, k: usize) -> Goal
     ensures goal { result ≡ past_colon k (tree_units line.now) }
     ensures unit { IsUnit result }
 {
@@ -39,7 +39,7 @@ pub fn passed_goal(line: &Atoms, k: usize) -> Goal
 
 /// Where a false IF leads that is the k-th unit.
 #[tactic(auto, using(crate::proofs::GoalUnits::false_unit))]
-fn false_goal(line: &Atoms, k: usize) -> Goal
+fn false_goal(line: &LentAtoms<'_>, k: usize) -> Goal
     ensures goal { result ≡ after_false k (tree_units line.now) }
     ensures unit { IsUnit result }
 {
@@ -49,7 +49,7 @@ fn false_goal(line: &Atoms, k: usize) -> Goal
 
 /// IF.
 #[tactic(auto, using(crate::proofs::BranchRows::if_condition, crate::proofs::BranchRows::if_named, crate::proofs::BranchRows::if_is))]
-pub fn if_goal(e: &Env<'_>, line: &Atoms, k: usize, unit: &[u8]) -> Result<Goal, Code>
+pub fn if_goal(e: &Env<'_>, line: &LentAtoms<'_>, k: usize, unit: &[u8]) -> Result<Goal, Code>
     requires part { is_part row.IF unit.now ≡ true }
     requires few { k < 255 }
     ensures goal { result ≡ spec.if_goal (in_statement (surroundings e.now)) k (tree_units line.now) (tree_at row.IF unit.now) }

@@ -19,7 +19,7 @@ use crate::clearing::finish_edit;
 use crate::marked::{call_into, place_in};
 use crate::planning::{asked_found, copy_of_line, is_refused};
 use b2_access::{Access, Answer, Found, Lent, Outcome, Private, failed, statement_on};
-use b2_atom::Atoms;
+use b2_atom::LentAtoms;
 use b2_base::codes::{S26_PROGRAM_ONLY, X77_NO_PARTITION};
 use b2_base::{NoMemory, Part};
 use b2_flow::Place;
@@ -53,7 +53,7 @@ fn asked_on(
     alloc: Global,
     me: &mut Private,
     lent: &mut Lent<'_>,
-    line: &Atoms,
+    line: &LentAtoms<'_>,
     place: Place,
 ) -> Result<Asked, NoMemory>
     ensures asked { IfOk result (λ asked. asked ≡ course_at spec.is_refused Asked.Nothing (λ u h. spec.asked_by u h me.old (seen_lent lent.old)) (named_on (Some line.now) place.unit) (record { place = place; units = tree_units line.now })) }
@@ -92,11 +92,11 @@ fn asked_at(alloc: Global, me: &mut Private, lent: &mut Lent<'_>) -> Result<Aske
     };
     match place.line {
         Some(n) => match lent.home.line(n) {
-            Some(line) => asked_on(alloc, me, lent, line.atoms, place),
+            Some(line) => asked_on(alloc, me, lent, &line.lend(), place),
             None => Ok(Asked::Nothing(Outcome::Ready)),
         },
         None => match copy_of_line(alloc, &me.immediate)? {
-            Some(line) => asked_on(alloc, me, lent, &line, place),
+            Some(line) => asked_on(alloc, me, lent, &line.lend(), place),
             None => Ok(Asked::Nothing(Outcome::Ready)),
         },
     }

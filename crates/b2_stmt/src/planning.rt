@@ -18,7 +18,7 @@ use crate::marked::take_args;
 use b2_access::{
     Access, DeviceTable, Found, Lent, Outcome, Planned, Private, failed, setting_of, statement_on,
 };
-use b2_atom::{Atoms, rows};
+use b2_atom::{Atoms, LentAtoms, rows};
 use b2_base::NoMemory;
 use b2_base::codes::S26_PROGRAM_ONLY;
 use b2_expr::Workspace;
@@ -316,7 +316,7 @@ fn plan_on(
     alloc: Global,
     me: &mut Private,
     lent: &mut Lent<'_>,
-    line: &Atoms,
+    line: &LentAtoms<'_>,
     place: Place,
 ) -> Result<Planned, NoMemory>
     ensures planned { IfOk result (λ p. record { me = me.new; globals = globals_lent lent.new; planned = p } ≡ course_at spec.is_refused (spec.stops me.old (seen_lent lent.old)) (spec.does me.old (seen_lent lent.old)) (named_on (Some line.now) place.unit) (record { place = place; units = tree_units line.now })) }
@@ -366,11 +366,11 @@ pub fn plan(
     };
     match place.line {
         Some(n) => match lent.home.line(n) {
-            Some(line) => plan_on(alloc, me, lent, line.atoms, place),
+            Some(line) => plan_on(alloc, me, lent, &line.lend(), place),
             None => Ok(Planned::Done(Outcome::Ready)),
         },
         None => match copy_of_line(alloc, &me.immediate)? {
-            Some(line) => plan_on(alloc, me, lent, &line, place),
+            Some(line) => plan_on(alloc, me, lent, &line.lend(), place),
             None => Ok(Planned::Done(Outcome::Ready)),
         },
     }

@@ -9,7 +9,7 @@ ghost use Rattle.b2_access.specs.Places.{IsUnit};
 ghost use Rattle.b2_stmt_file.specs.Ending as spec;
 
 use b2_access::{Outcome, line_named, to_goal};
-use b2_atom::Atoms;
+use b2_atom::{Atoms, LentAtoms};
 use b2_base::lexical::rest_after;
 use b2_flow::Place;
 use b2_rows::{Goal, after_false, line_at, spells_a_line};
@@ -17,7 +17,7 @@ use b2_text::Text;
 
 /// Where a false IF leads that is the k-th unit of a line.
 #[tactic(auto, using(crate::proofs::GoalUnits::false_unit))]
-fn goal_on(line: &Atoms, k: usize) -> Goal
+fn goal_on(line: &LentAtoms<'_>, k: usize) -> Goal
     ensures goal { result ≡ after_false k (tree_units line.now) }
     ensures unit { IsUnit result }
 {
@@ -32,7 +32,7 @@ fn false_goal(immediate: &Option<Atoms>, home: &Text, n: Option<u16>, k: u8) -> 
     ensures unit { IsUnit result }
 {
     match line_named(immediate, home, n) {
-        Some(line) => goal_on(line, usize::from(k)),
+        Some(line) => goal_on(&line, usize::from(k)),
         None => Goal::NextLine,
     }
 }

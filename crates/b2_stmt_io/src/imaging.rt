@@ -32,7 +32,7 @@ fn line_image(home: &Text, n: u16) -> Result<&[u8], Code>
     let Some(line) = home.line(n) else {
         return Err(Code::known(P36_NO_LINE));
     };
-    match line.atoms.bytes() {
+    match line.atoms {
         [b'%', image @ ..] => Ok(image),
         _ => Err(Code::known(P42_IMAGE)),
     }

@@ -146,8 +146,7 @@ fn put_number(vars: &mut Vars, v: Var, shape: Shape, cell: usize, x: Dec) -> Res
     let _count = vars.count();
     match vars.set_number(v, row, column, x) {
         Ok(()) => Ok(()),
-        Err(Fault::Code(_)) => unreachable!(),
-        Err(Fault::NoMemory) => Err(NoMemory),
+        Err(_) => unreachable!(),
     }
 }
 

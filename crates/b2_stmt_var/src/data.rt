@@ -126,7 +126,7 @@ fn literal_of(own: &Text, spot: Spot, k: u8) -> Option<Literal>
     let Some(line) = own.line(spot.line) else {
         return None;
     };
-    let Some(unit) = statement_on(line.atoms, usize::from(spot.unit)) else {
+    let Some(unit) = statement_on(&line.lend(), usize::from(spot.unit)) else {
         return None;
     };
     match value_in(&unit, usize::from(k)) {

@@ -158,9 +158,14 @@ fn make(vars: &mut Vars, common: bool, entry: Entry) -> Result<(), Fault>
     ensures { Ends (spec.makes common entry vars.old) vars.old vars.new result }
 {
     if common {
-        vars.com(entry.var, entry.shape)
-    } else {
-        vars.dim(entry.var, entry.shape)
+        return match vars.com(entry.var, entry.shape) {
+            Ok(()) => Ok(()),
+            Err(code) => Err(Fault::Code(code)),
+        };
+    }
+    match vars.dim(entry.var, entry.shape) {
+        Ok(()) => Ok(()),
+        Err(code) => Err(Fault::Code(code)),
     }
 }
 

@@ -5,7 +5,7 @@ ghost use Rattle.b2_access.specs.Store.{content};
 ghost use Rattle.b2_store.specs.Giving.{given_unless_refused};
 
 use crate::programs::load_text;
-use crate::refusals::refusal;
+use crate::refusals::{made_answer, refusal};
 use crate::stores::Stores;
 use b2_access::{Access, Answer, Object};
 use b2_atom::Atoms;
@@ -75,10 +75,7 @@ impl Stores {
         let Some(text) = self.texts.get_mut(who) else {
             return Ok(Answer::Done);
         };
-        match text.put(line, atoms) {
-            Ok(()) => Ok(Answer::Done),
-            Err(fault) => refusal(fault),
-        }
+        Ok(made_answer(text.put(line, atoms)))
     }
 
     /// The same, and the partition gives texts back.

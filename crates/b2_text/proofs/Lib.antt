@@ -1,4 +1,14 @@
 pub mod Sizes
+pub mod Blocks
+pub mod Finding
+pub mod AtNumbers
+pub mod Replacing
+pub mod Spans
+pub mod Laid
+pub mod Along
+pub mod NoLine
+pub mod Keeping
+pub mod InOrder
 pub mod Ranges
 pub mod Positions
 pub mod Statements

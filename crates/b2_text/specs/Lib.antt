@@ -1,4 +1,6 @@
+pub mod Packed
 pub mod Program
 pub mod Spots
+pub mod Blocks
 pub mod Trees
 pub mod Laws

@@ -1,8 +1,7 @@
 -- A program text: its lines by number, ascending, and the bytes that they may take.
-use Rattle.std.specs.Prelude.{◌≡◌, ◌≤◌, All, ℕ, Bool, ◌+◌, ◌&&◌, nat_le, nat_lt, not, List, [], ◌∷◌, length, filter, Option, Some, None}
+use Rattle.std.specs.Prelude.{ℕ, Bool, ◌+◌, ◌&&◌, nat_le, nat_lt, not, List, [], ◌∷◌, length, filter, Option, Some, None}
 use Rattle.std.specs.Option.{option_map_or}
-use Rattle.std.specs.List.Sorted.{IsStrictlySortedBy}
-use Rattle.std.specs.Map.{lookup, remove_entry, keys_of}
+use Rattle.std.specs.Map.{lookup}
 use Rattle.std.specs.BTreeMap.{insert_entry, is_at}
 use Rattle.std.specs.Ordering.{nat_cmp}
 
@@ -23,13 +22,6 @@ abbrev pub size_of : Lines → ℕ
 size_of [] = 0
 size_of (l ∷ ls) = cost l.1 + size_of ls
 
--- a size is what the lines take and within the area, and the numbers ascend and are at most 9999
-pub record IsSound (area size : ℕ) (lines : Lines) : Type 0 where
-  pub sized : size ≡ size_of lines
-  pub fits : size ≤ area
-  pub small : All (λ n. n ≤ 9999) (keys_of lines)
-  pub ordered : IsStrictlySortedBy nat_cmp (keys_of lines)
-
 -- the atoms of the line of a number
 abbrev pub line_at : ℕ → Lines → Option (List ℕ)
 line_at n lines = lookup (is_at (nat_cmp n)) lines
@@ -44,10 +36,6 @@ with_line n atoms lines = insert_entry nat_cmp lines n atoms
 
 abbrev pub is_within : ℕ → ℕ → ℕ → Bool
 is_within from to n = nat_le from n && nat_le n to
-
--- without the line of a number
-abbrev pub without_line : ℕ → Lines → Lines
-without_line n lines = remove_entry (is_at (nat_cmp n)) lines
 
 -- without the lines from a number to another
 abbrev pub without : ℕ → ℕ → Lines → Lines

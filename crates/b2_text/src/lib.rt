@@ -6,13 +6,23 @@
 //! function of `specs/`: `Program` says what lines take, which line comes after a number and what a change leaves, and
 //! `Spots` where a DEFFN', a DEFFN or a DATA is found; `Trees` says the same of the trees of lines, and the laws in `laws`
 //! tie the two. A text never takes more than its area, and its numbers are at most 9999.
+//!
+//! All memory is taken by `Text::new`: a block of the area's bytes, in which the lines lie one after another in order of their
+//! numbers, each after a heading of five bytes; an index of the lines; and where the units of each line are. `Blocks` says how
+//! block, index and units go together.
 #![tactic(auto)]
 
+mod block;
 mod laws;
-mod lines;
+mod line;
+mod numbers;
+mod packed;
 mod spots;
 mod text;
+mod within;
 
 pub use laws::{data_are_found, functions_are_found, marks_are_found};
+pub use line::Line;
 pub use spots::Spot;
-pub use text::{Line, Text};
+pub use text::Text;
+pub use within::LinesWithin;

@@ -1,9 +1,14 @@
 // What is found in the lines of a text.
-ghost use Rattle.std.specs.Prelude.{◌≡◌};
+ghost use Rattle.std.specs.Prelude.{◌≡◌, is_some};
+ghost use Rattle.std.specs.List.Sorted.{IsStrictlySortedBy};
+ghost use Rattle.std.specs.Map.{keys_of};
+ghost use Rattle.std.specs.Ordering.{nat_cmp};
+ghost use Rattle.b2_text.specs.Blocks.{AreSpansOf, IsLaid, heading, is_opener, kind, lines_laid};
 ghost use Rattle.b2_text.specs.Spots.{unit_of, is_mark, is_function, is_data, data_in, data_of, first_opening, data_from};
 
-use crate::lines::Lines;
-use b2_atom::{Atoms, DATA, DEFFN, DEFFN_PRIME};
+use crate::block::{LinePlace, find};
+use crate::line::line_placed;
+use b2_atom::{DATA, DEFFN, DEFFN_PRIME, LentAtoms, Span};
 use b2_base::lexical::capped_value;
 
 /// A place in a text: a unit of a line, counted from 0.
@@ -42,38 +47,80 @@ fn is_data(unit: &[u8]) -> bool
     }
 }
 
-/// The bytes of a unit, none where there is no such unit.
-fn unit_of(atoms: &Atoms, unit: u8) -> &[u8]
-    ensures { result.now ≡ unit_of unit atoms.now }
+/// Whether a unit begins with DEFFN or DEFFN'.
+fn is_opener(unit: &[u8]) -> bool
+    ensures { result ≡ is_opener unit.now }
 {
-    match atoms.unit(usize::from(unit)) {
+    match unit {
+        [word, ..] => *word == DEFFN || *word == DEFFN_PRIME,
+        [] => false,
+    }
+}
+
+/// The bytes of a unit, none where there is no such unit.
+fn unit_of<'a>(line: &LentAtoms<'a>, unit: u8) -> &'a [u8]
+    ensures { result.now ≡ unit_of unit line.now }
+{
+    match line.unit(usize::from(unit)) {
         Some(cursor) => cursor.rest(),
         None => &[],
     }
 }
 
 /// The first DATA of a line from a unit on.
-fn data_in(from: u8, atoms: &Atoms) -> Option<u8>
-    ensures { result ≡ data_in from atoms.now }
+fn data_in(from: u8, line: &LentAtoms<'_>) -> Option<u8>
+    ensures { result ≡ data_in from line.now }
 {
-    let count = atoms.units() as u8;
+    let count = line.units() as u8;
     for unit in from..count {
-        if is_data(unit_of(atoms, unit)) {
+        if is_data(unit_of(line, unit)) {
             return Some(unit);
         }
     }
     None
 }
 
+/// Whether a DATA stands in a line.
+fn has_data(line: &LentAtoms<'_>) -> bool
+    ensures { result ≡ is_some (data_in 0 line.now) }
+{
+    match data_in(0, line) {
+        Some(_) => true,
+        None => false,
+    }
+}
+
+/// What kind of line: 1 where it begins with DEFFN or DEFFN', and 2 where a DATA stands in it.
+fn kind(line: &LentAtoms<'_>) -> u8
+    ensures { result ≡ kind line.now }
+{
+    let opens = if is_opener(unit_of(line, 0)) { 1 } else { 0 };
+    let holds = if has_data(line) { 2 } else { 0 };
+    opens + holds
+}
+
+/// What stands before the atoms of a line: its number, how many atom bytes and units it has, and its kind.
+pub fn heading(n: u16, line: &LentAtoms<'_>) -> [u8; 5]
+    ensures { result ≡ heading n line.now }
+{
+    [
+        (n / 256) as u8,
+        (n % 256) as u8,
+        line.bytes().len() as u8,
+        line.units() as u8,
+        kind(line),
+    ]
+}
+
 /// The first DATA of a line at or after a spot.
-fn data_of(from: Spot, number: u16, atoms: &Atoms) -> Option<Spot>
-    ensures { result ≡ data_of from (number, atoms.now) }
+fn data_of(from: Spot, number: u16, line: &LentAtoms<'_>) -> Option<Spot>
+    ensures { result ≡ data_of from (number, line.now) }
 {
     if number < from.line {
         return None;
     }
     let first = if number == from.line { from.unit } else { 0 };
-    match data_in(first, atoms) {
+    match data_in(first, line) {
         Some(unit) => Some(Spot { line: number, unit }),
         None => None,
     }
@@ -89,35 +136,61 @@ impl Spot {
 }
 
 /// The DEFFN' of a number in the lowest line that begins with one.
-pub fn first_mark(lines: &Lines, n: u8) -> Option<Spot>
-    ensures { result ≡ first_opening (is_mark n) lines.now.entries }
+pub fn first_mark(
+    block: &Vec<u8>,
+    places: &Vec<LinePlace>,
+    units: &Vec<Span>,
+    n: u8,
+) -> Option<Spot>
+    requires laid { IsLaid block.now.items places.now.items }
+    requires kept { AreSpansOf (lines_laid block.now.items places.now.items) units.now.items }
+    ensures { result ≡ first_opening (is_mark n) (lines_laid block.now.items places.now.items) }
 {
-    for (number, atoms) in lines {
-        if is_mark(n, unit_of(atoms, 0)) {
-            return Some(Spot::first_of(*number));
+    for i in 0..places.len() {
+        let line = line_placed(block, places, units, i);
+        if is_mark(n, unit_of(&line.lend(), 0)) {
+            return Some(Spot::first_of(line.number));
         }
     }
     None
 }
 
 /// The DEFFN of a name in the lowest line that begins with one.
-pub fn first_function(lines: &Lines, name: u8) -> Option<Spot>
-    ensures { result ≡ first_opening (is_function name) lines.now.entries }
+pub fn first_function(
+    block: &Vec<u8>,
+    places: &Vec<LinePlace>,
+    units: &Vec<Span>,
+    name: u8,
+) -> Option<Spot>
+    requires laid { IsLaid block.now.items places.now.items }
+    requires kept { AreSpansOf (lines_laid block.now.items places.now.items) units.now.items }
+    ensures { result ≡ first_opening (is_function name) (lines_laid block.now.items places.now.items) }
 {
-    for (number, line) in lines {
-        if is_function(name, unit_of(line, 0)) {
-            return Some(Spot::first_of(*number));
+    for i in 0..places.len() {
+        let line = line_placed(block, places, units, i);
+        if is_function(name, unit_of(&line.lend(), 0)) {
+            return Some(Spot::first_of(line.number));
         }
     }
     None
 }
 
 /// The first DATA at or after a spot.
-pub fn first_data(lines: &Lines, from: Spot) -> Option<Spot>
-    ensures { result ≡ data_from from lines.now.entries }
+pub fn first_data(
+    block: &Vec<u8>,
+    places: &Vec<LinePlace>,
+    units: &Vec<Span>,
+    from: Spot,
+) -> Option<Spot>
+    requires laid { IsLaid block.now.items places.now.items }
+    requires ordered { IsStrictlySortedBy nat_cmp (keys_of (lines_laid block.now.items places.now.items)) }
+    requires kept { AreSpansOf (lines_laid block.now.items places.now.items) units.now.items }
+    ensures { result ≡ data_from from (lines_laid block.now.items places.now.items) }
 {
-    for (number, units) in lines {
-        if let Some(spot) = data_of(from, *number, units) {
+    let first = find(places, from.line);
+    for i in first..places.len() {
+        let line = line_placed(block, places, units, i);
+        if let Some(spot) = data_of(from, line.number, &line.lend()) {
             return Some(spot);
         }
     }

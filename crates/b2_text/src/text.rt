@@ -1,64 +1,80 @@
 // A program text: its lines by number.
-ghost use Rattle.std.specs.Prelude.{All, ℕ, List, filter, true, ◌||◌, ◌≡◌, ◌≢◌, ◌<◌, ◌≤◌, [], option_map, Ok, OnOk, OnErr, IfErr, IfSome};
+ghost use Rattle.std.specs.Prelude.{All, true, ◌||◌, ◌≡◌, ◌<◌, ◌≤◌, [], filter, option_map, OnOk, OnErr, IfOk, IfErr, IfSome};
 ghost use Rattle.std.specs.List.Sorted.{IsStrictlySortedBy};
 ghost use Rattle.std.specs.Map.{keys_of};
 ghost use Rattle.std.specs.Ordering.{nat_cmp};
-ghost use Rattle.std.specs.Map.Iter.{ShowsInOrder, deref_pair};
+ghost use Rattle.b2_atom.specs.Lines.{KeepsUnits};
 ghost use Rattle.b2_base.specs.declared.codes.TheConstants.{A01_TEXT_AREA};
 ghost use Rattle.b2_base.specs.Lexical.{is_digit, is_letter};
-ghost use Rattle.b2_text.specs.Program.{is_within, size_of, line_at, with_line, without_line, without, number_after, first_number};
+ghost use Rattle.b2_text.specs.Program.{is_within, size_of, line_at, with_line, without, number_after};
 ghost use Rattle.b2_text.specs.Spots.{is_mark, is_function, is_data, unit_at, first_opening, data_from};
 
-use crate::Spot;
-use crate::lines::{
-    Lines, cost, cost_at, first_above, first_of_all, first_within, put_in_place, within,
+use crate::block::LinePlace;
+use crate::line::{Line, line_of};
+use crate::numbers::{
+    LINE_COST, MOST_NUMBER, cost_of, first_number, number_above, put_number, take_range,
 };
-use crate::spots::{first_data, first_function, first_mark};
-use b2_atom::Atoms;
+use crate::spots::{Spot, first_data, first_function, first_mark, heading};
+use crate::within::{LinesWithin, lines_within};
+use b2_atom::{Atoms, Span};
 use b2_base::codes::A01_TEXT_AREA;
-use b2_base::{Code, Fault, NoMemory};
+use b2_base::{Code, NoMemory};
 use std::alloc::Global;
-use std::collections::BTreeMap;
-use std::collections::btree_map::Range;
 use std::marker::Model;
 
-/// A line of a text.
-#[derive(Clone, Copy)]
-pub struct Line<'a> {
-    pub number: u16,
-    pub atoms: &'a Atoms,
-}
+/// The greatest area that a text may have.
+const MOST_AREA: usize = 65_535;
 
-/// A program text. Contracts see it as its area and its lines, ascending.
+/// What the shortest line takes: a byte of atoms and what stands before it.
+const LEAST_COST: usize = LINE_COST + 1;
+
+/// A program text. Contracts see it as its area and its lines, ascending. The lines lie in one block of the area's bytes,
+/// beside an index of them and the places of their units; all memory is taken when the text is made.
 #[derive(Drop)]
 pub struct Text {
-    alloc: Global,
     area: usize,
-    size: usize,
-    lines: Lines,
+    block: Vec<u8>,
+    places: Vec<LinePlace>,
+    units: Vec<Span>,
 }
 
 impl Model for Text {
-    ghost use Rattle.b2_text.specs.Program.{TextState, IsSound};
+    ghost use Rattle.std.specs.Prelude.{vec_capacity};
+    ghost use Rattle.b2_text.specs.Blocks.{IsKept, IsRoomy, lines_laid};
+    ghost use Rattle.b2_text.specs.Program.{TextState};
 
     ghost Value = { TextState };
 
-    ghost view = { λ t. record { area = t.area; lines = t.lines.entries } };
+    ghost view = { λ t. record { area = t.area; lines = lines_laid t.block.items t.places.items } };
 
-    ghost invariant = { λ t. IsSound t.area t.size t.lines.entries };
+    ghost invariant = { λ t. IsKept t.area t.block.items t.places.items t.units.items × IsRoomy t.area (vec_capacity t.block) (vec_capacity t.places) (vec_capacity t.units) };
 }
 
 impl Text {
-    /// An empty text with an area of `area` bytes. It takes no memory.
+    /// An empty text with an area of `area` bytes. It takes all its memory now, and answers want of it where the area is above
+    /// 65,535 too.
     pub fn new(alloc: Global, area: usize) -> Result<Text, NoMemory>
-        ensures { result ≡ Ok (record { area = area; lines = [] }) }
+        ensures { IfOk result (λ t. t ≡ record { area = area; lines = [] }) }
     {
+        if area > MOST_AREA {
+            return Err(NoMemory);
+        }
+        let block = Vec::with_capacity(alloc, area)?;
+        let places = Vec::with_capacity(alloc, area / LEAST_COST)?;
+        let units = Vec::with_capacity(alloc, area)?;
         Ok(Text {
-            alloc,
             area,
-            size: 0,
-            lines: BTreeMap::new(alloc),
+            block,
+            places,
+            units,
         })
+    }
+
+    /// The bytes that its lines may take.
+    pub fn area(&self) -> usize
+        ensures { result ≡ self.now.area }
+    {
+        self.area
     }
 
     /// The bytes that its lines take, at most its area.
@@ -66,18 +82,16 @@ impl Text {
         ensures size { result ≡ size_of self.now.lines }
         ensures fits { result ≤ self.now.area }
     {
-        self.size
+        self.block.len()
     }
 
     /// The line of a number, None where there is none.
     pub fn line(&self, n: u16) -> Option<Line<'_>>
         ensures atoms { option_map (λ l. l.atoms.now) result ≡ line_at n self.now.lines }
         ensures number { IfSome result (λ l. l.number ≡ n) }
+        ensures kept { IfSome result (λ l. KeepsUnits l.atoms.now l.units.now) }
     {
-        match self.lines.get(&n) {
-            Some(atoms) => Some(Line { number: n, atoms }),
-            None => None,
-        }
+        line_of(&self.block, &self.places, &self.units, n)
     }
 
     /// The least number of a line above this one, for None the least of all; None where there is none.
@@ -87,18 +101,22 @@ impl Text {
         ensures small { All (λ n. n ≤ 9999) (keys_of self.now.lines) }
     {
         match n {
-            Some(n) => first_above(&self.lines, n),
-            None => first_of_all(&self.lines),
+            Some(n) => {
+                if n >= MOST_NUMBER {
+                    return None;
+                }
+                number_above(&self.block, &self.places, n)
+            }
+            None => first_number(&self.places),
         }
     }
 
-    /// The lines from a number to another, ascending, each with its number.
-    pub fn lines(&self, from: u16, to: u16) -> Range<'_, u16, Atoms>
+    /// The lines from a number to another, ascending.
+    pub fn lines(&self, from: u16, to: u16) -> LinesWithin<'_>
         requires { from ≤ to }
-        ensures lines { result ≡ filter (λ l. is_within from to l.0) self.now.lines }
-        ensures runs { ShowsInOrder (deref_pair {K = ℕ} {X = List ℕ}) }
+        ensures { result ≡ filter (λ l. is_within from to l.0) self.now.lines }
     {
-        within(&self.lines, from, to)
+        lines_within(&self.block, &self.places, &self.units, from, to)
     }
 
     /// The DEFFN' of a number in the lowest line that has one, None where no line has.
@@ -106,7 +124,7 @@ impl Text {
         ensures lowest { result ≡ first_opening (is_mark n) self.now.lines }
         ensures there { IfSome result (λ spot. is_mark n (unit_at spot self.now.lines) ≡ true) }
     {
-        first_mark(&self.lines, n)
+        first_mark(&self.block, &self.places, &self.units, n)
     }
 
     /// The DEFFN of a name, a letter or a digit, in the lowest line that has one, None where no line has.
@@ -115,7 +133,7 @@ impl Text {
         ensures lowest { result ≡ first_opening (is_function name) self.now.lines }
         ensures there { IfSome result (λ spot. is_function name (unit_at spot self.now.lines) ≡ true) }
     {
-        first_function(&self.lines, name)
+        first_function(&self.block, &self.places, &self.units, name)
     }
 
     /// The first DATA at or after a spot, None where there is none.
@@ -123,27 +141,33 @@ impl Text {
         ensures first { result ≡ data_from from self.now.lines }
         ensures there { IfSome result (λ spot. is_data (unit_at spot self.now.lines) ≡ true) }
     {
-        first_data(&self.lines, from)
+        first_data(&self.block, &self.places, &self.units, from)
     }
 
-    /// Puts a line in its place, where one of its number gives way. A01 comes exactly where the size would pass the area, and
-    /// want of memory only where it would not. After a fault the text is as before.
-    pub fn put(&mut self, n: u16, a: &Atoms) -> Result<(), Fault>
+    /// Puts a line in its place, where one of its number gives way. A01 comes exactly where the size would pass the area. After
+    /// a fault the text is as before. It takes no memory.
+    pub fn put(&mut self, n: u16, a: &Atoms) -> Result<(), Code>
         requires { n ≤ 9999 }
         ensures ok { OnOk result (self.new ≡ record self.old { lines = with_line n a.now self.old.lines }) }
         ensures fits { OnOk result (size_of (with_line n a.now self.old.lines) ≤ self.old.area) }
-        ensures full { IfErr result (λ e. e ≢ Fault.NoMemory → (e ≡ Fault.Code 1) × (self.old.area < size_of (with_line n a.now self.old.lines))) }
-        ensures memory { IfErr result (λ e. e ≡ Fault.NoMemory → size_of (with_line n a.now self.old.lines) ≤ self.old.area) }
+        ensures full { IfErr result (λ code. (code ≡ A01_TEXT_AREA) × (self.old.area < size_of (with_line n a.now self.old.lines))) }
         ensures err { OnErr result (self.new ≡ self.old) }
     {
-        let cost = cost(a);
-        let rest = self.size - cost_at(&self.lines, n);
+        let line = a.lend();
+        let cost = line.bytes().len() + LINE_COST;
+        let rest = self.block.len() - cost_of(&self.block, &self.places, n);
         if cost > self.area - rest {
-            return Err(Fault::Code(Code::known(A01_TEXT_AREA)));
+            return Err(Code::known(A01_TEXT_AREA));
         }
-        let line = a.try_clone(self.alloc)?;
-        put_in_place(&mut self.lines, n, line)?;
-        self.size = rest + cost;
+        put_number(
+            &mut self.block,
+            &mut self.places,
+            &mut self.units,
+            n,
+            &heading(n, &line),
+            line.bytes(),
+            a.spans(),
+        );
         Ok(())
     }
 
@@ -154,48 +178,15 @@ impl Text {
         if from > to {
             return;
         }
-        while let Some(n) = self.first_within(from, to) {
-            self.remove(n);
-        }
+        take_range(&mut self.block, &mut self.places, &mut self.units, from, to);
     }
 
     /// Deletes all lines.
     pub fn clear(&mut self)
         ensures { self.new ≡ record self.old { lines = [] } }
     {
-        self.lines.clear();
-        self.size = 0;
-    }
-
-    /// Takes the lines of another text in place of its own. A01 comes exactly where they would pass the area; then the text
-    /// is as before. It takes no memory.
-    pub fn take_lines(&mut self, other: Text) -> Result<(), Code>
-        ensures ok { OnOk result (self.new ≡ record self.old { lines = other.lines }) }
-        ensures fits { OnOk result (size_of other.lines ≤ self.old.area) }
-        ensures full { IfErr result (λ code. (code ≡ A01_TEXT_AREA) × (self.old.area < size_of other.lines)) }
-        ensures err { OnErr result (self.new ≡ self.old) }
-    {
-        if other.size > self.area {
-            return Err(Code::known(A01_TEXT_AREA));
-        }
-        self.size = other.size;
-        self.lines = other.lines;
-        Ok(())
-    }
-
-    fn first_within(&self, from: u16, to: u16) -> Option<u16>
-        requires { from ≤ to }
-        ensures { result ≡ first_number (filter (λ l. is_within from to l.0) self.now.lines) }
-    {
-        first_within(&self.lines, from, to)
-    }
-
-    /// Deletes the line of a number.
-    fn remove(&mut self, n: u16)
-        ensures { self.new ≡ record self.old { lines = without_line n self.old.lines } }
-    {
-        if let Some(atoms) = self.lines.remove(&n) {
-            self.size -= cost(&atoms);
-        }
+        self.block.clear();
+        self.places.clear();
+        self.units.clear();
     }
 }

@@ -9,7 +9,7 @@ ghost use Rattle.b2_access.specs.Places.{IsUnit};
 use crate::pieces::word;
 use b2_access::{goal_place, place_after};
 use b2_atom::Atoms;
-use b2_base::{Fault, NoMemory, Part};
+use b2_base::{NoMemory, Part};
 use b2_cases::{Cells, number_of, small_of, str_of};
 use b2_flow::Place;
 use b2_rows::Goal;
@@ -28,8 +28,7 @@ fn put_line(alloc: Global, text: &mut Text, number: u16, source: &[u8]) -> Resul
     };
     match text.put(number, &atoms) {
         Ok(()) => Ok(true),
-        Err(Fault::Code(_)) => Ok(false),
-        Err(Fault::NoMemory) => Err(NoMemory),
+        Err(_) => Ok(false),
     }
 }
 
@@ -89,7 +88,10 @@ pub fn after_unit(alloc: Global, row: Cells<'_>) -> Result<String, NoMemory> {
     let Some(text) = two_lines(alloc)? else {
         return no_place(alloc);
     };
-    said_of(alloc, &place_after(&text, &atoms, place_of(line, unit)))
+    said_of(
+        alloc,
+        &place_after(&text, &atoms.lend(), place_of(line, unit)),
+    )
 }
 
 /// The goal in a cell, None where it is misspelled.

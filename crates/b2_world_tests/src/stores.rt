@@ -444,7 +444,7 @@ fn show_refused(fault: Fault, into: &mut String) -> Result<(), NoMemory> {
 fn set_note(globals: &mut Vars, other: &[u8], into: &mut String) -> Result<(), NoMemory> {
     match globals.set_alpha(NOTE, 0, 0, other) {
         Ok(()) => Ok(()),
-        Err(fault) => show_refused(fault, into),
+        Err(code) => show_refused(Fault::Code(code), into),
     }
 }
 

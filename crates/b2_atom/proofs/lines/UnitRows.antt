@@ -9,7 +9,7 @@ use Rattle.b2_atom.specs.Words.{Text}
 use Rattle.b2_atom.specs.Tree.{Trees, Outcome, Parser, under}
 use Rattle.b2_atom.specs.Tree.Trees.{Done, In}
 use Rattle.b2_atom.specs.Grammar.{reader, part, statement, statement_within, statement_row, row_at, from, chosen}
-use Rattle.b2_atom.specs.Lines.{LineUnit, IsReadBy, KeepsRow, KeepsUses, KeepsUnits, chosen_row, left_after, spanned, unit_row, unit_uses, units_of}
+use Rattle.b2_atom.specs.Lines.{LineUnit, IsReadBy, KeepsRow, KeepsUses, KeepsUnits, chosen_row, left_after, span_row, span_uses, spanned, unit_row, unit_uses, units_of}
 use Rattle.b2_atom.specs.Laws.{IsStatement, IsReadByItsRow, EachUnitIsReadByItsRow}
 use Rattle.b2_atom.specs.Table.{forms}
 use Rattle.b2_atom.specs.declared.words.Origin.TheVariants.{Atoms}
@@ -70,12 +70,12 @@ one_more : (P : Span → Type 0) (spans more : List Span) (s : Span) → more �
 one_more P spans more s added kept all = subst (λ (ss : List Span). All P ss) (sym added) (All-append P spans (s ∷ []) all (All-cons P s [] kept (All-nil P)))
 
 -- its row
-pub one_more_row : (line : Text) (spans more : List Span) (s : Span) (u : LineUnit) → more ≡ spans ++ s ∷ [] → spanned line s ≡ u → s.row ≡ unit_row u
+pub one_more_row : (line : Text) (spans more : List Span) (s : Span) (u : LineUnit) → more ≡ spans ++ s ∷ [] → spanned line s ≡ u → span_row s ≡ unit_row u
     → All (KeepsRow line) spans → All (KeepsRow line) more
 one_more_row line spans more s u added is kept rows = one_more (KeepsRow line) spans more s added (kept ∙ ap unit_row (sym is)) rows
 
 -- what its unit uses
-pub one_more_use : (line : Text) (spans more : List Span) (s : Span) (u : LineUnit) → more ≡ spans ++ s ∷ [] → spanned line s ≡ u → s.uses ≡ unit_uses u
+pub one_more_use : (line : Text) (spans more : List Span) (s : Span) (u : LineUnit) → more ≡ spans ++ s ∷ [] → spanned line s ≡ u → span_uses s ≡ unit_uses u
     → All (KeepsUses line) spans → All (KeepsUses line) more
 one_more_use line spans more s u added is kept uses = one_more (KeepsUses line) spans more s added (kept ∙ ap unit_uses (sym is)) uses
 
@@ -91,7 +91,7 @@ found_unit line spans k s kept is =
     ∙ ap (option_map (spanned line)) is
 
 -- is read by the row that the span keeps
-pub found_read : (line : Text) (spans : List Span) (k : ℕ) (s : Span) (number : ℕ) (bytes : Text) → KeepsUnits line spans → slice_get spans k ≡ Some s → number ≡ s.row
+pub found_read : (line : Text) (spans : List Span) (k : ℕ) (s : Span) (number : ℕ) (bytes : Text) → KeepsUnits line spans → slice_get spans k ≡ Some s → number ≡ span_row s
     → bytes ≡ (spanned line s).bytes → IsReadBy number bytes
 found_read line spans k s number bytes kept is numbered cut =
     let by = of_each IsReadByItsRow (units_of line) k (spanned line s) (found_unit line spans k s kept is) (each_unit_by_its_row line kept.line_is) in

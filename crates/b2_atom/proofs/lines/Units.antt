@@ -8,7 +8,7 @@ use Rattle.std.specs.Option.{option_map}
 use Rattle.b2_atom.specs.Words.{Text}
 use Rattle.b2_atom.specs.Tree.{Outcome, atoms}
 use Rattle.b2_atom.specs.Grammar.{reader, statement}
-use Rattle.b2_atom.specs.Lines.{LineUnit, leading_unit, units_from, units_after, after_unit, left_after, next_position, next_text, is_line, units_of, spanned, KeepsUnits, IsEndOf, further_unit, is_further}
+use Rattle.b2_atom.specs.Lines.{LineUnit, leading_unit, units_from, units_after, after_unit, left_after, next_position, next_text, is_line, units_of, spanned, KeepsUnits, IsEndOf, further_unit, is_further, span_position}
 use Rattle.b2_atom.specs.declared.words.Origin.TheVariants.{Atoms}
 use Rattle.b2_atom.specs.declared.forms.Position.{Position}
 use Rattle.b2_atom.specs.declared.forms.Position.TheVariants.{First}
@@ -215,22 +215,22 @@ here line spans i d h =
     ∙ ap (map (spanned line)) (drop_more spans i d h)
     ∙ ap (λ (us : List LineUnit). spanned line (get_or spans i d) ∷ us) (sym (drop-map (spanned line) (i + 1) spans))
 
-pub further_passed : (k i : ℕ) (line : Text) (spans : List Span) (d : Span) → i < length spans → is_further (get_or spans i d).position ≡ false
+pub further_passed : (k i : ℕ) (line : Text) (spans : List Span) (d : Span) → i < length spans → is_further (span_position (get_or spans i d)) ≡ false
     → further_unit k (i + 1) (drop (i + 1) (map (spanned line) spans)) ≡ further_unit k i (drop i (map (spanned line) spans))
 further_passed k i line spans d h not_it =
     sym (ap (further_unit k i) (here line spans i d h) ∙ passed k i (spanned line (get_or spans i d)) (drop (i + 1) (map (spanned line) spans)) (none (nat_lt k i) not_it)) where
-      none : (b : Bool) → is_further (get_or spans i d).position ≡ false → (b && is_further (get_or spans i d).position) ≡ false
+      none : (b : Bool) → is_further (span_position (get_or spans i d)) ≡ false → (b && is_further (span_position (get_or spans i d))) ≡ false
       none true h = h
       none false h = refl
 
-pub further_found : (k i : ℕ) (line : Text) (spans : List Span) (d : Span) → k < i → i < length spans → is_further (get_or spans i d).position ≡ true
+pub further_found : (k i : ℕ) (line : Text) (spans : List Span) (d : Span) → k < i → i < length spans → is_further (span_position (get_or spans i d)) ≡ true
     → i ≡ further_unit k i (drop i (map (spanned line) spans))
 further_found k i line spans d after h it =
     sym (ap (further_unit k i) (here line spans i d h) ∙ (λ x. if both x then i else further_unit k (suc i) (drop (i + 1) (map (spanned line) spans)))) where
       is_after : nat_lt k i ≡ true
       is_after = grind (arith, nat_tests)
 
-      both : (nat_lt k i && is_further (get_or spans i d).position) ≡ true
+      both : (nat_lt k i && is_further (span_position (get_or spans i d))) ≡ true
       both = (λ x. is_after x && it x)
 
 pub further_none_left : (k i : ℕ) (line : Text) (spans : List Span) → i ≡ length spans → i ≡ further_unit k i (drop i (map (spanned line) spans))

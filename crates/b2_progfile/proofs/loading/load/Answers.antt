@@ -9,6 +9,9 @@ read_program-requires c =
     let inside = in-image c.args.p.now c.args.name c.in-Ok.e c.image-image.ensures.good c.in-Ok.ensures.file in
     omega (arith, inside.order, inside.within, inside.few)
 
+pub put_program-requires : goal.put_program-requires
+put_program-requires c = c.in-Ok-read_program.ensures.ok.text.ascending
+
 pub returns-in-Err-clause-fails : goal.returns-in-Err-clause-fails
 returns-in-Err-clause-fails c = load-code c.args.p.now c.args.name c.args.replace c.args.t.now c.in-Err.code (inl c.in-Err.ensures.err)
 
@@ -20,9 +23,9 @@ returns-in-Err-read_program-clause-fails c =
 pub returns-clause-value : goal.returns-clause-value
 returns-clause-value c =
     let allowed : load_refusal (Some c.in-Ok.e) ≡ None = ap load_refusal (sym c.in-Ok.ensures.file) ∙ c.in-Ok.ensures.allowed in
-    put-value c.args.p.now c.args.name c.args.replace c.args.t.now c.in-Ok.e c.in-Ok.ensures.file allowed c.in-Ok-read_program.program.lines c.put_program.new.t c.put_program.result c.in-Ok-read_program.ensures.ok c.put_program.ensures.ok c.put_program.ensures.fits
+    put-value c.args.p.now c.args.name c.args.replace c.args.t.now c.in-Ok.e c.in-Ok.ensures.file allowed c.in-Ok-read_program.program.entries c.put_program.new.t c.put_program.result c.in-Ok-read_program.ensures.ok c.put_program.ensures.ok c.put_program.ensures.fits
 
 pub returns-clause-fails : goal.returns-clause-fails
 returns-clause-fails c =
     let allowed : load_refusal (Some c.in-Ok.e) ≡ None = ap load_refusal (sym c.in-Ok.ensures.file) ∙ c.in-Ok.ensures.allowed in
-    err-as c.put_program.result _ _ (put-fails c.args.p.now c.args.name c.args.replace c.args.t.now c.in-Ok.e c.in-Ok.ensures.file allowed c.in-Ok-read_program.program.lines c.in-Ok-read_program.ensures.ok) c.put_program.ensures.err
+    err-as c.put_program.result _ _ (put-fails c.args.p.now c.args.name c.args.replace c.args.t.now c.in-Ok.e c.in-Ok.ensures.file allowed c.in-Ok-read_program.program.entries c.in-Ok-read_program.ensures.ok) c.put_program.ensures.err

@@ -13,5 +13,5 @@ returns-then-from-to-clause-ascending c = rw (between-nothing c.args.from c.args
 
 pub returns-clause-ascending : goal.returns-clause-ascending
 returns-clause-ascending c =
-    let none : AllLines c.loop-number.number-iterator = search rules in
-    ascending-between c.args.from c.args.to c.args.t.now.lines c.requires c.next_after-first.ensures.ascending (c.loop-number.invariant.lines none)
+    let none : AllLines c.loop-line.left = search rules in
+    ascending-between c.args.from c.args.to c.args.t.now.lines c.requires c.next_after-first.ensures.ascending (c.loop-line.invariant.lines none)

@@ -1,0 +1,18 @@
+use Rattle.std.proofs.Common.{arith}
+use Rattle.b2_text.proofs.Keeping.{kept_none}
+use Rattle.b2_text.proofs.text.Text.clear.Goals as goal
+
+pub invariant_of-self : goal.invariant_of-self
+invariant_of-self c =
+    let room = c.self.invariant.1 in
+    let bytes = c.clear.ensures.capacity in
+    let places = c.clear-2.ensures.capacity in
+    let units = c.clear-3.ensures.capacity in (
+      kept_none c.self.inside.area c.clear.new.self.items c.clear-2.new.self.items c.clear-3.new.self.items c.clear.ensures.items c.clear-2.ensures.items c.clear-3.ensures.items,
+      record {
+        few = room.few;
+        for_bytes = omega (arith, bytes, room.for_bytes);
+        for_places = omega (arith, places, room.for_places);
+        for_units = omega (arith, units, room.for_units);
+      },
+    )

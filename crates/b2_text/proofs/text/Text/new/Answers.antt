@@ -1,0 +1,17 @@
+use Rattle.std.proofs.Common.{arith}
+use Rattle.b2_text.proofs.Keeping.{kept_none}
+use Rattle.b2_text.proofs.text.Text.new.Goals as goal
+
+pub invariant_of-result : goal.invariant_of-result
+invariant_of-result c =
+    let bytes = c.in_ok-block.ensures.capacity in
+    let places = c.in_ok-places.ensures.capacity in
+    let units = c.in_ok-units.ensures.capacity in (
+      kept_none c.args.area c.in_ok-block.block.items c.in_ok-places.places.items c.in_ok-units.units.items c.in_ok-block.ensures.items c.in_ok-places.ensures.items c.in_ok-units.ensures.items,
+      record {
+        few = omega (arith, c.if-area-gt-MOST_AREA.false);
+        for_bytes = omega (arith, bytes);
+        for_places = omega (arith, places);
+        for_units = omega (arith, units);
+      },
+    )
