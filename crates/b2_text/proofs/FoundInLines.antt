@@ -32,7 +32,7 @@ in_first test l ls k is = record {
 }
 
 -- the number of a line is above each that is below all lines
-above : (m n : ℕ) (a : List ℕ) (ls : Lines) → AllByRecursion (λ y. nat_cmp m y ≡ Less) (keys_of ls) → line_at n ls ≡ Some a → m < n
+pub above : (m n : ℕ) (a : List ℕ) (ls : Lines) → AllByRecursion (λ y. nat_cmp m y ≡ Less) (keys_of ls) → line_at n ls ≡ Some a → m < n
 above m n a [] all h = absurd (grind arith)
 above m n a (l ∷ ls) all h =
     cond_both (is_eq (nat_cmp n l.0)) (Some l.1) (line_at n ls) (λ (o : Option (List ℕ)). o ≡ Some a → m < n)
@@ -40,7 +40,7 @@ above m n a (l ∷ ls) all h =
     (λ _. above m n a ls all.1)
     h
 
-other : (n m : ℕ) → m < n → is_eq (nat_cmp n m) ≡ false
+pub other : (n m : ℕ) → m < n → is_eq (nat_cmp n m) ≡ false
 other n m h = grind (arith, nat_tests)
 
 -- so what is there in lines is there after a lower one too

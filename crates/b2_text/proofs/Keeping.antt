@@ -7,12 +7,13 @@ use Rattle.std.proofs.lemmas.Map.Views.{All-keys-insert_entry}
 use Rattle.std.specs.List.Sorted.{IsStrictlySortedBy}
 use Rattle.std.specs.Map.{keys_of}
 use Rattle.std.specs.Ordering.{match_ordering}
-use Rattle.b2_atom.specs.Lines.{KeepsUnits}
+use Rattle.b2_atom.specs.Lines.{KeepsUnits, is_line}
 use Rattle.b2_atom.specs.declared.spans.Span.{Span}
 use Rattle.b2_text.specs.Program.{Lines, cost, cost_at, first_number, is_within, number_after, size_of, with_line, without}
 use Rattle.b2_text.specs.Blocks.{AreSpansOf, IsKept, IsLaid, IsRoomy, lines_laid, units_in}
 use Rattle.b2_text.specs.declared.block.LinePlace.{LinePlace}
-use Rattle.b2_text.proofs.Blocks.{length_laid, units_few}
+use Rattle.b2_text.proofs.Blocks.{length_laid}
+use Rattle.b2_text.proofs.FewUnits.{AreLines, two_thirds}
 use Rattle.b2_text.proofs.NoLine.{some_bytes}
 use Rattle.b2_text.proofs.Sizes.{cost_at-le, size_of-with_line}
 
@@ -31,28 +32,24 @@ kept_none area block places units none empty no_units =
       fits = omega arith;
     })))
 
--- lines of at least a byte
-abbrev AreLong : Lines → Type 0
-AreLong [] = Unit {0}
-AreLong (l ∷ ls) = (1 ≤ length l.1) × AreLong ls
+-- what is kept are lines, also with another
+pub lines_kept : (ls : Lines) (xs : List Span) → AreSpansOf ls xs → AreLines ls
+lines_kept [] xs h = tt
+lines_kept (l ∷ ls) xs h = (h.0.line_is, lines_kept ls _ h.1)
 
-long_kept : (ls : Lines) (xs : List Span) → AreSpansOf ls xs → AreLong ls
-long_kept [] xs h = tt
-long_kept (l ∷ ls) xs h = (some_bytes l.1 h.0.line_is, long_kept ls _ h.1)
+lines_by : (o : Ordering) (n : ℕ) (a : List ℕ) (l : ℕ × List ℕ) (ls rest : Lines) → is_line a ≡ true → AreLines (l ∷ ls) → AreLines rest
+    → AreLines (match_ordering o ((n, a) ∷ l ∷ ls) ((l.0, a) ∷ ls) (l ∷ rest))
+lines_by Less n a l ls rest h all later = (h, all)
+lines_by Equal n a l ls rest h all later = (h, all.1)
+lines_by Greater n a l ls rest h all later = (all.0, later)
 
-long_by : (o : Ordering) (n : ℕ) (a : List ℕ) (l : ℕ × List ℕ) (ls rest : Lines) → 1 ≤ length a → AreLong (l ∷ ls) → AreLong rest
-    → AreLong (match_ordering o ((n, a) ∷ l ∷ ls) ((l.0, a) ∷ ls) (l ∷ rest))
-long_by Less n a l ls rest h all later = (h, all)
-long_by Equal n a l ls rest h all later = (h, all.1)
-long_by Greater n a l ls rest h all later = (all.0, later)
+pub lines_with : (n : ℕ) (a : List ℕ) (ls : Lines) → is_line a ≡ true → AreLines ls → AreLines (with_line n a ls)
+lines_with n a [] h all = (h, tt)
+lines_with n a (l ∷ ls) h all = lines_by (nat_cmp n l.0) n a l ls (with_line n a ls) h all (lines_with n a ls h all.1)
 
-long_with : (n : ℕ) (a : List ℕ) (ls : Lines) → 1 ≤ length a → AreLong ls → AreLong (with_line n a ls)
-long_with n a [] h all = (h, tt)
-long_with n a (l ∷ ls) h all = long_by (nat_cmp n l.0) n a l ls (with_line n a ls) h all (long_with n a ls h all.1)
-
-few_lines : (ls : Lines) → AreLong ls → 6 * length ls ≤ size_of ls
+few_lines : (ls : Lines) → AreLines ls → 6 * length ls ≤ size_of ls
 few_lines [] all = omega arith
-few_lines (l ∷ ls) all = let rest = few_lines ls all.1 in let here = all.0 in omega (arith, rest, here)
+few_lines (l ∷ ls) all = let rest = few_lines ls all.1 in let here = some_bytes l.1 all.0 in omega (arith, rest, here)
 
 -- there is room for a line that fits
 pub record HasRoom (area bytes places units : ℕ) (ls : Lines) : Type 0 where
@@ -66,8 +63,9 @@ pub room_for : (area bytes slots places_ : ℕ) (n : ℕ) (a : List ℕ) (spans 
     → HasRoom area bytes places_ slots (with_line n a (lines_laid block places))
 room_for area bytes slots places_ n a spans block places units kept roomy line fits =
     let ls = with_line n a (lines_laid block places) in
-    let some = units_few ls in
-    let few = few_lines ls (long_with n a (lines_laid block places) (some_bytes a line.line_is) (long_kept (lines_laid block places) units kept.spans)) in
+    let all = lines_with n a (lines_laid block places) line.line_is (lines_kept (lines_laid block places) units kept.spans) in
+    let some = two_thirds ls all in
+    let few = few_lines ls all in
     record {
       small = omega (arith, fits, roomy.few);
       bytes_fit = omega (arith, fits, roomy.for_bytes);

@@ -2,6 +2,8 @@ pub mod Sizes
 pub mod Blocks
 pub mod Finding
 pub mod AtNumbers
+pub mod Ranked
+pub mod Listing
 pub mod Replacing
 pub mod Spans
 pub mod Laid
@@ -14,3 +16,6 @@ pub mod Positions
 pub mod Statements
 pub mod FoundOnTrees
 pub mod FoundInLines
+pub mod Looking
+pub mod KeptLists
+pub mod FewUnits

@@ -108,7 +108,7 @@ unfolding items item symbol
 word_front l c is b s t h = token_front (b == c) (Coded c) s (refused Atoms S22_WORD (b ∷ s)) (items_read l is) t h
 
 -- nothing is read of no bytes
-none_chosen : (p : Position) (m : ℕ) → row_at forms Atoms p [] ≡ Ok m → ⊥
+pub none_chosen : (p : Position) (m : ℕ) → row_at forms Atoms p [] ≡ Ok m → ⊥
 unfolding starts
 none_chosen p m h = cc
 

@@ -1,5 +1,5 @@
 -- A program text as it lies in a block of bytes: its lines one after another, in order of their numbers, and an index of them.
-use Rattle.std.specs.Prelude.{◌≡◌, All, ℕ, ◌+◌, ◌-◌, ◌/◌, ◌%◌, ◌<◌, ◌≤◌, ◌==◌, ◌||◌, Bool, false, List, [], ◌∷◌, ◌++◌, length, map, min, take, drop, get_or, is_some, if◌then◌else◌}
+use Rattle.std.specs.Prelude.{◌≡◌, All, ℕ, ◌+◌, ◌-◌, ◌*◌, ◌/◌, ◌%◌, ◌<◌, ◌≤◌, ◌==◌, ◌||◌, Bool, false, List, [], ◌∷◌, ◌++◌, length, map, min, take, drop, get_or, is_some, if◌then◌else◌}
 use Rattle.std.specs.List.Sorted.{IsStrictlySortedBy}
 use Rattle.std.specs.Map.{keys_of}
 use Rattle.std.specs.Ordering.{nat_cmp}
@@ -15,9 +15,17 @@ abbrev pub is_opener : List ℕ → Bool
 is_opener [] = false
 is_opener (b ∷ bs) = b == DEFFN || b == DEFFN_PRIME
 
--- what kind of line: 1 where its first unit begins with DEFFN or DEFFN', and 2 where a DATA stands in it
+-- a line that begins with DEFFN or DEFFN'
+abbrev pub is_opening : List ℕ → Bool
+is_opening atoms = is_opener (unit_of 0 atoms)
+
+-- a line in which a DATA stands
+abbrev pub holds_data : List ℕ → Bool
+holds_data atoms = is_some (data_in 0 atoms)
+
+-- what kind of line: 1 where it begins with DEFFN or DEFFN', and 2 where a DATA stands in it
 abbrev pub kind : List ℕ → ℕ
-kind atoms = (if is_opener (unit_of 0 atoms) then 1 else 0) + (if is_some (data_in 0 atoms) then 2 else 0)
+kind atoms = (if is_opening atoms then 1 else 0) + (if holds_data atoms then 2 else 0)
 
 -- what stands before the atoms of a line: its number in two bytes, how many atom bytes and units it has, and its kind
 abbrev pub heading : ℕ → List ℕ → List ℕ
@@ -67,13 +75,13 @@ pub record IsKept (area : ℕ) (block : List ℕ) (places : List LinePlace) (uni
   pub spans : AreSpansOf (lines_laid block places) units
   pub fits : length block ≤ area
 
--- and memory for whatever lines the area can hold: a byte for each byte of it, a span for each, and a place for each six, since
--- a line takes at least six
+-- and memory for whatever lines the area can hold: a byte for each byte of it, a place for each six, since a line takes at least
+-- six, and two spans for each three, since no line has more units
 pub record IsRoomy (area bytes places units : ℕ) : Type 0 where
   pub few : area ≤ 65535
   pub for_bytes : area ≤ bytes
   pub for_places : area / 6 ≤ places
-  pub for_units : area ≤ units
+  pub for_units : area * 2 / 3 ≤ units
 
 -- a place some bytes and some units further on, and as much before
 abbrev pub raised : ℕ → ℕ → LinePlace → LinePlace

@@ -8,13 +8,15 @@
 //! tie the two. A text never takes more than its area, and its numbers are at most 9999.
 //!
 //! All memory is taken by `Text::new`: a block of the area's bytes, in which the lines lie one after another in order of their
-//! numbers, each after a heading of five bytes; an index of the lines; and where the units of each line are. `Blocks` says how
-//! block, index and units go together.
+//! numbers, each after a heading of five bytes; an index of the lines; where the units of each line are; and the numbers of the
+//! lines that begin with DEFFN or DEFFN' and of those in which a DATA stands. `Blocks` says how block, index and units go
+//! together, and `Members` what the lists of numbers are.
 #![tactic(auto)]
 
 mod block;
 mod laws;
 mod line;
+mod members;
 mod numbers;
 mod packed;
 mod spots;

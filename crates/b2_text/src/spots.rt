@@ -1,13 +1,16 @@
 // What is found in the lines of a text.
-ghost use Rattle.std.specs.Prelude.{◌≡◌, is_some};
+ghost use Rattle.std.specs.Prelude.{◌≡◌, ℕ, List, Some, is_some};
 ghost use Rattle.std.specs.List.Sorted.{IsStrictlySortedBy};
 ghost use Rattle.std.specs.Map.{keys_of};
 ghost use Rattle.std.specs.Ordering.{nat_cmp};
-ghost use Rattle.b2_text.specs.Blocks.{AreSpansOf, IsLaid, heading, is_opener, kind, lines_laid};
+ghost use Rattle.b2_text.specs.Blocks.{AreSpansOf, IsLaid, heading, holds_data, is_opener, is_opening, kind, lines_laid};
+ghost use Rattle.b2_text.specs.Members.{numbers_where};
+ghost use Rattle.b2_text.specs.Program.{line_at};
 ghost use Rattle.b2_text.specs.Spots.{unit_of, is_mark, is_function, is_data, data_in, data_of, first_opening, data_from};
 
-use crate::block::{LinePlace, find};
-use crate::line::line_placed;
+use crate::block::LinePlace;
+use crate::line::line_of;
+use crate::members::rank;
 use b2_atom::{DATA, DEFFN, DEFFN_PRIME, LentAtoms, Span};
 use b2_base::lexical::capped_value;
 
@@ -80,9 +83,16 @@ fn data_in(from: u8, line: &LentAtoms<'_>) -> Option<u8>
     None
 }
 
+/// Whether a line begins with DEFFN or DEFFN'.
+pub fn is_opening(line: &LentAtoms<'_>) -> bool
+    ensures { result ≡ is_opening line.now }
+{
+    is_opener(unit_of(line, 0))
+}
+
 /// Whether a DATA stands in a line.
-fn has_data(line: &LentAtoms<'_>) -> bool
-    ensures { result ≡ is_some (data_in 0 line.now) }
+pub fn holds_data(line: &LentAtoms<'_>) -> bool
+    ensures { result ≡ holds_data line.now }
 {
     match data_in(0, line) {
         Some(_) => true,
@@ -94,8 +104,8 @@ fn has_data(line: &LentAtoms<'_>) -> bool
 fn kind(line: &LentAtoms<'_>) -> u8
     ensures { result ≡ kind line.now }
 {
-    let opens = if is_opener(unit_of(line, 0)) { 1 } else { 0 };
-    let holds = if has_data(line) { 2 } else { 0 };
+    let opens = if is_opening(line) { 1 } else { 0 };
+    let holds = if holds_data(line) { 2 } else { 0 };
     opens + holds
 }
 
@@ -135,62 +145,107 @@ impl Spot {
     }
 }
 
-/// The DEFFN' of a number in the lowest line that begins with one.
+/// The first unit of the line of a number, where there is such a line.
+fn first_unit<'a>(
+    block: &'a Vec<u8>,
+    places: &Vec<LinePlace>,
+    units: &'a Vec<Span>,
+    number: u16,
+) -> &'a [u8]
+    requires laid { IsLaid block.now.items places.now.items }
+    requires ordered { IsStrictlySortedBy nat_cmp (keys_of (lines_laid block.now.items places.now.items)) }
+    requires kept { AreSpansOf (lines_laid block.now.items places.now.items) units.now.items }
+    ensures { (atoms : List ℕ) → line_at number (lines_laid block.now.items places.now.items) ≡ Some atoms → result.now ≡ unit_of 0 atoms }
+{
+    match line_of(block, places, units, number) {
+        Some(line) => unit_of(&line.lend(), 0),
+        None => &[],
+    }
+}
+
+/// The first DATA at or after a spot in the line of a number, where there is such a line.
+fn data_on(
+    block: &Vec<u8>,
+    places: &Vec<LinePlace>,
+    units: &Vec<Span>,
+    from: Spot,
+    number: u16,
+) -> Option<Spot>
+    requires laid { IsLaid block.now.items places.now.items }
+    requires ordered { IsStrictlySortedBy nat_cmp (keys_of (lines_laid block.now.items places.now.items)) }
+    requires kept { AreSpansOf (lines_laid block.now.items places.now.items) units.now.items }
+    ensures { (atoms : List ℕ) → line_at number (lines_laid block.now.items places.now.items) ≡ Some atoms → result ≡ data_of from (number, atoms) }
+{
+    match line_of(block, places, units, number) {
+        Some(line) => data_of(from, number, &line.lend()),
+        None => None,
+    }
+}
+
+/// The DEFFN' of a number in the lowest line that begins with one, of the lines that begin with DEFFN or DEFFN'.
 pub fn first_mark(
     block: &Vec<u8>,
     places: &Vec<LinePlace>,
     units: &Vec<Span>,
+    openers: &Vec<u16>,
     n: u8,
 ) -> Option<Spot>
     requires laid { IsLaid block.now.items places.now.items }
+    requires ordered { IsStrictlySortedBy nat_cmp (keys_of (lines_laid block.now.items places.now.items)) }
     requires kept { AreSpansOf (lines_laid block.now.items places.now.items) units.now.items }
+    requires listed { openers.now.items ≡ numbers_where is_opening (lines_laid block.now.items places.now.items) }
     ensures { result ≡ first_opening (is_mark n) (lines_laid block.now.items places.now.items) }
 {
-    for i in 0..places.len() {
-        let line = line_placed(block, places, units, i);
-        if is_mark(n, unit_of(&line.lend(), 0)) {
-            return Some(Spot::first_of(line.number));
+    for i in 0..openers.len() {
+        let number = openers[i];
+        if is_mark(n, first_unit(block, places, units, number)) {
+            return Some(Spot::first_of(number));
         }
     }
     None
 }
 
-/// The DEFFN of a name in the lowest line that begins with one.
+/// The DEFFN of a name in the lowest line that begins with one, of the lines that begin with DEFFN or DEFFN'.
 pub fn first_function(
     block: &Vec<u8>,
     places: &Vec<LinePlace>,
     units: &Vec<Span>,
+    openers: &Vec<u16>,
     name: u8,
 ) -> Option<Spot>
     requires laid { IsLaid block.now.items places.now.items }
+    requires ordered { IsStrictlySortedBy nat_cmp (keys_of (lines_laid block.now.items places.now.items)) }
     requires kept { AreSpansOf (lines_laid block.now.items places.now.items) units.now.items }
+    requires listed { openers.now.items ≡ numbers_where is_opening (lines_laid block.now.items places.now.items) }
     ensures { result ≡ first_opening (is_function name) (lines_laid block.now.items places.now.items) }
 {
-    for i in 0..places.len() {
-        let line = line_placed(block, places, units, i);
-        if is_function(name, unit_of(&line.lend(), 0)) {
-            return Some(Spot::first_of(line.number));
+    for i in 0..openers.len() {
+        let number = openers[i];
+        if is_function(name, first_unit(block, places, units, number)) {
+            return Some(Spot::first_of(number));
         }
     }
     None
 }
 
-/// The first DATA at or after a spot.
+/// The first DATA at or after a spot, of the lines in which a DATA stands.
 pub fn first_data(
     block: &Vec<u8>,
     places: &Vec<LinePlace>,
     units: &Vec<Span>,
+    datas: &Vec<u16>,
     from: Spot,
 ) -> Option<Spot>
     requires laid { IsLaid block.now.items places.now.items }
     requires ordered { IsStrictlySortedBy nat_cmp (keys_of (lines_laid block.now.items places.now.items)) }
     requires kept { AreSpansOf (lines_laid block.now.items places.now.items) units.now.items }
+    requires listed { datas.now.items ≡ numbers_where holds_data (lines_laid block.now.items places.now.items) }
     ensures { result ≡ data_from from (lines_laid block.now.items places.now.items) }
 {
-    let first = find(places, from.line);
-    for i in first..places.len() {
-        let line = line_placed(block, places, units, i);
-        if let Some(spot) = data_of(from, line.number, &line.lend()) {
+    let first = rank(datas, u32::from(from.line));
+    for i in first..datas.len() {
+        let number = datas[i];
+        if let Some(spot) = data_on(block, places, units, from, number) {
             return Some(spot);
         }
     }

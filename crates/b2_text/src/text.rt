@@ -11,10 +11,11 @@ ghost use Rattle.b2_text.specs.Spots.{is_mark, is_function, is_data, unit_at, fi
 
 use crate::block::LinePlace;
 use crate::line::{Line, line_of};
+use crate::members::{set_member, take_members};
 use crate::numbers::{
     LINE_COST, MOST_NUMBER, cost_of, first_number, number_above, put_number, take_range,
 };
-use crate::spots::{Spot, first_data, first_function, first_mark, heading};
+use crate::spots::{Spot, first_data, first_function, first_mark, heading, holds_data, is_opening};
 use crate::within::{LinesWithin, lines_within};
 use b2_atom::{Atoms, Span};
 use b2_base::codes::A01_TEXT_AREA;
@@ -28,26 +29,33 @@ const MOST_AREA: usize = 65_535;
 /// What the shortest line takes: a byte of atoms and what stands before it.
 const LEAST_COST: usize = LINE_COST + 1;
 
+/// What the shortest line takes that begins with DEFFN or DEFFN' or in which a DATA stands: two bytes of atoms.
+const LEAST_LISTED: usize = LINE_COST + 2;
+
 /// A program text. Contracts see it as its area and its lines, ascending. The lines lie in one block of the area's bytes,
-/// beside an index of them and the places of their units; all memory is taken when the text is made.
+/// beside an index of them, the places of their units, and the numbers of the lines that begin with DEFFN or DEFFN' and of
+/// those in which a DATA stands; all memory is taken when the text is made.
 #[derive(Drop)]
 pub struct Text {
     area: usize,
     block: Vec<u8>,
     places: Vec<LinePlace>,
     units: Vec<Span>,
+    openers: Vec<u16>,
+    datas: Vec<u16>,
 }
 
 impl Model for Text {
     ghost use Rattle.std.specs.Prelude.{vec_capacity};
     ghost use Rattle.b2_text.specs.Blocks.{IsKept, IsRoomy, lines_laid};
+    ghost use Rattle.b2_text.specs.Members.{IsListed};
     ghost use Rattle.b2_text.specs.Program.{TextState};
 
     ghost Value = { TextState };
 
     ghost view = { λ t. record { area = t.area; lines = lines_laid t.block.items t.places.items } };
 
-    ghost invariant = { λ t. IsKept t.area t.block.items t.places.items t.units.items × IsRoomy t.area (vec_capacity t.block) (vec_capacity t.places) (vec_capacity t.units) };
+    ghost invariant = { λ t. IsKept t.area t.block.items t.places.items t.units.items × IsRoomy t.area (vec_capacity t.block) (vec_capacity t.places) (vec_capacity t.units) × IsListed t.area (lines_laid t.block.items t.places.items) t.openers.items t.datas.items (vec_capacity t.openers) (vec_capacity t.datas) };
 }
 
 impl Text {
@@ -61,12 +69,17 @@ impl Text {
         }
         let block = Vec::with_capacity(alloc, area)?;
         let places = Vec::with_capacity(alloc, area / LEAST_COST)?;
-        let units = Vec::with_capacity(alloc, area)?;
+        // No line has more units than two thirds of the bytes that it takes.
+        let units = Vec::with_capacity(alloc, area * 2 / 3)?;
+        let openers = Vec::with_capacity(alloc, area / LEAST_LISTED)?;
+        let datas = Vec::with_capacity(alloc, area / LEAST_LISTED)?;
         Ok(Text {
             area,
             block,
             places,
             units,
+            openers,
+            datas,
         })
     }
 
@@ -124,7 +137,7 @@ impl Text {
         ensures lowest { result ≡ first_opening (is_mark n) self.now.lines }
         ensures there { IfSome result (λ spot. is_mark n (unit_at spot self.now.lines) ≡ true) }
     {
-        first_mark(&self.block, &self.places, &self.units, n)
+        first_mark(&self.block, &self.places, &self.units, &self.openers, n)
     }
 
     /// The DEFFN of a name, a letter or a digit, in the lowest line that has one, None where no line has.
@@ -133,7 +146,7 @@ impl Text {
         ensures lowest { result ≡ first_opening (is_function name) self.now.lines }
         ensures there { IfSome result (λ spot. is_function name (unit_at spot self.now.lines) ≡ true) }
     {
-        first_function(&self.block, &self.places, &self.units, name)
+        first_function(&self.block, &self.places, &self.units, &self.openers, name)
     }
 
     /// The first DATA at or after a spot, None where there is none.
@@ -141,7 +154,7 @@ impl Text {
         ensures first { result ≡ data_from from self.now.lines }
         ensures there { IfSome result (λ spot. is_data (unit_at spot self.now.lines) ≡ true) }
     {
-        first_data(&self.block, &self.places, &self.units, from)
+        first_data(&self.block, &self.places, &self.units, &self.datas, from)
     }
 
     /// Puts a line in its place, where one of its number gives way. A01 comes exactly where the size would pass the area. After
@@ -168,6 +181,8 @@ impl Text {
             line.bytes(),
             a.spans(),
         );
+        set_member(&mut self.openers, n, is_opening(&line));
+        set_member(&mut self.datas, n, holds_data(&line));
         Ok(())
     }
 
@@ -179,6 +194,8 @@ impl Text {
             return;
         }
         take_range(&mut self.block, &mut self.places, &mut self.units, from, to);
+        take_members(&mut self.openers, from, to);
+        take_members(&mut self.datas, from, to);
     }
 
     /// Deletes all lines.
@@ -188,5 +205,7 @@ impl Text {
         self.block.clear();
         self.places.clear();
         self.units.clear();
+        self.openers.clear();
+        self.datas.clear();
     }
 }

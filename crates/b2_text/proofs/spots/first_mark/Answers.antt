@@ -1,19 +1,36 @@
-use Rattle.std.proofs.Common.{◌<◌, ◌∙◌, List, ℕ, ap, sym, length, arith}
-use Rattle.b2_text.specs.Spots.{is_mark, unit_of}
-use Rattle.b2_text.proofs.Along.{opening_here, opening_passed, spot_of}
+use Rattle.std.proofs.Common.{◌<◌, ◌≤◌, ◌∙◌, ap, sym, length, get_or, arith}
+use Rattle.b2_text.specs.Blocks.{is_opening, lines_laid}
+use Rattle.b2_text.specs.Members.{lines_where}
+use Rattle.b2_text.specs.Spots.{first_opening, is_mark}
+use Rattle.b2_text.proofs.Looking.{listed_all, listed_at, mark_opens, no_line, opening_here, opening_listed, opening_none, opening_passed, spot_of}
 use Rattle.b2_text.proofs.spots.first_mark.Goals as goal
+
+pub loop-i-init : goal.loop-i-init
+loop-i-init c = opening_listed (is_mark c.args.n) is_opening (mark_opens c.args.n) (lines_laid c.args.block.now.items c.args.places.now.items)
 
 pub returns-then-is_mark : goal.returns-then-is_mark
 returns-then-is_mark c =
-    let inside : c.loop-i.i < length c.args.places.now.items = omega (arith, c.loop-i-test.true, c.len-i-end.ensures) in
-    let line = c.lend.ensures ∙ c.line_placed-line.ensures.atoms in
-    let passes = ap (λ (a : List ℕ). is_mark c.args.n (unit_of 0 a)) (sym line) ∙ ap (is_mark c.args.n) (sym c.unit_of.ensures) ∙ sym c.is_mark.ensures ∙ c.if-is_mark.true in
-    opening_here (is_mark c.args.n) c.args.block.now.items c.args.places.now.items c.loop-i.i c.first_of.result inside passes
-    (c.first_of.ensures ∙ ap spot_of c.line_placed-line.ensures.number) c.loop-i.invariant
+    let ls = lines_laid c.args.block.now.items c.args.places.now.items in
+    let fs = lines_where is_opening ls in
+    let i = c.loop-i.i in
+    let inside : i < length c.args.openers.now.items = omega (arith, c.loop-i-test.true, c.len-i-end.ensures) in
+    let at = listed_at is_opening ls c.args.openers.now.items i c.index-number.result.now c.requires.ordered c.requires.listed inside c.index-number.ensures in
+    let passes = ap (is_mark c.args.n) (sym (c.first_unit.ensures (get_or fs i no_line).1 at.line)) ∙ sym c.is_mark.ensures ∙ c.if-is_mark.true in
+    opening_here (is_mark c.args.n) fs i c.first_of.result (first_opening (is_mark c.args.n) ls) at.within passes (c.first_of.ensures ∙ ap spot_of at.number) c.loop-i.invariant
 
 pub loop-i-preserved : goal.loop-i-preserved
 loop-i-preserved c =
-    let inside : c.loop-i.i < length c.args.places.now.items = omega (arith, c.loop-i-test.true, c.len-i-end.ensures) in
-    let line = c.lend.ensures ∙ c.line_placed-line.ensures.atoms in
-    let passes = ap (λ (a : List ℕ). is_mark c.args.n (unit_of 0 a)) (sym line) ∙ ap (is_mark c.args.n) (sym c.unit_of.ensures) ∙ sym c.is_mark.ensures ∙ c.if-is_mark.false in
-    opening_passed (is_mark c.args.n) c.args.block.now.items c.args.places.now.items c.loop-i.i inside passes c.loop-i.invariant
+    let ls = lines_laid c.args.block.now.items c.args.places.now.items in
+    let fs = lines_where is_opening ls in
+    let i = c.loop-i.i in
+    let inside : i < length c.args.openers.now.items = omega (arith, c.loop-i-test.true, c.len-i-end.ensures) in
+    let at = listed_at is_opening ls c.args.openers.now.items i c.index-number.result.now c.requires.ordered c.requires.listed inside c.index-number.ensures in
+    let passes = ap (is_mark c.args.n) (sym (c.first_unit.ensures (get_or fs i no_line).1 at.line)) ∙ sym c.is_mark.ensures ∙ c.if-is_mark.false in
+    opening_passed (is_mark c.args.n) fs i (first_opening (is_mark c.args.n) ls) at.within passes c.loop-i.invariant
+
+pub returns : goal.returns
+returns c =
+    let ls = lines_laid c.args.block.now.items c.args.places.now.items in
+    let end : length c.args.openers.now.items ≤ c.loop-i.i = omega (arith, c.loop-i-test.false, c.len-i-end.ensures) in
+    opening_none (is_mark c.args.n) (lines_where is_opening ls) c.loop-i.i (first_opening (is_mark c.args.n) ls)
+    (listed_all is_opening ls c.args.openers.now.items c.loop-i.i c.requires.listed end) c.loop-i.invariant

@@ -1,12 +1,15 @@
 use Rattle.std.proofs.Common.{arith}
 use Rattle.b2_text.proofs.Keeping.{kept_none}
+use Rattle.b2_text.proofs.KeptLists.{listed_none}
 use Rattle.b2_text.proofs.text.Text.new.Goals as goal
 
 pub invariant_of-result : goal.invariant_of-result
 invariant_of-result c =
     let bytes = c.in_ok-block.ensures.capacity in
     let places = c.in_ok-places.ensures.capacity in
-    let units = c.in_ok-units.ensures.capacity in (
+    let units = c.in_ok-units.ensures.capacity in
+    let openers = c.in_ok-openers.ensures.capacity in
+    let datas = c.in_ok-datas.ensures.capacity in (
       kept_none c.args.area c.in_ok-block.block.items c.in_ok-places.places.items c.in_ok-units.units.items c.in_ok-block.ensures.items c.in_ok-places.ensures.items c.in_ok-units.ensures.items,
       record {
         few = omega (arith, c.if-area-gt-MOST_AREA.false);
@@ -14,4 +17,6 @@ invariant_of-result c =
         for_places = omega (arith, places);
         for_units = omega (arith, units);
       },
+      listed_none c.args.area c.in_ok-block.block.items c.in_ok-places.places.items c.in_ok-openers.openers.items c.in_ok-datas.datas.items _ _
+          c.in_ok-places.ensures.items c.in_ok-openers.ensures.items c.in_ok-datas.ensures.items (omega (arith, openers)) (omega (arith, datas)),
     )
