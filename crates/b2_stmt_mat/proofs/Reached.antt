@@ -1,26 +1,22 @@
 -- A statement on arrays changes the `@` variables only where it reaches an array or a receiver among them.
-use Rattle.std.proofs.Common.{◌≡◌, ◌∙◌, ◌==◌, ℕ, Bool, true, false, true≢false, if◌then◌else◌, List, [], ◌∷◌, length, Option, Some, None, Result, Ok, Err, refl, sym}
+use Rattle.std.proofs.Common.{◌≡◌, ◌∙◌, ◌==◌, ℕ, Bool, true, false, true≢false, if◌then◌else◌, length, Option, Some, None, Result, Ok, Err, refl, sym}
 use Rattle.b2_atom.specs.Tree.{Trees}
 use Rattle.b2_base.specs.declared.codes.TheConstants.{X76_LOCATOR_OR_FIELD}
-use Rattle.b2_dec.specs.declared.number.Mode.{Mode}
 use Rattle.b2_matalpha.specs.Moves.{moved_places}
-use Rattle.b2_vars.specs.Assigned.{Assigned}
 use Rattle.b2_vars.specs.Calls.{redim_code, with_change}
-use Rattle.b2_vars.specs.Globals.{Globals, MayBecome}
+use Rattle.b2_vars.specs.Globals.{MayBecome}
 use Rattle.b2_vars.specs.Tables.{VarsState}
 use Rattle.b2_vars.specs.Variables.{reshaped}
 use Rattle.b2_vars.specs.declared.name.Var.{Var}
 use Rattle.b2_expr.specs.Answers.{TextAnswer}
 use Rattle.b2_expr.specs.Value.{context_of}
-use Rattle.b2_expr.specs.Workspace.{ChangesWhereReached, Reaches, WorkLeft, WorkState, counts_as_reached, surroundings_of, work_in}
+use Rattle.b2_expr.specs.Workspace.{ChangesWhereReached, Reaches, counts_as_reached, surroundings_of, work_in}
 use Rattle.b2_expr.proofs.Reached.{among_reaches, stay}
 use Rattle.b2_receiver.specs.Assigning.{unless_refused}
 use Rattle.b2_receiver.proofs.Reached.{given_bytes_reaches}
-use Rattle.b2_access.specs.Lending.{SeenLent}
 use Rattle.b2_access.specs.Partition.{setting_of}
 use Rattle.b2_access.specs.Reaching.{FinishesReach, PlansReach}
 use Rattle.b2_access.specs.Working.{Working, globals_after, stops, told_of_globals}
-use Rattle.b2_access.specs.declared.private.Private.{Private}
 use Rattle.b2_access.proofs.Courses.{each_course}
 use Rattle.b2_access.proofs.Tables.{each_row}
 use Rattle.b2_access.proofs.Working as form

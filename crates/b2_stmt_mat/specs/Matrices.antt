@@ -8,7 +8,7 @@ use Rattle.b2_atom.specs.Tree.{Trees}
 use Rattle.b2_vars.specs.Assigned.{Assigned}
 use Rattle.b2_vars.specs.Calls.{with_change}
 use Rattle.b2_vars.specs.Shapes.{cells, has_dimensions}
-use Rattle.b2_vars.specs.Tables.{Table, VarsState, shape_at, variable_at}
+use Rattle.b2_vars.specs.Tables.{Table, VarsState, shape_at}
 use Rattle.b2_vars.specs.Variables.{reshaped}
 use Rattle.b2_vars.specs.declared.name.Var.{Var}
 use Rattle.b2_vars.specs.declared.shape.Shape.{Shape}

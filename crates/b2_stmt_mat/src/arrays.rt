@@ -135,33 +135,32 @@ pub fn numbers_of(alloc: Global, vars: &Vars, v: Var) -> Result<Vec<Dec>, NoMemo
 }
 
 /// Puts a number at a place along the rows of an array.
-fn put_number(vars: &mut Vars, v: Var, shape: Shape, cell: usize, x: Dec) -> Result<(), NoMemory>
+fn put_number(vars: &mut Vars, v: Var, shape: Shape, cell: usize, x: Dec)
     requires there { IsArrayOf false v vars.old.table }
     requires shape { shape ≡ shape_at v vars.old.table }
     requires rows { 0 < shape.rows }
     requires within { cell < cells shape }
-    ensures { OnOk result (vars.new ≡ with_change v (with_number cell x) vars.old) }
+    ensures { vars.new ≡ with_change v (with_number cell x) vars.old }
 {
     let (row, column) = subscripts(shape, cell);
     let _count = vars.count();
     match vars.set_number(v, row, column, x) {
-        Ok(()) => Ok(()),
+        Ok(()) => {}
         Err(_) => unreachable!(),
     }
 }
 
 /// Puts numbers, along rows, in the place of all that an array has.
 #[tactic(auto, using(crate::proofs::Written::next_put, crate::proofs::Written::none_put, crate::proofs::Written::all_put, crate::proofs::Written::there_after, crate::proofs::Written::shape_after))]
-pub fn put_numbers(vars: &mut Vars, v: Var, numbers: &[Dec]) -> Result<(), NoMemory>
+pub fn put_numbers(vars: &mut Vars, v: Var, numbers: &[Dec])
     requires there { IsArrayOf false v vars.old.table }
     requires count { length numbers.now ≡ cells (shape_at v vars.old.table) }
-    ensures { OnOk result (vars.new ≡ with_change v (with_numbers numbers.now) vars.old) }
+    ensures { vars.new ≡ with_change v (with_numbers numbers.now) vars.old }
 {
     let shape = shape_of(vars, v);
     for (cell, x) in numbers.iter().enumerate() {
-        put_number(vars, v, shape, cell, *x)?;
+        put_number(vars, v, shape, cell, *x);
     }
-    Ok(())
 }
 
 /// The bytes of all values of an array, along rows.

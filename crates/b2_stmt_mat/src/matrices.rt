@@ -365,10 +365,10 @@ fn matrix_made(
 
 /// Gives an array the dimensions and the numbers that were made.
 #[tactic(auto, using(crate::proofs::Written::changed_there, crate::proofs::Written::changed_cells, crate::proofs::Written::both_put))]
-fn put_made(vars: &mut Vars, to: Var, made: &MadeMatrix) -> Result<(), NoMemory>
+fn put_made(vars: &mut Vars, to: Var, made: &MadeMatrix)
     requires to { IsArrayOf false to vars.old.table }
     requires room { spec.HasRoom to (made_seen made.now) vars.old.table }
-    ensures { OnOk result (vars.new ≡ spec.with_made to (made_seen made.now) vars.old) }
+    ensures { vars.new ≡ spec.with_made to (made_seen made.now) vars.old }
 {
     match vars.redim(to, shape_with(made.dimensions)) {
         Ok(()) => put_numbers(vars, to, &made.numbers),
@@ -378,26 +378,22 @@ fn put_made(vars: &mut Vars, to: Var, made: &MadeMatrix) -> Result<(), NoMemory>
 
 /// Gives an array what was made, wherever it is. The code with which that ended, or none.
 #[tactic(auto, using(crate::proofs::Put::own_there, crate::proofs::Put::lent_there, crate::proofs::Put::own_room, crate::proofs::Put::lent_room))]
-fn put_matrix(
-    work: &mut Workspace<'_>,
-    to: &Array,
-    made: &MadeMatrix,
-) -> Result<Option<Code>, NoMemory>
+fn put_matrix(work: &mut Workspace<'_>, to: &Array, made: &MadeMatrix) -> Option<Code>
     requires to { IsArrayIn false to.now (families (seen_by (workspace work.old))) }
     requires room { spec.HasRoom to.now.var (made_seen made.now) (vars_in to.now.global (families (seen_by (workspace work.old)))).table }
-    ensures worked { IfOk result (λ code. record { work = workspace work.new; code = code } ≡ among to.now.global (λ old. record { vars = spec.with_made to.now.var (made_seen made.now) old; code = None }) (workspace work.old)) }
+    ensures worked { record { work = workspace work.new; code = result } ≡ among to.now.global (λ old. record { vars = spec.with_made to.now.var (made_seen made.now) old; code = None }) (workspace work.old) }
     ensures same_references { SameReferences work.old work.new }
 {
     if !to.global {
-        put_made(work.own, to.var, made)?;
-        return Ok(None);
+        put_made(work.own, to.var, made);
+        return None;
     }
     if !work.found {
-        return Ok(Some(Code::known(X77_NO_PARTITION)));
+        return Some(Code::known(X77_NO_PARTITION));
     }
-    put_made(work.globals, to.var, made)?;
+    put_made(work.globals, to.var, made);
     work.reached = reached_after(work.reached, &None);
-    Ok(None)
+    None
 }
 
 /// Assigns what is asked for. The code with which that ended, or none.
@@ -413,7 +409,7 @@ fn assign_asked(
     ensures same_references { SameReferences work.old work.new }
 {
     match matrix_made(alloc, &surroundings_of(work), asked, work.setting.mode) {
-        Ok(made) => put_matrix(work, &asked.to, &made),
+        Ok(made) => Ok(put_matrix(work, &asked.to, &made)),
         Err(fault) => refuse_fault(work, asked.to.global, fault),
     }
 }

@@ -19,7 +19,7 @@ loop-cell-preserved c =
     let cell = c.loop-cell.cell in
     let x = c.index-numbers-cell.result in
     let before = c.loop-cell.vars in
-    let is = c.in_ok-put_number.ensures in
+    let is = c.put_number.ensures in
     let at : x ≡ get_or c.args.numbers.now cell zero_number = c.index-numbers-cell.is ∙ any_default c.args.numbers.now cell x zero_number c.loop-cell-test.true in
     record {
       put = next_put c.args.v cell c.args.numbers.now x c.args.vars.now before c.put_number.new.vars c.loop-cell.invariant.put is at c.loop-cell-test.true (c.requires.count ∙ sym (number_count c.args.v (variable_at c.args.v c.args.vars.now.table) c.requires.there.kind c.shape_of-shape.ensures.sound));

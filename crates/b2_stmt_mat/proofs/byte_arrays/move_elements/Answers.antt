@@ -1,4 +1,4 @@
-use Rattle.std.proofs.Common.{ap, sym, ◌≡◌, ◌∙◌, arith, drop, length}
+use Rattle.std.proofs.Common.{ap, ◌≡◌, ◌∙◌, arith, drop, length}
 use Rattle.std.proofs.lemmas.List.{take_at}
 use Rattle.b2_expr.specs.Scope.{Surroundings}
 use Rattle.b2_expr.specs.Workspace.{workspace, surroundings_of as seen_by}

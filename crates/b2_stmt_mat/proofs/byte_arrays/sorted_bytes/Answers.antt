@@ -1,4 +1,4 @@
-use Rattle.std.proofs.Common.{ap, sym, ◌≡◌, ◌∙◌, ◌==◌, true, arith}
+use Rattle.std.proofs.Common.{ap, ◌≡◌, ◌∙◌, ◌==◌, true, arith}
 use Rattle.std.proofs.lemmas.Bool.Decides.{nat_tests}
 use Rattle.b2_vars.specs.Tables.{VarsState, shape_at}
 use Rattle.b2_expr.specs.Scope.{surroundings}
