@@ -1,6 +1,7 @@
 -- Marks that are made for parts of a list, one part after another.
 use Rattle.std.specs.Prelude.{◌≡◌, ℕ, List, [], ◌∷◌, ◌++◌, Option, Some, None, refl}
 use Rattle.std.proofs.Common.{sym, ap, ◌∙◌}
+use Rattle.b2_access.specs.Borrowers.{homes_marked}
 use Rattle.b2_access.specs.declared.objects.Object.{Object}
 use Rattle.b2_access.specs.declared.objects.Object.TheVariants as object
 use Rattle.b2_access.specs.Loans.{globals_objects}
@@ -36,6 +37,10 @@ borrows_in_parts who left homes m one two first last =
 pub borrows_in_parts_written : (who : ℕ) (left : Option ℕ) (homes : List ℕ) (m one two : Marks) → one ≡ write_all who (borrows (if_left left)) m → two ≡ write_all who (borrows homes) one → two ≡ write_all who (borrows (if_left left ++ homes)) m
 borrows_in_parts_written who left homes m one two first last =
     last ∙ ap (write_all who (borrows homes)) first ∙ sym (written_in_turn who (borrows (if_left left)) (borrows homes) m) ∙ ap (λ (os : List Object). write_all who os m) (sym (left_first left homes))
+
+-- a mask without bits marks nobody
+pub none_marked : (homes : ℕ) → homes ≡ 0 → homes_marked homes ≡ []
+none_marked homes is = ap homes_marked is
 
 -- one part, and then the rest
 then_touched : (who : ℕ) (os ps : List Object) (m n : Marks) → n ≡ touch_all who os m → touch_all who ps n ≡ touch_all who (os ++ ps) m

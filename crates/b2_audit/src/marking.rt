@@ -51,8 +51,8 @@ fn touch_lent(seen: &mut Seen, who: Part, lender: Option<Part>)
 pub(crate) fn mark_lent<S: Shared>(seen: &mut Seen, store: &S, who: Part, home: Part, at: &At)
     ensures { seen.new ≡ touch_all who (loan_touched who home at.now (S.store (S.meaning store.now))) seen.old }
 {
-    seen.touch(who, Object::Text(who));
-    seen.touch(who, Object::Text(home));
+    seen.touch_text(who, who);
+    seen.touch_text(who, home);
     touch_asked(seen, who, at);
     touch_lent(seen, who, lender(store, home, at));
 }
@@ -165,9 +165,13 @@ fn touch_names(seen: &mut Seen, who: Part, name: Option<Name8>, other: Option<Na
 }
 
 /// Marks that it is touched who stands inside the texts that a mask marks.
+#[tactic(auto, using(crate::proofs::InParts::none_marked))]
 fn touch_homes(seen: &mut Seen, who: Part, homes: u16)
     ensures { seen.new ≡ touch_all who (borrows (homes_marked homes)) seen.old }
 {
+    if homes == 0 {
+        return;
+    }
     for home in &all_parts() {
         if is_marked(homes, *home) {
             seen.touch(who, Object::Borrow(*home));
@@ -195,7 +199,7 @@ fn touch_entered<S: Shared>(seen: &mut Seen, store: &S, who: Part, entered: Opti
     };
     seen.touch(who, Object::Name(name));
     if let Some(holder) = store.holder(name) {
-        seen.touch(who, Object::Text(holder));
+        seen.touch_text(who, holder);
         seen.touch(who, Object::Borrow(holder));
     }
 }
@@ -239,10 +243,14 @@ fn write_where(seen: &mut Seen, who: Part, object: Object, written: bool) -> Res
 }
 
 /// Marks that it is written who stands inside the texts that a mask marks.
+#[tactic(auto, using(crate::proofs::InParts::none_marked))]
 fn write_homes(seen: &mut Seen, who: Part, homes: u16) -> Result<(), NoMemory>
     ensures written { OnOk result (seen.new ≡ write_all who (borrows (homes_marked homes)) seen.old) }
     ensures memory { IfErr result (λ _. ⊥) }
 {
+    if homes == 0 {
+        return Ok(());
+    }
     for home in &all_parts() {
         write_where(seen, who, Object::Borrow(*home), is_marked(homes, *home))?;
     }

@@ -140,6 +140,15 @@ impl Seen {
         }
     }
 
+    /// Marks that a partition touches a text, which has an index: its own, or that of another.
+    pub(crate) fn touch_text(&mut self, who: Part, owner: Part)
+        ensures { self.new ≡ touch who (Object.Text owner) self.old }
+    {
+        if self.indexed[usize::from(owner.number() - 1)].has_other(who) {
+            self.clean = self.clean.without(who);
+        }
+    }
+
     /// Marks that a partition writes an object. Memory fails only for a name or a device.
     pub(crate) fn write(&mut self, who: Part, object: Object) -> Result<(), NoMemory>
         ensures written { OnOk result (self.new ≡ write who object self.old) }

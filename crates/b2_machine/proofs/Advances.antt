@@ -5,6 +5,7 @@ use Rattle.b2_access.specs.Lending.{SeenLent}
 use Rattle.b2_access.specs.Loans.{LendsTextsAgain, Loan, LoansGlobals}
 use Rattle.b2_access.specs.Sharing.{ServingOf}
 use Rattle.b2_access.specs.Store.{StoreState}
+use Rattle.b2_access.specs.declared.accesses.Access.{Access}
 use Rattle.b2_access.specs.declared.lending.At.TheVariants as at
 use Rattle.b2_access.specs.declared.private.Private.{Private}
 use Rattle.b2_language.specs.Languages.{AreLawful, Ways}
@@ -73,8 +74,8 @@ module _ (ways : Ways) (lawful : AreLawful ways) {M : Type 0} (store : M → Sto
 
   -- ---- statements of a partition at a place in the program of a home, one after another over one loan
 
-  module _ (again : LendsTextsAgain lending) (home left : ℕ) (me you : Private) (m : M) (r : Ran) (there : is_some (place_in home me) ≡ true) (some : 1 ≤ left) (present : ArePresent (store m) me)
-      (ran : RunsOn ways home (seen_by me.part home at.None (store m)) left me you r) where
+  module _ (again : LendsTextsAgain lending) (home left : ℕ) (me you : Private) (m : M) (a : Option Access) (r : Ran) (there : is_some (place_in home me) ≡ true) (some : 1 ≤ left) (present : ArePresent (store m) me)
+      (ran : RunsOn ways home (seen_by me.part home at.None (store m)) left me you a r) where
     abbrev over : M
     over = texts_lent store serving lending me.part home m
 
@@ -87,8 +88,8 @@ module _ (ways : Ways) (lawful : AreLawful ways) {M : Type 0} (store : M → Sto
     abbrev seen : SeenLent
     seen = seen_by me.part home at.None (store over)
 
-    runs : RunsOn ways home seen left me you r
-    runs = subst (λ (s : StoreState). RunsOn ways home (seen_by me.part home at.None s) left me you r) (sym same) ran
+    runs : RunsOn ways home seen left me you a r
+    runs = subst (λ (s : StoreState). RunsOn ways home (seen_by me.part home at.None s) left me you a r) (sym same) ran
 
     abbrev pub mid : Private
     mid = led ways home seen r.steps me
@@ -101,23 +102,23 @@ module _ (ways : Ways) (lawful : AreLawful ways) {M : Type 0} (store : M → Sto
     room (Some o) h = omega arith
 
     few : r.steps ≤ left
-    few = room r.last runs.over.few
+    few = room r.last runs.few
 
     told : (t : ℕ) → turn_from ways store serving lending (left - r.steps) mid over (t + r.steps) ≡ turn_from ways store serving lending left me m t
     told t =
-        left_led ways store serving lending loans again lawful answers names home me over settled left r.steps t few runs.over.lead
+        left_led ways store serving lending loans again lawful answers names home me over settled left r.steps t few runs.lead
         ∙ turn_lent ways store serving lending loans again home me (place_or_none (place_in home me)) m left t stands_first some
 
     present_mid : ArePresent (store over) mid
-    present_mid = present_led ways store serving lending loans again lawful answers names home me over settled r.steps runs.over.lead (subst (λ (s : StoreState). ArePresent s me) (sym same) present)
+    present_mid = present_led ways store serving lending loans again lawful answers names home me over settled r.steps runs.lead (subst (λ (s : StoreState). ArePresent s me) (sym same) present)
 
     part_mid : mid.part ≡ me.part
-    part_mid = part_led ways store serving lending loans again lawful answers names home me over settled r.steps runs.over.lead
+    part_mid = part_led ways store serving lending loans again lawful answers names home me over settled r.steps runs.lead
 
     -- where no statement was opened after them, some have led on
     module _ (none : r.last ≡ None) where
       you_are : you ≡ mid
-      you_are = subst (λ (o : Option Opened). EndsRun ways home seen o mid you) none runs.over.last
+      you_are = subst (λ (o : Option Opened). EndsRun ways home seen o mid you a) none runs.last
 
       not_zero : (n : ℕ) → r.steps ≡ n → 1 ≤ n
       not_zero zero is = absurd (true≢false (sym there ∙ ap is_some (first is)))
@@ -136,8 +137,8 @@ module _ (ways : Ways) (lawful : AreLawful ways) {M : Type 0} (store : M → Sto
 
     -- and where one was, it goes on from there
     module _ (o : Opened) (is_o : r.last ≡ Some o) where
-      last : EndsRun ways home seen (Some o) mid you
-      last = subst (λ (x : Option Opened). EndsRun ways home seen x mid you) is_o runs.over.last
+      last : EndsRun ways home seen (Some o) mid you a
+      last = subst (λ (x : Option Opened). EndsRun ways home seen x mid you a) is_o runs.last
 
       stands_mid : Stands home mid o.place
       stands_mid = stands_there home mid o.place last.0
@@ -148,8 +149,8 @@ module _ (ways : Ways) (lawful : AreLawful ways) {M : Type 0} (store : M → Sto
       pub home_mid : o.place.home ≡ home
       home_mid = stands_mid.within
 
-      pub opens_mid : Opens ways o.place mid you (seen_by mid.part o.place.home at.None (store over)) o.opening
-      opens_mid = subst (λ (s : SeenLent). Opens ways o.place mid you s o.opening) seen_mid last.1
+      pub opens_mid : Opens ways o.place mid you (seen_by mid.part o.place.home at.None (store over)) a o.opening
+      opens_mid = subst (λ (s : SeenLent). Opens ways o.place mid you s a o.opening) seen_mid last.1
 
       pub lent_mid : over ≡ texts_lent store serving lending mid.part o.place.home over
       lent_mid =
@@ -161,12 +162,12 @@ module _ (ways : Ways) (lawful : AreLawful ways) {M : Type 0} (store : M → Sto
       you_part is = is ∙ sym part_mid
 
       some_room : r.steps < left
-      some_room = subst (λ (x : Option Opened). leaves_room x r.steps left) is_o runs.over.few
+      some_room = subst (λ (x : Option Opened). leaves_room x r.steps left) is_o runs.few
 
       pub opened_advances : (them : Private) (after : M) (e : Stepped) → ◌≡◌ {A = StepEnd M} (record { me = them; after = after; end = e }) (executes ways store serving lending o.place mid over) → KeepsAll (store over) (store after)
           → Advances ways store serving lending left me them m after (one_more r.steps e)
       opened_advances them after e is listed =
           one_more_advances left r.steps me mid them m over after e told some_room (is ∙ sym (step_executes ways store serving lending home mid o.place over stands_mid)) listed present_mid
 
-      pub legal_mid : IsLegalOpening o.opening
-      legal_mid = legal_opened ways lawful o.place mid you (seen_by mid.part o.place.home at.None (store over)) o.opening opens_mid
+      pub legal_mid : IsLegalOpening o.opening a
+      legal_mid = legal_opened ways lawful o.place mid you (seen_by mid.part o.place.home at.None (store over)) a o.opening opens_mid

@@ -10,19 +10,23 @@ use Rattle.b2_access.specs.Loans.{Loan, LoansGlobals, globals_at, left_at}
 use Rattle.b2_access.specs.Placed.{Statement}
 use Rattle.b2_access.specs.Sharing.{ServingOf}
 use Rattle.b2_access.specs.Store.{StoreState, content}
+use Rattle.b2_access.specs.declared.accesses.Access.{Access}
 use Rattle.b2_access.specs.declared.lending.At.{At}
 use Rattle.b2_access.specs.declared.lending.At.TheVariants as at
 use Rattle.b2_access.specs.declared.objects.Object.TheVariants as object
 use Rattle.b2_access.specs.declared.private.Private.{Private}
 use Rattle.b2_language.specs.Languages.{AreLawful, Ways}
 use Rattle.b2_machine.specs.Readiness.{rests}
-use Rattle.b2_machine.specs.Statements.{Opens, begins, begins_where, begun, builder_of, has_ended, leaves, left_where, plan_by, wants}
+use Rattle.b2_language.specs.Wanted.{wanted_at}
+use Rattle.b2_machine.specs.Statements.{Begun, Opens, asked_beside, begins, begins_where, begun, builder_of, has_ended, leaves, left_where, plan_by, wants}
 use Rattle.b2_machine.specs.Stays.{IsLegalOpening}
-use Rattle.b2_machine.specs.Step.{StepEnd, executes_by, executes_over, goes_through, lent_to_begin, no_text, seen_by, text_in, texts_lent}
+use Rattle.b2_machine.specs.Step.{StepEnd, carries_out, executes, executes_by, executes_over, goes_through, lent_to_begin, no_text, seen_by, text_in, texts_lent}
+use Rattle.b2_machine.specs.declared.moving.Onward.{Onward}
 use Rattle.b2_machine.specs.declared.statements.Builder.{Builder}
 use Rattle.b2_machine.specs.declared.statements.Opening.{Opening}
 use Rattle.b2_machine.specs.declared.statements.Opening.TheVariants as opening
 use Rattle.b2_machine.specs.declared.statements.Progress.{Progress}
+use Rattle.b2_machine.specs.declared.statements.Progress.TheVariants as progress
 use Rattle.b2_machine.proofs.LegalPlans.{legal_begun}
 use Rattle.b2_machine.proofs.Lent.{texts_same}
 
@@ -123,17 +127,33 @@ module _ (ways : Ways) {M : Type 0} (store : M → StoreState) (serving : Servin
       ∙ ap (λ (u : M). begun_over (store m) u) (lent_wanted store serving lending me.part p.home whose m (left_over (store m)) is)
 
 -- a statement that was opened asks for what may be asked for
-pub legal_opened : (ways : Ways) (lawful : AreLawful ways) (p : Place) (me after : Private) (s : SeenLent) (o : Opening) → Opens ways p me after s o → IsLegalOpening o
-legal_opened ways lawful p me after s (opening.Began c) is = legal_begun ways lawful p me after s c is.1
-legal_opened ways lawful p me after s (opening.Wants whose) is = tt
+pub legal_opened : (ways : Ways) (lawful : AreLawful ways) (p : Place) (me after : Private) (s : SeenLent) (a : Option Access) (o : Opening) → Opens ways p me after s a o → IsLegalOpening o a
+legal_opened ways lawful p me after s a opening.Leads is = tt
+legal_opened ways lawful p me after s a (opening.Ends e) is = tt
+legal_opened ways lawful p me after s None (opening.Asks b w) is = absurd (true≢false (sym (ap is_some is.1)))
+legal_opened ways lawful p me after s (Some x) (opening.Asks b w) is = legal_begun ways lawful p me after s (progress.Asks x b w) (ap (λ (o : Option Begun). unwrap_or o (begins ways p me s)) is.1)
+legal_opened ways lawful p me after s a (opening.Wants whose) is = tt
 
 -- by what is lent instead
-pub opens_seen : (ways : Ways) (p : Place) (me after : Private) (s t : SeenLent) (o : Opening) → s ≡ t → Opens ways p me after s o → Opens ways p me after t o
-opens_seen ways p me after s t o same is = subst (λ (l : SeenLent). Opens ways p me after l o) same is
+pub opens_seen : (ways : Ways) (p : Place) (me after : Private) (s t : SeenLent) (a : Option Access) (o : Opening) → s ≡ t → Opens ways p me after s a o → Opens ways p me after t a o
+opens_seen ways p me after s t a o same is = subst (λ (l : SeenLent). Opens ways p me after l a o) same is
 
 -- and by how it was opened
-pub began_so : (ways : Ways) (p : Place) (me after : Private) (s : SeenLent) (o : Opening) (c : Progress) → o ≡ opening.Began c → Opens ways p me after s o → Opens ways p me after s (opening.Began c)
-began_so ways p me after s o c is h = subst (λ (x : Opening). Opens ways p me after s x) is h
+pub opened_so : (ways : Ways) (p : Place) (me after : Private) (s : SeenLent) (a : Option Access) (o x : Opening) → o ≡ x → Opens ways p me after s a o → Opens ways p me after s a x
+opened_so ways p me after s a o x is h = subst (λ (y : Opening). Opens ways p me after s a y) is h
 
-pub wants_so : (ways : Ways) (p : Place) (me after : Private) (s : SeenLent) (o : Opening) (whose : At) → o ≡ opening.Wants whose → Opens ways p me after s o → Opens ways p me after s (opening.Wants whose)
-wants_so ways p me after s o whose is h = subst (λ (x : Opening). Opens ways p me after s x) is h
+pub asks_so : (ways : Ways) (p : Place) (me after : Private) (s : SeenLent) (a : Option Access) (o : Opening) (x : Access) (b : Builder) (w : Onward) → o ≡ opening.Asks b w → a ≡ Some x → Opens ways p me after s a o
+    → (wanted_at p me s.home.lines ≡ at.None) × (◌≡◌ {A = Begun} (asked_beside b w after x) (begins ways p me s))
+asks_so ways p me after s a o x b w is is_a h =
+    let opens = opened_so ways p me after s a o (opening.Asks b w) is h in
+    (opens.0, ap (λ (c : Option Begun). unwrap_or c (begins ways p me s)) (sym (ap (option_map (asked_beside b w after)) is_a) ∙ opens.1))
+
+-- what began over texts that were lent, and wants no `@` variables, goes on as it is executed
+module _ (ways : Ways) {M : Type 0} (store : M → StoreState) (serving : ServingOf M) (lending : Loan M) (p : Place) (before me : Private) (m n : M) where
+  pub goes_as_begun : (x : Progress) → n ≡ texts_lent store serving lending before.part p.home m → wanted_at p before (text_in (store m) p.home).lines ≡ at.None
+      → ◌≡◌ {A = Begun} (record { me = me; progress = x }) (begins ways p before (seen_by before.part p.home at.None (store m)))
+      → carries_out ways store serving lending before.part x p at.None me n ≡ executes ways store serving lending p before m
+  goes_as_begun x is_lent local is =
+      ap (λ (k : M). carries_out ways store serving lending before.part x p at.None me k) is_lent
+      ∙ ap (λ (b : Begun). goes_through ways store serving lending before.part b p at.None (texts_lent store serving lending before.part p.home m)) is
+      ∙ sym (ap (λ (y : At). executes_by ways store serving lending y p before m) local)

@@ -1,8 +1,6 @@
 -- Statements of a partition one after another over one loan of texts: each is planned at once, has ended, and the turn goes on.
-use Rattle.std.specs.Prelude.{◌≡◌, ◌≤◌, ◌<◌, ◌==◌, ◌&&◌, ℕ, suc, zero, Bool, true, not, Option, Some, None, is_some, option_map, if◌then◌else◌}
+use Rattle.std.specs.Prelude.{◌≡◌, ◌≤◌, ◌<◌, ◌==◌, ◌&&◌, ℕ, suc, zero, Bool, true, not, Option, Some, None, is_some, if◌then◌else◌}
 use Rattle.b2_flow.specs.declared.frame.Place.{Place}
-use Rattle.b2_text.specs.Program.{TextState}
-use Rattle.b2_vars.specs.Globals.{unreached}
 use Rattle.b2_access.specs.Lending.{SeenLent}
 use Rattle.b2_access.specs.declared.accesses.Access.{Access}
 use Rattle.b2_access.specs.declared.lending.At.TheVariants as at
@@ -11,17 +9,9 @@ use Rattle.b2_language.specs.Languages.{Ways}
 use Rattle.b2_language.specs.Wanted.{wanted_at}
 use Rattle.b2_machine.specs.Endings.{counts}
 use Rattle.b2_machine.specs.Statements.{Begun, Opens, begins}
-use Rattle.b2_machine.specs.declared.moving.Onward.{Onward}
 use Rattle.b2_machine.specs.declared.running.Opened.{Opened}
-use Rattle.b2_machine.specs.declared.running.Passed.{Passed}
-use Rattle.b2_machine.specs.declared.running.Passed.TheVariants as passed
 use Rattle.b2_machine.specs.declared.running.Ran.{Ran}
-use Rattle.b2_machine.specs.declared.statements.Builder.TheVariants as builder
 use Rattle.b2_machine.specs.declared.statements.Progress.TheVariants as progress
-
--- texts as statements see them that are lent no `@` variables
-abbrev pub texts_seen : TextState → TextState → SeenLent
-texts_seen own home = record { own = own; home = home; globals = unreached None }
 
 -- nothing comes before the statement at its place: no reset, no halt, and nothing waits to be shown, to be typed or to be put
 abbrev pub is_undisturbed : Private → Bool
@@ -35,17 +25,6 @@ placed_in home (Some p) = if p.home == home && is_some p.line then Some p else N
 -- the place of a partition there, whose statement comes next
 abbrev pub place_in : ℕ → Private → Option Place
 place_in home me = if is_undisturbed me then placed_in home me.place else None
-
--- an access is asked for by a statement of a row, after which its line goes on there
-abbrev pub asked_for : ℕ → Onward → Private → Access → Begun
-asked_for row w after a = record { me = after; progress = progress.Asks a (builder.Language row) w }
-
--- what became of the statement at a place: nothing, or it began, has ended or asks for an access
-abbrev pub Passes : Ways → Place → Private → Private → SeenLent → Option Access → Passed → Type 0
-Passes ways p me after s a passed.Stops = (after ≡ me) × (a ≡ None)
-Passes ways p me after s a passed.Leads = (wanted_at p me s.home.lines ≡ at.None) × (◌≡◌ {A = Begun} (record { me = after; progress = progress.Ended counts }) (begins ways p me s)) × (a ≡ None)
-Passes ways p me after s a (passed.Ends e) = (wanted_at p me s.home.lines ≡ at.None) × (◌≡◌ {A = Begun} (record { me = after; progress = progress.Ended e }) (begins ways p me s)) × (a ≡ None)
-Passes ways p me after s a (passed.Asks row w) = (wanted_at p me s.home.lines ≡ at.None) × (option_map (asked_for row w after) a ≡ Some (begins ways p me s))
 
 -- where no statement is next there, any place will do
 abbrev pub no_place : Place
@@ -81,17 +60,13 @@ module _ (ways : Ways) (home : ℕ) (s : SeenLent) where
   AllLead (suc n) me = AllLead n me × Leads (led n me)
 
   -- the statement after them was opened, if one was
-  abbrev pub EndsRun : Option Opened → Private → Private → Type 0
-  EndsRun None mid after = after ≡ mid
-  EndsRun (Some o) mid after = (place_in home mid ≡ Some o.place) × Opens ways o.place mid after s o.opening
+  abbrev pub EndsRun : Option Opened → Private → Private → Option Access → Type 0
+  EndsRun None mid after a = after ≡ mid
+  EndsRun (Some o) mid after a = (place_in home mid ≡ Some o.place) × Opens ways o.place mid after s a o.opening
 
-  -- a run of at most so many, and what it leaves
-  pub record RunsOver (left : ℕ) (me after : Private) (r : Ran) : Type 0 where
+  -- a run of at most so many, and what it leaves; where no further one was opened, none may be executed
+  pub record RunsOn (left : ℕ) (me after : Private) (a : Option Access) (r : Ran) : Type 0 where
     pub lead : AllLead r.steps me
     pub few : leaves_room r.last r.steps left
-    pub last : EndsRun r.last (led r.steps me) after
-
-  -- and where none was opened, no further one may be executed
-  pub record RunsOn (left : ℕ) (me after : Private) (r : Ran) : Type 0 where
-    pub over : RunsOver left me after r
+    pub last : EndsRun r.last (led r.steps me) after a
     pub whole : r.last ≡ None → r.steps < left → place_in home (led r.steps me) ≡ None

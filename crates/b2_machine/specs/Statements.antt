@@ -1,5 +1,5 @@
 -- What a statement plans and how it finishes, by who executes it.
-use Rattle.std.specs.Prelude.{◌≡◌, ◌==◌, Bool, true, false, Option, Some, None, is_some, if◌then◌else◌}
+use Rattle.std.specs.Prelude.{◌≡◌, ◌==◌, Bool, true, false, Option, Some, None, is_some, option_map, if◌then◌else◌}
 use Rattle.b2_base.specs.declared.codes.TheConstants.{S27_LEFT_OUT}
 use Rattle.b2_atom.specs.declared.rows.TheConstants as row
 use Rattle.b2_flow.specs.declared.frame.Place.{Place}
@@ -36,6 +36,10 @@ use Rattle.b2_machine.specs.declared.statements.Progress.TheVariants as progress
 -- what is seen of texts and of the `@` variables that were lent, where there are such, of which none was reached yet
 abbrev pub seen_there : TextState → TextState → Bool → VarsState → SeenLent
 seen_there own home found globals = record { own = own; home = home; globals = unreached (if found then Some globals else None) }
+
+-- and where none are lent
+abbrev pub texts_seen : TextState → TextState → SeenLent
+texts_seen own home = record { own = own; home = home; globals = unreached None }
 
 -- who executes a statement; nobody does yet where its row isn't built
 abbrev pub builder_of : Ways → Statement → Builder
@@ -93,10 +97,25 @@ wants whose = true
 abbrev pub begins : Ways → Place → Private → SeenLent → Begun
 begins ways p me s = begins_where ways (statement_placed p me.immediate s.home.lines) p me s
 
--- Where texts alone are lent, it begins if it wants no `@` variables. If it wants some, nothing has changed.
-abbrev pub Opens : Ways → Place → Private → Private → SeenLent → Opening → Type 0
-Opens ways p me after s (opening.Began c) = (wanted_at p me s.home.lines ≡ at.None) × (record { me = after; progress = c } ≡ begins ways p me s)
-Opens ways p me after s (opening.Wants whose) = (wanted_at p me s.home.lines ≡ whose) × (wants whose ≡ true) × (after ≡ me)
+-- what is asked for beside it, by who executes it, after which its line goes on there
+abbrev pub asked_beside : Builder → Onward → Private → Access → Begun
+asked_beside b w after a = record { me = after; progress = progress.Asks a b w }
+
+-- Where texts alone are lent, it begins if it wants no `@` variables; what it asks for is beside. If it wants some, nothing has changed.
+abbrev pub Opens : Ways → Place → Private → Private → SeenLent → Option Access → Opening → Type 0
+Opens ways p me after s a opening.Leads = (wanted_at p me s.home.lines ≡ at.None) × (◌≡◌ {A = Begun} (record { me = after; progress = progress.Ended counts }) (begins ways p me s)) × (a ≡ None)
+Opens ways p me after s a (opening.Ends e) = (wanted_at p me s.home.lines ≡ at.None) × (◌≡◌ {A = Begun} (record { me = after; progress = progress.Ended e }) (begins ways p me s)) × (a ≡ None)
+Opens ways p me after s a (opening.Asks b w) = (wanted_at p me s.home.lines ≡ at.None) × (option_map (asked_beside b w after) a ≡ Some (begins ways p me s))
+Opens ways p me after s a (opening.Wants whose) = (wanted_at p me s.home.lines ≡ whose) × (wants whose ≡ true) × (after ≡ me)
+
+-- how it was opened by what became of it as it began, and what it asks for
+abbrev pub opening_of : Progress → Opening
+opening_of (progress.Ended e) = opening.Ends e
+opening_of (progress.Asks a b w) = opening.Asks b w
+
+abbrev pub asked_in : Progress → Option Access
+asked_in (progress.Ended e) = None
+asked_in (progress.Asks a b w) = Some a
 
 -- and ends by the answer to its access
 abbrev pub ends_with : Finishing → Answer → Onward → Place → Lines → Ending

@@ -1,7 +1,8 @@
 -- What steps leave as it is.
-use Rattle.std.specs.Prelude.{◌≡◌, ℕ, IsSome, OnOk, Result}
+use Rattle.std.specs.Prelude.{◌≡◌, ℕ, Option, Some, None, IsSome, OnOk, Result}
 use Rattle.b2_access.specs.Store.{StoreState, content}
 use Rattle.b2_access.specs.Touching.{IsLegal}
+use Rattle.b2_access.specs.declared.accesses.Access.{Access}
 use Rattle.b2_access.specs.declared.objects.Object.{Object}
 use Rattle.b2_machine.specs.declared.statements.Opening.{Opening}
 use Rattle.b2_machine.specs.declared.statements.Opening.TheVariants as opening
@@ -24,6 +25,8 @@ abbrev pub IsLegalProgress : Progress → Type 0
 IsLegalProgress (progress.Ended e) = Unit {0}
 IsLegalProgress (progress.Asks a b w) = IsLegal a
 
-abbrev pub IsLegalOpening : Opening → Type 0
-IsLegalOpening (opening.Began c) = IsLegalProgress c
-IsLegalOpening (opening.Wants whose) = Unit {0}
+-- and where it was opened, so does what it asks for, which is beside
+abbrev pub IsLegalOpening : Opening → Option Access → Type 0
+IsLegalOpening (opening.Asks b w) None = ⊥
+IsLegalOpening (opening.Asks b w) (Some a) = IsLegal a
+IsLegalOpening o a = Unit {0}

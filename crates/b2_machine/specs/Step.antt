@@ -110,9 +110,12 @@ module _ (ways : Ways) {M : Type 0} (store : M → StoreState) (serving : Servin
       let s = seen_by who p.home whose (store g.after) in
       by_itself store serving lending (finishes ways b a g.answer w p me s) (lending who p.home whose g.after (finish_by ways b a g.answer me s).globals)
 
+  abbrev pub asks_and_finishes : ℕ → Builder → Access → Onward → Place → At → Private → M → StepEnd M
+  asks_and_finishes who b a w p whose me m = finishes_by who b a w p whose me (serving m who a)
+
   abbrev pub carries_out : ℕ → Progress → Place → At → Private → M → StepEnd M
   carries_out who (progress.Ended e) p whose me m = record { me = me; after = m; end = e }
-  carries_out who (progress.Asks a b w) p whose me m = finishes_by who b a w p whose me (serving m who a)
+  carries_out who (progress.Asks a b w) p whose me m = asks_and_finishes who b a w p whose me m
 
   abbrev pub goes_through : ℕ → Begun → Place → At → M → StepEnd M
   goes_through who b p whose m = carries_out who b.progress p whose b.me m

@@ -22,6 +22,7 @@ pub mod laws;
 mod listed;
 mod messages;
 mod moving;
+mod openings;
 mod readiness;
 mod running;
 mod statements;

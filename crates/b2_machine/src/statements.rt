@@ -52,17 +52,21 @@ pub enum Progress {
     Asks(Access, Builder, Onward),
 }
 
-/// What came of a statement where texts alone were lent to it.
-#[derive(Drop)]
+/// What came of a statement where texts alone were lent to it, beside the access that it asks for.
+#[derive(Clone, Copy)]
 pub enum Opening {
-    /// It wants no `@` variables, and began.
-    Began(Progress),
-    /// It wants some: nothing was done.
+    /// It has ended, and the turn goes on.
+    Leads,
+    /// It has ended.
+    Ends(Stepped),
+    /// It asks for the access; who executes it finishes by the answer, and its line then goes on there.
+    Asks(Builder, Onward),
+    /// It wants some `@` variables: nothing was done.
     Wants(At),
 }
 
 /// Who executes the statement of a unit.
-fn builder_of<L: Language>(unit: &RowUnit<'_>) -> Builder
+pub fn builder_of<L: Language>(unit: &RowUnit<'_>) -> Builder
     requires read { IsRow unit.now.row unit.now.bytes.now (tree_at unit.now.row unit.now.bytes.now) }
     ensures { (devices : List Device) → result ≡ spec.builder_of (L.ways devices) (record { row = unit.now.row; tree = tree_at unit.now.row unit.now.bytes.now }) }
 {
@@ -169,47 +173,8 @@ fn begun(
     }
 }
 
-/// What asks for an access at a place in a line of the program.
-fn asking_on(
-    me: &Private,
-    home: &Text,
-    line: &LentAtoms<'_>,
-    place: Place,
-    access: Access,
-    builder: Builder,
-) -> Progress
-    requires line { line_of_place me.now.immediate home.now.lines place.line ≡ Some line.now }
-    ensures asks { record { me = me.now; progress = result } ≡ spec.begun_by (Planned.Ask access) builder place me.now home.now.lines }
-{
-    let onward = onward_on(line, place.unit);
-    Progress::Asks(access, builder, onward)
-}
-
-/// What becomes of a plan for a unit at a place in a line of the program.
-fn begun_on(
-    alloc: Global,
-    me: &mut Private,
-    home: &Text,
-    line: &LentAtoms<'_>,
-    place: Place,
-    planned: Planned,
-    builder: Builder,
-) -> Result<Progress, NoMemory>
-    requires line { line_of_place me.old.immediate home.now.lines place.line ≡ Some line.now }
-    ensures begun { IfOk result (λ c. record { me = me.new; progress = c } ≡ spec.begun_by planned builder place me.old home.now.lines) }
-    ensures part { me.new.part ≡ me.old.part }
-{
-    match planned {
-        Planned::Done(outcome) => {
-            let end = settle_on(alloc, me, home, line, place, outcome)?;
-            Ok(Progress::Ended(end))
-        }
-        Planned::Ask(access) => Ok(asking_on(me, home, line, place, access, builder)),
-    }
-}
-
 /// What a statement plans that was found in a line of the program.
-fn plan_found<L: Language>(
+pub fn plan_found<L: Language>(
     alloc: Global,
     me: &mut Private,
     lent: &mut Lent<'_>,
@@ -227,51 +192,6 @@ fn plan_found<L: Language>(
         Builder::Listing(from, to) => plan_list(alloc, me, lent.own, found.place, from, to),
         Builder::Language(_) => L::plan_found(alloc, me, lent, devices, found),
         Builder::Nobody => Ok(Planned::Done(failed(S27_LEFT_OUT))),
-    }
-}
-
-/// A statement that was found in a line of the program begins.
-fn begin_found<L: Language>(
-    alloc: Global,
-    me: &mut Private,
-    lent: Lent<'_>,
-    devices: &DeviceTable,
-    found: &Found<'_>,
-) -> Result<Progress, NoMemory>
-    requires found { IsFound found.now lent.home.now.lines me.old }
-    ensures begun { IfOk result (λ c. record { me = me.new; progress = c } ≡ spec.begins (L.ways devices.now) found.now.place me.old (seen_lent lent.entry)) }
-    ensures part { me.new.part ≡ me.old.part }
-{
-    let home = lent.home;
-    let builder = builder_of::<L>(found.unit);
-    let mut lent = lent;
-    let planned = plan_found::<L>(alloc, me, &mut lent, devices, found, builder)?;
-    begun_on(alloc, me, home, found.line, found.place, planned, builder)
-}
-
-/// A statement that was found in a line of the program begins, where the language plans it at once.
-fn begin_at_once<L: Language>(
-    alloc: Global,
-    me: &mut Private,
-    lent: Lent<'_>,
-    found: &Found<'_>,
-) -> Result<Progress, NoMemory>
-    requires found { IsFoundAtOnce L.at_once found.now me.old }
-    ensures begun { (devices : List Device) → IfOk result (λ c. record { me = me.new; progress = c } ≡ spec.begins (L.ways devices) found.now.place me.old (seen_found found.now (globals_lent lent.entry))) }
-    ensures part { me.new.part ≡ me.old.part }
-{
-    let mut lent = lent;
-    let mut access = None;
-    let outcome = L::plan_at_once(alloc, me, &mut lent, found, &mut access)?;
-    match access {
-        Some(access) => {
-            let builder = Builder::Language(found.unit.row);
-            Ok(asking_on(me, found.home, found.line, found.place, access, builder))
-        }
-        None => {
-            let end = settle_on(alloc, me, found.home, found.line, found.place, outcome)?;
-            Ok(Progress::Ended(end))
-        }
     }
 }
 
@@ -331,101 +251,6 @@ pub fn begin_with<L: Language>(
         reached: lent.reached,
     };
     (begun, left)
-}
-
-/// Whose `@` variables the statement at a place is lent, none where none is there.
-fn wanted_at(me: &Private, home: &Text, place: &Place) -> At
-    ensures { result ≡ wanted.wanted_at place.now me.now home.now.lines }
-{
-    match statement_placed(*place, &me.immediate, home) {
-        Some(unit) => globals_wanted(&unit, place.home, me),
-        None => At::None,
-    }
-}
-
-/// The statement at a place in the immediate line begins, where it wants no `@` variables.
-fn open_immediate<L: Language>(
-    alloc: Global,
-    me: &mut Private,
-    lent: Lent<'_>,
-    devices: &DeviceTable,
-    place: Place,
-) -> Result<Opening, NoMemory>
-    ensures opened { IfOk result (spec.Opens (L.ways devices.now) place me.old me.new (seen_lent lent.entry)) }
-    ensures part { me.new.part ≡ me.old.part }
-{
-    match wanted_at(me, lent.home, &place) {
-        At::None => {
-            let mut lent = lent;
-            let progress = begin_over::<L>(alloc, me, &mut lent, devices, place)?;
-            Ok(Opening::Began(progress))
-        }
-        At::Home => Ok(Opening::Wants(At::Home)),
-        At::Named(name) => Ok(Opening::Wants(At::Named(name))),
-    }
-}
-
-/// A statement that was found in a line of the program begins, by words where the language plans it at once.
-fn begin_unit<L: Language>(
-    alloc: Global,
-    me: &mut Private,
-    lent: Lent<'_>,
-    devices: &DeviceTable,
-    found: &Found<'_>,
-) -> Result<Progress, NoMemory>
-    requires found { IsFound found.now lent.home.now.lines me.old }
-    requires texts { (found.now.own.now ≡ lent.own.now) × (found.now.home.now ≡ lent.home.now) }
-    requires uses { found.now.unit.now.uses ≡ uses_in (statement_found found.now).tree }
-    ensures begun { IfOk result (λ c. record { me = me.new; progress = c } ≡ spec.begins (L.ways devices.now) found.now.place me.old (seen_lent lent.entry)) }
-    ensures part { me.new.part ≡ me.old.part }
-{
-    if !names_globals(found.unit) && L::is_at_once(found.unit.row) {
-        return begin_at_once::<L>(alloc, me, lent, found);
-    }
-    begin_found::<L>(alloc, me, lent, devices, found)
-}
-
-/// The statement at a place of a partition begins over texts alone, where it wants no `@` variables. In a line of the program it is found
-/// by one look-up.
-pub fn open_over<L: Language>(
-    alloc: Global,
-    me: &mut Private,
-    lent: Lent<'_>,
-    devices: &DeviceTable,
-    place: &Place,
-) -> Result<Opening, NoMemory>
-    requires stands { me.old.place ≡ Some place.now }
-    ensures opened { IfOk result (spec.Opens (L.ways devices.now) place.now me.old me.new (seen_lent lent.entry)) }
-    ensures part { me.new.part ≡ me.old.part }
-{
-    let Some(n) = place.line else {
-        return open_immediate::<L>(alloc, me, lent, devices, *place);
-    };
-    let home = lent.home;
-    let Some(line) = home.line(n) else {
-        let end = become_ready_quietly(alloc, me)?;
-        return Ok(Opening::Began(Progress::Ended(end)));
-    };
-    let line = line.lend();
-    let Some(unit) = statement_on(&line, usize::from(place.unit)) else {
-        let end = become_ready_quietly(alloc, me)?;
-        return Ok(Opening::Began(Progress::Ended(end)));
-    };
-    match globals_wanted(&unit, place.home, me) {
-        At::None => {
-            let found = Found {
-                own: lent.own,
-                home,
-                line: &line,
-                unit: &unit,
-                place: *place,
-            };
-            let progress = begin_unit::<L>(alloc, me, lent, devices, &found)?;
-            Ok(Opening::Began(progress))
-        }
-        At::Home => Ok(Opening::Wants(At::Home)),
-        At::Named(name) => Ok(Opening::Wants(At::Named(name))),
-    }
 }
 
 /// It ends by the answer to its access, over what is lent again.

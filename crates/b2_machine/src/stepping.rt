@@ -1,5 +1,5 @@
 // A step: the first of six rules that applies.
-ghost use Rattle.std.specs.Prelude.{◌≡◌, true, List, Option, Some, IfOk, IsSome, OnOk};
+ghost use Rattle.std.specs.Prelude.{◌≡◌, true, List, Option, Some, None, IfOk, IsSome, OnOk};
 ghost use Rattle.b2_vars.specs.Globals.{unreached};
 ghost use Rattle.b2_vars.specs.Tables.{VarsState};
 ghost use Rattle.b2_access.specs.declared.devices.Device.{Device};
@@ -16,9 +16,10 @@ ghost use Rattle.b2_machine.specs.Step as spec;
 use crate::ends::{Stepped, counts, repeats};
 use crate::keys::press_over;
 use crate::moving::Onward;
+use crate::openings::open_over;
 use crate::readiness::{give_back, halt, reset};
 use crate::running::{Ran, run_on};
-use crate::statements::{Builder, Opening, Progress, begin_with, finish_with, open_over};
+use crate::statements::{Builder, Opening, Progress, begin_with, finish_with};
 use crate::typing::{
     after_literal, after_pending, after_put, ask_to_show, atoms_put, put_line, take_line,
 };
@@ -131,24 +132,32 @@ fn enter_line<L: Language, S: Shared>(
     after_put(alloc, me, &answer)
 }
 
-/// The statement at a place begins over texts alone, where it wants no `@` variables.
+/// The statement at a place is opened over texts alone; what it asks for goes to the caller.
 fn open<L: Language, S: Shared>(
     alloc: Global,
     me: &mut Private,
     s: &mut S,
     d: &DeviceTable,
     place: &Place,
+    access: &mut Option<Access>,
 ) -> Result<Opening, NoMemory>
     requires stands { me.old.place ≡ Some place.now }
+    requires empty { access.old ≡ None }
     requires own { IsSome (content (S.store (S.meaning s.old)) (Object.Text me.old.part)) }
     requires home { IsSome (content (S.store (S.meaning s.old)) (Object.Text place.now.home)) }
-    ensures legal { IfOk result IsLegalOpening }
-    ensures opened { IfOk result (Opens (L.ways d.now) place.now me.old me.new (spec.seen_by me.old.part place.now.home At.None (S.store (S.meaning s.old)))) }
+    ensures legal { IfOk result (λ o. IsLegalOpening o access.new) }
+    ensures opened { IfOk result (Opens (L.ways d.now) place.now me.old me.new (spec.seen_by me.old.part place.now.home At.None (S.store (S.meaning s.old))) access.new) }
     ensures lent { S.meaning s.new ≡ spec.texts_lent S.store S.serving S.lending me.old.part place.now.home (S.meaning s.old) }
     ensures kept { Keeps result (S.holds s.old) (S.holds s.new) me.old.part me.new.part (S.store (S.meaning s.old)) (S.store (S.meaning s.new)) }
 {
     let part = me.part;
-    open_over::<L>(alloc, me, s.lend(part, place.home, &At::None), d, place)
+    let Lent {
+        own,
+        home,
+        globals,
+        ..
+    } = s.lend(part, place.home, &At::None);
+    open_over::<L>(alloc, me, own, home, globals, d, place, access)
 }
 
 /// After a loan to a partition the store is told where a receiver among the `@` variables was reached.
@@ -224,8 +233,29 @@ fn finish<L: Language, S: Shared>(
     finished
 }
 
-/// What a statement that began asked for is done.
+/// What a statement asks for is done, and it finishes.
 #[tactic(auto, using(crate::proofs::Kept::both_kept))]
+fn ask_and_finish<L: Language, S: Shared>(
+    alloc: Global,
+    me: &mut Private,
+    s: &mut S,
+    place: &Place,
+    whose: &At,
+    builder: Builder,
+    onward: Onward,
+    access: &Access,
+) -> Result<Stepped, NoMemory>
+    requires own { IsSome (content (S.store (S.meaning s.old)) (Object.Text me.old.part)) }
+    requires home { IsSome (content (S.store (S.meaning s.old)) (Object.Text place.now.home)) }
+    requires legal { IsLegal access.now }
+    ensures ended { (devices : List Device) → IfOk result (λ e. record { me = me.new; after = S.meaning s.new; end = e } ≡ spec.asks_and_finishes (L.ways devices) S.store S.serving S.lending me.old.part builder access.now onward place.now whose.now me.old (S.meaning s.old)) }
+    ensures kept { Keeps result (S.holds s.old) (S.holds s.new) me.old.part me.new.part (S.store (S.meaning s.old)) (S.store (S.meaning s.new)) }
+{
+    let answer = ask_store(s, me.part, access)?;
+    finish::<L, S>(alloc, me, s, place, whose, builder, onward, access, &answer)
+}
+
+/// What a statement that began asked for is done.
 fn carry_out<L: Language, S: Shared>(
     alloc: Global,
     me: &mut Private,
@@ -243,10 +273,7 @@ fn carry_out<L: Language, S: Shared>(
     match progress {
         Progress::Ended(end) => Ok(end),
         Progress::Asks(access, builder, onward) => {
-            let answer = ask_store(s, me.part, &access)?;
-            finish::<L, S>(
-                alloc, me, s, &place, whose, builder, onward, &access, &answer,
-            )
+            ask_and_finish::<L, S>(alloc, me, s, &place, whose, builder, onward, &access)
         }
     }
 }
@@ -270,8 +297,7 @@ fn execute_over<L: Language, S: Shared>(
     carry_out::<L, S>(alloc, me, s, place, whose, progress)
 }
 
-/// A statement that was opened over texts alone goes on.
-#[tactic(auto, using(crate::proofs::Kept::both_kept))]
+/// A statement that was opened over texts alone goes on; what it asks for is beside.
 pub fn go_through<L: Language, S: Shared>(
     alloc: Global,
     me: &mut Private,
@@ -279,15 +305,23 @@ pub fn go_through<L: Language, S: Shared>(
     d: &DeviceTable,
     place: Place,
     opening: Opening,
+    access: &Option<Access>,
 ) -> Result<Stepped, NoMemory>
     requires own { IsSome (content (S.store (S.meaning s.old)) (Object.Text me.old.part)) }
     requires home { IsSome (content (S.store (S.meaning s.old)) (Object.Text place.home)) }
-    requires legal { IsLegalOpening opening }
-    ensures ended { (before : Private) (m : S.Meaning) → me.old.part ≡ before.part → Opens (L.ways d.now) place before me.old (spec.seen_by before.part place.home At.None (S.store m)) opening → S.meaning s.old ≡ spec.texts_lent S.store S.serving S.lending before.part place.home m → IfOk result (λ e. record { me = me.new; after = S.meaning s.new; end = e } ≡ spec.executes (L.ways d.now) S.store S.serving S.lending place before m) }
+    requires legal { IsLegalOpening opening access.now }
+    ensures ended { (before : Private) (m : S.Meaning) → me.old.part ≡ before.part → Opens (L.ways d.now) place before me.old (spec.seen_by before.part place.home At.None (S.store m)) access.now opening → S.meaning s.old ≡ spec.texts_lent S.store S.serving S.lending before.part place.home m → IfOk result (λ e. record { me = me.new; after = S.meaning s.new; end = e } ≡ spec.executes (L.ways d.now) S.store S.serving S.lending place before m) }
     ensures kept { Keeps result (S.holds s.old) (S.holds s.new) me.old.part me.new.part (S.store (S.meaning s.old)) (S.store (S.meaning s.new)) }
 {
     match opening {
-        Opening::Began(progress) => carry_out::<L, S>(alloc, me, s, place, &At::None, progress),
+        Opening::Leads => Ok(counts()),
+        Opening::Ends(end) => Ok(end),
+        Opening::Asks(builder, onward) => match access {
+            Some(asked) => {
+                ask_and_finish::<L, S>(alloc, me, s, &place, &At::None, builder, onward, asked)
+            }
+            None => unreachable!(),
+        },
         Opening::Wants(whose) => execute_over::<L, S>(alloc, me, s, d, place, &whose),
     }
 }
@@ -307,12 +341,13 @@ fn execute<L: Language, S: Shared>(
     ensures ended { IfOk result (λ e. record { me = me.new; after = S.meaning s.new; end = e } ≡ spec.executes (L.ways d.now) S.store S.serving S.lending place me.old (S.meaning s.old)) }
     ensures kept { Keeps result (S.holds s.old) (S.holds s.new) me.old.part me.new.part (S.store (S.meaning s.old)) (S.store (S.meaning s.new)) }
 {
-    let opening = open::<L, S>(alloc, me, s, d, &place)?;
-    go_through::<L, S>(alloc, me, s, d, place, opening)
+    let mut access = None;
+    let opening = open::<L, S>(alloc, me, s, d, &place, &mut access)?;
+    go_through::<L, S>(alloc, me, s, d, place, opening, &access)
 }
 
-/// Statements in the program of a home, one after another over one loan of texts, at most so many; and the statement after them over
-/// the same texts, where one is left.
+/// Statements in the program of a home, one after another over one loan of texts, at most so many, up to the first after which the turn
+/// doesn't go on. What that asks for goes to the caller.
 pub fn run_lent<L: Language, S: Shared>(
     alloc: Global,
     me: &mut Private,
@@ -320,10 +355,12 @@ pub fn run_lent<L: Language, S: Shared>(
     d: &DeviceTable,
     home: Part,
     left: u16,
+    access: &mut Option<Access>,
 ) -> Result<Ran, NoMemory>
     requires own { IsSome (content (S.store (S.meaning s.old)) (Object.Text me.old.part)) }
     requires home { IsSome (content (S.store (S.meaning s.old)) (Object.Text home)) }
-    ensures ran { IfOk result (RunsOn (L.ways d.now) home (spec.seen_by me.old.part home At.None (S.store (S.meaning s.old))) left me.old me.new) }
+    requires empty { access.old ≡ None }
+    ensures ran { IfOk result (RunsOn (L.ways d.now) home (spec.seen_by me.old.part home At.None (S.store (S.meaning s.old))) left me.old me.new access.new) }
     ensures lent { S.meaning s.new ≡ spec.texts_lent S.store S.serving S.lending me.old.part home (S.meaning s.old) }
     ensures kept { Keeps result (S.holds s.old) (S.holds s.new) me.old.part me.new.part (S.store (S.meaning s.old)) (S.store (S.meaning s.new)) }
 {
@@ -334,7 +371,7 @@ pub fn run_lent<L: Language, S: Shared>(
         globals,
         ..
     } = s.lend(part, home, &At::None);
-    run_on::<L>(alloc, me, own, text, globals, d, home, left)
+    run_on::<L>(alloc, me, own, text, globals, d, home, left, access)
 }
 
 /// The statement at the place is executed, or a line is read.

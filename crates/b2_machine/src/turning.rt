@@ -61,7 +61,8 @@ fn run<L: Language, S: Shared>(
     ensures advances { IfOk result (Advances (L.ways d.now) S.store S.serving S.lending left me.old me.new (S.meaning s.old) (S.meaning s.new)) }
     ensures kept { Keeps result (S.holds s.old) (S.holds s.new) me.old.part me.new.part (S.store (S.meaning s.old)) (S.store (S.meaning s.new)) }
 {
-    let ran = run_lent::<L, S>(alloc, me, s, d, home, left)?;
+    let mut access = None;
+    let ran = run_lent::<L, S>(alloc, me, s, d, home, left, &mut access)?;
     let steps = ran.steps;
     let last = ran.last;
     match last {
@@ -71,7 +72,8 @@ fn run<L: Language, S: Shared>(
             why: None,
         }),
         Some(opened) => {
-            let end = go_through::<L, S>(alloc, me, s, d, opened.place, opened.opening)?;
+            let Opened { place, opening } = opened;
+            let end = go_through::<L, S>(alloc, me, s, d, place, opening, &access)?;
             Ok(went_on(steps, end))
         }
     }

@@ -1,5 +1,5 @@
 // Texts of others: what RETURN, RETURN CLEAR ALL, RUN and GOSUB' ask for of them.
-ghost use Rattle.std.specs.Prelude.{◌≡◌, ◌&&◌, IfOk, None};
+ghost use Rattle.std.specs.Prelude.{◌≡◌, ◌&&◌, true, IfOk, Some, None};
 ghost use Rattle.std.specs.Option.{option_map_or};
 ghost use Rattle.b2_flow.specs.Stacks.{entered_last};
 ghost use Rattle.b2_access.specs.Lending.{SeenLent};
@@ -15,31 +15,17 @@ use crate::calls::{forget, go_back, may_forget_all};
 use crate::course::run_program;
 use crate::marked::{call_into, code_of_none, mark_place};
 use b2_access::{Access, Outcome, Planned, Private, homes_entered};
-use b2_base::{NoMemory, Part};
+use b2_base::NoMemory;
 use b2_dec::ValueList;
 use b2_flow::Place;
 use b2_text::Text;
 
-/// That the text is left that a call entered.
-fn ask_to_leave(entered: Option<Part>) -> Option<Access>
-    ensures { result ≡ spec.asks_to_leave entered }
-{
-    match entered {
-        Some(home) => Some(Access::Leave { home }),
-        None => None,
-    }
-}
-
 /// That all texts are given back that were entered.
-fn ask_to_drop(goes: bool, me: &Private) -> Option<Access>
-    ensures { result ≡ spec.asks_to_drop goes me.now }
+fn ask_to_drop(me: &Private) -> Access
+    ensures { Some result ≡ spec.asks_to_drop true me.now }
 {
-    if goes {
-        Some(Access::Drop {
-            homes: homes_entered(&me.stack),
-        })
-    } else {
-        None
+    Access::Drop {
+        homes: homes_entered(&me.stack),
     }
 }
 
@@ -53,35 +39,16 @@ fn finds_line(n: Option<u16>, own: &Text) -> bool
     }
 }
 
-/// That the text of the partition that is selected is entered.
-fn ask_to_enter(n: u8, found: Option<Place>, me: &Private) -> Option<Access>
-    ensures { result ≡ spec.asks_to_enter n found me.now }
+/// That the text of the partition that is selected is entered, where a DEFFN' stands in no text that is lent.
+fn ask_to_enter(n: u8, me: &Private) -> Option<Access>
+    ensures { result ≡ spec.asks_to_enter n None me.now }
 {
-    if found.is_some() || !me.stack.has_room() {
+    if !me.stack.has_room() {
         return None;
     }
     match me.global {
         Some(name) => Some(Access::Enter { name, mark: n }),
         None => None,
-    }
-}
-
-/// What a statement asks for of the texts of others.
-pub fn ask_of_others(
-    asked: &Asked,
-    me: &Private,
-    own: &Text,
-    home: &Text,
-    place: Place,
-) -> Option<Access>
-    ensures { result ≡ spec.asks_of_others asked.now place me.now own.now.lines home.now.lines }
-{
-    match asked {
-        Asked::Return => ask_to_leave(me.stack.entered_last()),
-        Asked::Forget(all) => ask_to_drop(*all && may_forget_all(me, place), me),
-        Asked::Run(n) => ask_to_drop(finds_line(*n, own), me),
-        Asked::CallMark(n, _, _) => ask_to_enter(*n, mark_place(*n, place, me.part, own, home), me),
-        _ => None,
     }
 }
 
@@ -101,7 +68,7 @@ fn call_or_enter(
     match found {
         Some(to) => call_into(me, None, to, args, back),
         None => {
-            *access = ask_to_enter(n, None, me);
+            *access = ask_to_enter(n, me);
             Outcome::Failed(code_of_none(me))
         }
     }
@@ -135,7 +102,7 @@ fn forget_or_drop(
 {
     let may_go = may_forget_all(me, *place);
     if all && may_go {
-        *access = ask_to_drop(true, me);
+        *access = Some(ask_to_drop(me));
         return Outcome::Repeat;
     }
     forget(me, *place, all)
@@ -148,7 +115,7 @@ fn run_or_drop(me: &mut Private, own: &Text, n: Option<u16>, access: &mut Option
     ensures part { me.new.part ≡ me.old.part }
 {
     if finds_line(n, own) {
-        *access = ask_to_drop(true, me);
+        *access = Some(ask_to_drop(me));
         return Outcome::Repeat;
     }
     run_program(me, own, n)

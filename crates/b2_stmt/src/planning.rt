@@ -11,8 +11,8 @@ ghost use Rattle.b2_stmt.specs.Clearing.{asks_access};
 ghost use Rattle.b2_stmt.specs.Plan as spec;
 ghost use Rattle.b2_stmt.specs.Plan.{around};
 
-use crate::asked::{Asked, ask, do_asked, still};
-use crate::borrowing::{ask_of_others, do_or_ask};
+use crate::asked::{Asked, ask, still};
+use crate::borrowing::do_or_ask;
 use crate::clearing::asked_access;
 use crate::marked::take_args;
 use b2_access::{
@@ -142,27 +142,6 @@ fn execute_asked(
     do_or_ask(me, found.own, found.home, found.place, asked, access)
 }
 
-/// What a statement plans that asks the private state for something.
-fn plan_asked(
-    alloc: Global,
-    me: &mut Private,
-    lent: &mut Lent<'_>,
-    found: &Found<'_>,
-) -> Result<Planned, NoMemory>
-    requires read { IsRead found.now }
-    ensures planned { IfOk result (λ p. record { me = me.new; globals = globals_lent lent.new; planned = p } ≡ spec.plans_asked (spec.asked_by (statement_found found.now) (here_found found.now) me.old (seen_found found.now (globals_lent lent.old))) found.now.place me.old (seen_found found.now (globals_lent lent.old))) }
-    ensures same_texts { (lent.new.own ≡ lent.old.own) × (lent.new.home ≡ lent.old.home) }
-    ensures same_reference { lent.new.globals.ghost_name ≡ lent.old.globals.ghost_name }
-    ensures part { me.new.part ≡ me.old.part }
-{
-    let asked = asked_found(alloc, me, lent, found)?;
-    if let Some(access) = ask_of_others(&asked, me, found.own, found.home, found.place) {
-        return Ok(Planned::Ask(access));
-    }
-    let outcome = do_asked(me, found.own, found.home, found.place, asked)?;
-    Ok(Planned::Done(outcome))
-}
-
 /// How a statement ends that changes nothing.
 fn execute_still(me: &mut Private, lent: &mut Lent<'_>, found: &Found<'_>) -> Outcome
     requires read { IsRead found.now }
@@ -241,28 +220,14 @@ pub fn execute(
     execute_allowed(alloc, me, lent, found, access)
 }
 
-/// What a statement plans that may stand where it does, and asks for no access by its row.
-#[tactic(auto, using(crate::proofs::Executed::still_there, crate::proofs::Executed::taken_there, crate::proofs::Executed::asked_there))]
-fn plan_allowed(
-    alloc: Global,
-    me: &mut Private,
-    lent: &mut Lent<'_>,
-    found: &Found<'_>,
-) -> Result<Planned, NoMemory>
-    requires read { IsRead found.now }
-    ensures planned { IfOk result (λ p. record { me = me.new; globals = globals_lent lent.new; planned = p } ≡ spec.acts (statement_found found.now) (here_found found.now) me.old (seen_found found.now (globals_lent lent.old))) }
-    ensures same_texts { (lent.new.own ≡ lent.old.own) × (lent.new.home ≡ lent.old.home) }
-    ensures same_reference { lent.new.globals.ghost_name ≡ lent.old.globals.ghost_name }
-    ensures part { me.new.part ≡ me.old.part }
+/// What was planned: the access that it asks for, or how it has ended.
+fn planned_of(outcome: Outcome, access: Option<Access>) -> Planned
+    ensures { result ≡ option_map_or Planned.Ask access (Planned.Done outcome) }
 {
-    let row = found.unit.row;
-    if is_still(row) {
-        return Ok(Planned::Done(execute_still(me, lent, found)));
+    match access {
+        Some(access) => Planned::Ask(access),
+        None => Planned::Done(outcome),
     }
-    if row == rows::DEFFN_MARKED {
-        return Ok(Planned::Done(take_args(me, lent, found)?));
-    }
-    plan_asked(alloc, me, lent, found)
 }
 
 /// What a statement plans that was found on a line.
@@ -285,7 +250,9 @@ fn plan_unit(
     if let Some(access) = asked_access(found.unit.row, found.unit.bytes, me) {
         return Ok(Planned::Ask(access));
     }
-    plan_allowed(alloc, me, lent, found)
+    let mut access = None;
+    let outcome = execute_allowed(alloc, me, lent, found, &mut access)?;
+    Ok(planned_of(outcome, access))
 }
 
 /// What a statement plans that its caller has found, over what is lent.

@@ -15,5 +15,6 @@ pub mod Sound
 pub mod Spares
 pub mod Loans
 pub mod Naming
+pub mod NameWords
 pub mod Giving
 pub mod Entries

@@ -1,7 +1,12 @@
 -- Who holds names, in rows: one name is given up, or another is taken for it.
-use Rattle.std.specs.Prelude.{ℕ, List, Option, Some, None, if◌then◌else◌}
+use Rattle.std.specs.Prelude.{◌≡◌, ◌<◌, ℕ, List, length, get_or, Option, Some, None, if◌then◌else◌}
 use Rattle.b2_access.specs.AccessRows.{is_held_by}
 use Rattle.b2_access.specs.Rows.{NameRows, device_row, name_row, with_device_row, with_name_row}
+
+-- what the eight bytes of a name are
+pub record AreEight (bs : List ℕ) : Type 0 where
+  pub eight : length bs ≡ 8
+  pub bytes : (i : ℕ) → get_or bs i 0 < 256
 
 -- who holds a name, which is there always
 abbrev pub holding : List ℕ → NameRows → Option (Option ℕ)

@@ -3,6 +3,8 @@ ghost use Rattle.std.specs.Prelude.{◌≡◌, ℕ, Bool, [], ◌∷◌, ◌++�
 ghost use Rattle.std.specs.Map.{lookup};
 ghost use Rattle.std.specs.Option.{option_copied_mut};
 ghost use Rattle.std.specs.Borrow.{sem};
+ghost use Rattle.std.specs.Int.{w64, from_be_bytes};
+ghost use Rattle.b2_store.specs.Names.{AreEight};
 
 use b2_base::{Addr, Name8, NoMemory, Part, Term};
 use std::alloc::Global;
@@ -48,13 +50,22 @@ impl Key for Addr {
     }
 }
 
+/// The bytes of a name as one word, by which names are compared.
+fn word_of(name: &Name8) -> u64
+    ensures word { result ≡ from_be_bytes w64 name.now }
+    ensures whole { AreEight name.now }
+{
+    u64::from_be_bytes(name.bytes())
+}
+
 impl Key for Name8 {
     ghost use Rattle.std.specs.Str.{bytes_eq};
 
     ghost found_by = { λ key k. bytes_eq k key };
 
+    #[tactic(auto, using(crate::proofs::NameWords::words_tell))]
     fn finds(self, other: Name8) -> bool {
-        other == self
+        word_of(&other) == word_of(&self)
     }
 }
 

@@ -1,18 +1,34 @@
-use Rattle.std.proofs.Common.{◌∙◌, sym, inl, inr}
-use Rattle.b2_machine.specs.Running.{texts_seen}
-use Rattle.b2_machine.proofs.Passing.{whole_where_gone, whole_where_opened, whole_where_used}
+use Rattle.std.proofs.Common.{◌∙◌, sym, refl, arith}
+use Rattle.b2_machine.specs.Statements.{texts_seen}
+use Rattle.b2_machine.specs.declared.statements.Opening.TheVariants as opening
+use Rattle.b2_machine.proofs.Begins.{opened_so}
+use Rattle.b2_machine.proofs.Passing.{ends_opened, ends_there, led_none, more_lead, none_lead}
 use Rattle.b2_machine.proofs.running.run_on.Goals as goal
 
-pub returns-then-is_some-clause-ran : goal.returns-then-is_some-clause-ran
-returns-then-is_some-clause-ran g c =
+pub loop-init : goal.loop-init
+loop-init g c =
     let ways = g.L.Language.ways c.args.devices.now in
     let s = texts_seen c.args.own.now c.args.text.now in
-    let over = c.in_ok-ran.ensures.ran c.args.devices.now in
-    elim c.then-is_some.either [
-      | inl e ↦ whole_where_opened ways c.args.home s c.args.left c.args.me.now c.run_over.new.me c.in_ok-ran.ran over (sym c.is_some.ensures ∙ e)
-      | inr e ↦ whole_where_used ways c.args.home s c.args.left c.args.me.now c.run_over.new.me c.in_ok-ran.ran over e.1
-    ]
+    record {
+      lead = none_lead ways c.args.home s c.args.me.now;
+      led = led_none ways c.args.home s c.args.me.now;
+      counted = refl;
+      few = omega arith;
+      none = c.requires.empty;
+      part = refl;
+    }
 
-pub returns-in_default-clause-ran : goal.returns-in_default-clause-ran
-returns-in_default-clause-ran g c =
-    whole_where_gone (g.L.Language.ways c.args.devices.now) c.args.home (texts_seen c.args.own.now c.args.text.now) c.args.left c.args.me.now c.run_over.new.me c.in_ok-ran.ran (c.in_ok-ran.ensures.ran c.args.devices.now) (sym c.place_in.ensures ∙ c.in_default.is)
+pub loop-preserved : goal.loop-preserved
+loop-preserved g c =
+    let ways = g.L.Language.ways c.args.devices.now in
+    let s = texts_seen c.args.own.now c.args.text.now in
+    let opens = opened_so ways c.in-Some.place c.loop.me c.open_over.new.me s c.open_over.new.access c.in_ok-opening.opening opening.Leads c.in-Leads.is c.in_ok-opening.ensures.opened in
+    let more = more_lead ways c.args.home s c.loop.steps c.args.me.now c.loop.me c.open_over.new.me c.loop.invariant.lead c.loop.invariant.led c.in-Some.place c.open_over.new.access (sym c.place_in.ensures ∙ c.in-Some.is) opens in
+    record {
+      lead = more.0;
+      led = more.1;
+      counted = omega arith;
+      few = omega arith;
+      none = opens.2;
+      part = c.in_ok-opening.ensures.part ∙ c.loop.invariant.part;
+    }

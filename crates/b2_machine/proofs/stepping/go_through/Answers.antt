@@ -3,26 +3,47 @@ use Rattle.std.proofs.Common.{ap, sym, ◌∙◌}
 use Rattle.b2_access.specs.declared.lending.At.{At}
 use Rattle.b2_access.specs.declared.lending.At.TheVariants as at
 use Rattle.b2_access.specs.declared.private.Private.{Private}
-use Rattle.b2_machine.specs.Statements.{Begun}
-use Rattle.b2_machine.specs.Step.{carries_out, executes_by, executes_over, goes_through, seen_by, texts_lent}
-use Rattle.b2_machine.proofs.Begins.{began_so, executed_over, wants_so}
+use Rattle.b2_machine.specs.Endings.{counts}
+use Rattle.b2_machine.specs.Step.{asks_and_finishes, by_itself, executes_by, executes_over, seen_by}
+use Rattle.b2_machine.specs.declared.ends.Stepped.{Stepped}
+use Rattle.b2_machine.specs.declared.statements.Opening.TheVariants as opening
+use Rattle.b2_machine.specs.declared.statements.Progress.TheVariants as progress
+use Rattle.b2_machine.proofs.Begins.{asks_so, executed_over, goes_as_begun, opened_so}
 use Rattle.b2_machine.proofs.Results.{ok_map}
 use Rattle.b2_machine.proofs.stepping.go_through.Goals as goal
 
--- over texts alone
-pub returns-in-Began-clause-ended : goal.returns-in-Began-clause-ended
-returns-in-Began-clause-ended g c before m part opens is_lent =
+-- it has ended over texts alone
+pub returns-in-Leads-clause-ended : goal.returns-in-Leads-clause-ended
+returns-in-Leads-clause-ended g c before m part opens is_lent =
+    let shared = g.S.Shared in
+    let ways = g.L.Language.ways c.args.d.now in
+    let p = c.args.place in
+    let opened = opened_so ways p before c.args.me.now (seen_by before.part p.home at.None (shared.store m)) c.args.access.now c.args.opening opening.Leads c.in-Leads.is opens in
+    ap (λ (e : Stepped). by_itself shared.store shared.serving shared.lending (record { me = c.args.me.now; end = e }) (shared.meaning c.args.s.now)) c.counts.ensures
+    ∙ goes_as_begun ways shared.store shared.serving shared.lending p before c.args.me.now m (shared.meaning c.args.s.now) (progress.Ended counts) is_lent opened.0 opened.1
+
+pub returns-in-Ends-clause-ended : goal.returns-in-Ends-clause-ended
+returns-in-Ends-clause-ended g c before m part opens is_lent =
+    let shared = g.S.Shared in
+    let ways = g.L.Language.ways c.args.d.now in
+    let p = c.args.place in
+    let opened = opened_so ways p before c.args.me.now (seen_by before.part p.home at.None (shared.store m)) c.args.access.now c.args.opening (opening.Ends c.in-Ends.end) c.in-Ends.is opens in
+    goes_as_begun ways shared.store shared.serving shared.lending p before c.args.me.now m (shared.meaning c.args.s.now) (progress.Ended c.in-Ends.end) is_lent opened.0 opened.1
+
+-- or asks for an access
+pub returns-in-Some-clause-ended : goal.returns-in-Some-clause-ended
+returns-in-Some-clause-ended g c before m part opens is_lent =
     let shared = g.S.Shared in
     let ways = g.L.Language.ways c.args.d.now in
     let me = c.args.me.now in
     let p = c.args.place in
-    let began = c.in-Began.progress in
-    let opened = began_so ways p before me (seen_by before.part p.home at.None (shared.store m)) c.args.opening began c.in-Began.is opens in
-    ok_map c.carry_out.result _ _ (λ e is. is
-    ∙ ap (λ (n : ℕ). carries_out ways shared.store shared.serving shared.lending n began p at.None me (shared.meaning c.args.s.now)) part
-    ∙ ap (λ (n : shared.Meaning). goes_through ways shared.store shared.serving shared.lending before.part (record { me = me; progress = began }) p at.None n) is_lent
-    ∙ ap (λ (b : Begun). goes_through ways shared.store shared.serving shared.lending before.part b p at.None (texts_lent shared.store shared.serving shared.lending before.part p.home m)) opened.1
-    ∙ sym (ap (λ (x : At). executes_by ways shared.store shared.serving shared.lending x p before m) opened.0)) (c.carry_out.ensures.ended c.args.d.now)
+    let b = c.in-Asks.builder in
+    let w = c.in-Asks.onward in
+    let x = c.in-Some.asked in
+    let opened = asks_so ways p before me (seen_by before.part p.home at.None (shared.store m)) c.args.access.now c.args.opening x b w c.in-Asks.is c.in-Some.is opens in
+    ok_map c.ask_and_finish.result _ _ (λ e is. is
+    ∙ ap (λ (n : ℕ). asks_and_finishes ways shared.store shared.serving shared.lending n b x w p at.None me (shared.meaning c.args.s.now)) part
+    ∙ goes_as_begun ways shared.store shared.serving shared.lending p before me m (shared.meaning c.args.s.now) (progress.Asks x b w) is_lent opened.0 opened.1) (c.ask_and_finish.ensures.ended c.args.d.now)
 
 -- and then over the variables that it wants
 pub returns-in-Wants-clause-ended : goal.returns-in-Wants-clause-ended
@@ -32,7 +53,7 @@ returns-in-Wants-clause-ended g c before m part opens is_lent =
     let me = c.args.me.now in
     let p = c.args.place in
     let whose = c.in-Wants.whose in
-    let opened = wants_so ways p before me (seen_by before.part p.home at.None (shared.store m)) c.args.opening whose c.in-Wants.is opens in
+    let opened = opened_so ways p before me (seen_by before.part p.home at.None (shared.store m)) c.args.access.now c.args.opening (opening.Wants whose) c.in-Wants.is opens in
     ok_map c.execute_over.result _ _ (λ e is. is
     ∙ ap (λ (x : Private). executes_over ways shared.store shared.serving shared.lending whose p x (shared.meaning c.args.s.now)) opened.2
     ∙ ap (λ (n : shared.Meaning). executes_over ways shared.store shared.serving shared.lending whose p before n) is_lent
