@@ -218,23 +218,18 @@ impl Atoms {
     }
 
     /// How many units it has: statements, where one that follows THEN, ELSE or ERROR is a unit of its own.
-    #[tactic(auto, using(crate::proofs::lines::Units::few_units))]
     pub fn units(&self) -> usize
         ensures count { result ≡ length (units_of self.now) }
         ensures few { result ≤ 255 }
     {
-        let units = self.units.as_slice();
-        units.len()
+        self.lend().units()
     }
 
     /// A cursor over the k-th unit, counted from 0, None exactly where there are at most k units.
     pub fn unit(&self, k: usize) -> Option<Cursor<'_>>
         ensures { result ≡ option_map (λ u. u.bytes) (slice_get (units_of self.now) k) }
     {
-        match span_at(&self.units, k) {
-            Some(span) => Some(Cursor::over(span.unit_bytes(&self.bytes))),
-            None => None,
-        }
+        self.lend().unit(k)
     }
 
     /// The k-th unit, with its row, what it uses, and whether it is the last.
@@ -247,23 +242,14 @@ impl Atoms {
         ensures last { IfSome result (λ u. u.is_last ≡ (k + 1 == length (units_of self.now))) }
         ensures few { IfSome result (λ u. k < 255) }
     {
-        let count = self.units();
-        match span_at(&self.units, k) {
-            Some(span) => Some(FoundUnit {
-                cursor: Cursor::over(span.unit_bytes(&self.bytes)),
-                row: span.unit_row(),
-                uses: span.unit_uses(),
-                is_last: k + 1 == count,
-            }),
-            None => None,
-        }
+        self.lend().find_unit(k)
     }
 
     /// The first unit after the k-th that follows a `:`, or the number of units where there is none.
     pub fn skip(&self, k: usize) -> usize
         ensures { result ≡ further_unit k 0 (units_of self.now) }
     {
-        further_unit(&self.units, k)
+        self.lend().skip(k)
     }
 }
 

@@ -1,5 +1,5 @@
 -- What is left of one number by another.
-use Rattle.std.proofs.Common.{◌≡◌, ℕ, zero, suc, ◌+◌, ◌-◌, ◌*◌, ◌/◌, ◌%◌, ◌^◌, ◌<◌, ◌≤◌, pos, negsuc, neg_ℤ, ◌-ℤ◌, ◌*ℤ◌, Bool, true, false, not, Result, Ok, sym, refl, ap, ap₂, ◌∙◌, arith, lit<, pow-add, mul_assoc, mul_comm, mul-pos, zero-mul, ne_eqb, mod-lt, div-add-mod', add-mul, one-mul, mod-eq_of_lt, add-sub_of_le, ⊎_elim, ◌⊎◌}
+use Rattle.std.proofs.Common.{◌≡◌, ℕ, zero, suc, ◌+◌, ◌-◌, ◌*◌, ◌/◌, ◌%◌, ◌^◌, ◌<◌, ◌≤◌, pos, negsuc, neg_ℤ, ◌-ℤ◌, ◌*ℤ◌, Bool, true, false, not, Result, Ok, Err, is_err, sym, refl, ap, ap₂, ◌∙◌, arith, lit<, pow-add, mul_assoc, mul_comm, mul-pos, zero-mul, ne_eqb, mod-lt, div-add-mod', add-mul, one-mul, mod-eq_of_lt, add-sub_of_le, ⊎_elim, ◌⊎◌}
 use Rattle.std.proofs.lemmas.Int.{ints}
 use Rattle.std.proofs.lemmas.Nat.{mul-mod_first}
 use native.Mathlib.Nat.{lt-div-mul-add, zero-mod, eq_of_mul-eq-mul_right}
@@ -19,6 +19,17 @@ pub times-step : (mode : Mode) (a p q : Number) (n i : ℕ) → i < n → produc
 times-step mode a p q n i below e =
     let next : n - i ≡ suc (n - (i + 1)) = omega arith in
     ap (λ k. times mode k a p) next ∙ ap (λ r. onwards r (times mode (n - (i + 1)) a)) e
+
+-- a code goes through what follows
+refused : (r : Result Number ℕ) (f : Number → Result Number ℕ) → is_err r ≡ true → onwards r f ≡ r
+refused (Ok x) f h = cc
+refused (Err code) f h = refl
+
+-- A product that is a code is what the whole comes to.
+pub times-refused : (mode : Mode) (a p : Number) (r : Result Number ℕ) (n i : ℕ) → i < n → r ≡ product_of mode p a → is_err r ≡ true → times mode (n - i) a p ≡ r
+times-refused mode a p r n i below e coded =
+    let next : n - i ≡ suc (n - (i + 1)) = omega arith in
+    ap (λ k. times mode k a p) next ∙ ap (λ s. onwards s (times mode (n - (i + 1)) a)) (sym e) ∙ refused r _ coded
 
 -- Some places at a time leave the same rest.
 pub rest-step : (r s l y : ℕ) → s ≤ l → r * 10 ^ s % y * 10 ^ (l - s) % y ≡ r * 10 ^ l % y

@@ -1,5 +1,6 @@
 pub mod Number
 pub mod Spelling
+pub mod OneWord
 pub mod Rounding
 pub mod Arithmetic
 pub mod Lanes

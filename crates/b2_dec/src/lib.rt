@@ -26,12 +26,12 @@ pub use laws::{
     law_cuts_down, law_has_limits, law_has_one_spelling, law_nothing_is_left,
     law_rounds_to_nearest, law_sums_commute,
 };
-pub use number::{Dec, Mode};
+pub use number::{Dec, Mode, NumberOrCode};
 pub use order::{abs, cmp, sgn, whole};
 pub use packing::{pack, unpack, unpacked};
-pub use powers::{power, sqr};
-pub use products::{div, mul};
+pub use powers::{power, power_or_code, sqr};
+pub use products::{div, mul, product_or_code, quotient_or_code};
 pub use rests::{modulo, round_to};
-pub use rounding::{COEFFICIENT_LIMIT, round_exact, round_whole_part};
-pub use sums::{add, sub};
+pub use rounding::{COEFFICIENT_LIMIT, round_exact, round_short, round_whole_part};
+pub use sums::{add, difference_or_code, sub, sum_or_code};
 pub use values::{Bytes, Kind, KindList, Value, ValueList};

@@ -1,9 +1,10 @@
 // A number of thirteen digits.
-ghost use Rattle.std.specs.Prelude.{◌≡◌, ◌-ℤ◌, pos, ◌*◌, ◌^◌, ◌<◌, ◌≤◌, ◌==◌, Ok, false};
+ghost use Rattle.std.specs.Prelude.{◌≡◌, ◌-ℤ◌, pos, ◌*◌, ◌^◌, ◌<◌, ◌≤◌, ◌==◌, Ok, Err, is_err, true, false};
 ghost use Rattle.b2_dec.specs.Rounding.{rnd};
 ghost use Rattle.b2_dec.specs.Number.{zero_number, opposite, value, IsNumber};
 
 use crate::rounding::ten_to;
+use b2_base::Code;
 use std::marker::Model;
 
 /// How a result with more than thirteen digits becomes a number.
@@ -30,6 +31,9 @@ const SIGN: u64 = 1 << 52;
 
 /// The word of zero.
 const ZERO: u64 = 99 * PLACE;
+
+/// What a code counts above its number in a word.
+const CODED: u64 = 1 << 63;
 
 impl Model for Dec {
     ghost use Rattle.b2_dec.specs.Number.{Number};
@@ -139,5 +143,91 @@ impl Dec {
         ensures { result ≡ pos self.place -ℤ pos 99 }
     {
         (self.place() as i32 - 99) as i8
+    }
+}
+
+/// A number, or a code, in one word. Contracts see it as a `Result`.
+#[derive(Clone, Copy)]
+pub struct NumberOrCode {
+    /// The word of a number, or a code's number above every word of a number.
+    word: u64,
+}
+
+impl Model for NumberOrCode {
+    ghost use Rattle.std.specs.Prelude.{ℕ, Result};
+    ghost use Rattle.b2_dec.specs.Number.{Number};
+
+    ghost Value = { Result Number ℕ };
+
+    ghost use Rattle.b2_dec.specs.OneWord.{one_seen, IsOneWord, one_inside, one_inside-seen};
+
+    ghost view = { one_seen };
+
+    ghost invariant = { IsOneWord };
+
+    ghost inverse = { one_inside };
+
+    ghost inverse_ok = { one_inside-seen };
+}
+
+impl NumberOrCode {
+    /// A number.
+    pub fn number(x: Dec) -> NumberOrCode
+        ensures { result ≡ Ok x }
+    {
+        NumberOrCode { word: x.word }
+    }
+
+    /// A code.
+    pub fn code(code: Code) -> NumberOrCode
+        ensures { result ≡ Err code }
+    {
+        NumberOrCode {
+            word: CODED + u64::from(code.number()),
+        }
+    }
+
+    /// A number or a code.
+    pub fn of(answer: Result<Dec, Code>) -> NumberOrCode
+        ensures { result ≡ answer }
+    {
+        match answer {
+            Ok(x) => NumberOrCode::number(x),
+            Err(code) => NumberOrCode::code(code),
+        }
+    }
+
+    /// Whether it is a code.
+    pub fn is_code(self) -> bool
+        ensures { result ≡ is_err self }
+    {
+        self.word >= CODED
+    }
+
+    /// The number that it is.
+    pub fn get(self) -> Dec
+        requires { is_err self ≡ false }
+        ensures { self ≡ Ok result }
+    {
+        Dec { word: self.word }
+    }
+
+    /// The code that it is.
+    pub fn get_code(self) -> Code
+        requires { is_err self ≡ true }
+        ensures { self ≡ Err result }
+    {
+        Code::known((self.word - CODED) as u8)
+    }
+
+    /// The number, or the code.
+    pub fn result(self) -> Result<Dec, Code>
+        ensures { result ≡ self }
+    {
+        if self.is_code() {
+            Err(self.get_code())
+        } else {
+            Ok(self.get())
+        }
     }
 }

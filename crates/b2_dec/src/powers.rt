@@ -3,8 +3,8 @@ ghost use Rattle.std.specs.Prelude.{◌≡◌, ◌*◌, IfOk, IsOk, false};
 ghost use Rattle.b2_dec.specs.Laws.{IsRoot};
 ghost use Rattle.b2_dec.specs.Arithmetic.{one_number, times, power_of, root_of};
 
-use crate::number::{Dec, Mode};
-use crate::products::mul;
+use crate::number::{Dec, Mode, NumberOrCode};
+use crate::products::product_or_code;
 use crate::rounding::{round_whole_part, ten_to};
 use b2_base::Code;
 use b2_base::codes::{C63_ZERO_BY_ZERO, C66_ROOT};
@@ -14,24 +14,32 @@ use b2_base::codes::{C63_ZERO_BY_ZERO, C66_ROOT};
 pub fn power(a: Dec, n: u8, m: Mode) -> Result<Dec, Code>
     ensures { result ≡ power_of m a n }
 {
+    power_or_code(a, n, m).result()
+}
+
+/// The power, or the code that `power` gives, in one word.
+pub fn power_or_code(a: Dec, n: u8, m: Mode) -> NumberOrCode
+    ensures { result ≡ power_of m a n }
+{
     if a.is_zero() && n == 0 {
-        return Err(Code::known(C63_ZERO_BY_ZERO));
+        return NumberOrCode::code(Code::known(C63_ZERO_BY_ZERO));
     }
     multiplied(a, n, m)
 }
 
 /// 1 multiplied `n` times by a number.
-fn multiplied(a: Dec, n: u8, mode: Mode) -> Result<Dec, Code>
+fn multiplied(a: Dec, n: u8, mode: Mode) -> NumberOrCode
     ensures { result ≡ times mode n a one_number }
 {
     let mut product = Dec::ending_at(false, 1_000_000_000_000, 99);
     for _ in 0..n {
-        match mul(product, a, mode) {
-            Ok(next) => product = next,
-            Err(code) => return Err(code),
+        let next = product_or_code(product, a, mode);
+        if next.is_code() {
+            return next;
         }
+        product = next.get();
     }
-    Ok(product)
+    NumberOrCode::number(product)
 }
 
 /// The greatest number whose square isn't above this one; C66 for a number below zero.

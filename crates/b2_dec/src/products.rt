@@ -2,7 +2,7 @@
 ghost use Rattle.std.specs.Prelude.{◌≡◌, ◌*◌, ◌/◌, ◌<◌, ◌==◌};
 ghost use Rattle.b2_dec.specs.Arithmetic.{product_of, quotient_of};
 
-use crate::number::{Dec, Mode};
+use crate::number::{Dec, Mode, NumberOrCode};
 use crate::rounding::round_part;
 use b2_base::Code;
 use b2_base::codes::{C62_ZERO_DIVISOR, C63_ZERO_BY_ZERO};
@@ -14,9 +14,16 @@ const FIVES: u64 = 48_828_125;
 pub fn mul(a: Dec, b: Dec, m: Mode) -> Result<Dec, Code>
     ensures { result ≡ product_of m a b }
 {
+    product_or_code(a, b, m).result()
+}
+
+/// The rounded product, or C60 or C61, in one word.
+pub fn product_or_code(a: Dec, b: Dec, m: Mode) -> NumberOrCode
+    ensures { result ≡ product_of m a b }
+{
     let (x, y) = (a.coefficient(), b.coefficient());
     if x == 0 || y == 0 {
-        return Ok(Dec::zero());
+        return NumberOrCode::number(Dec::zero());
     }
     let neg = a.is_negative() != b.is_negative();
     round_part(neg, product_part(x, y), a.place() + b.place() + 11, m)
@@ -39,6 +46,13 @@ fn product_part(x: u64, y: u64) -> u64
 pub fn div(a: Dec, b: Dec, m: Mode) -> Result<Dec, Code>
     ensures { result ≡ quotient_of m a b }
 {
+    quotient_or_code(a, b, m).result()
+}
+
+/// The rounded quotient, or the code that `div` gives, in one word.
+pub fn quotient_or_code(a: Dec, b: Dec, m: Mode) -> NumberOrCode
+    ensures { result ≡ quotient_of m a b }
+{
     let (x, y) = (a.coefficient(), b.coefficient());
     if y == 0 {
         let code = if x == 0 {
@@ -46,10 +60,10 @@ pub fn div(a: Dec, b: Dec, m: Mode) -> Result<Dec, Code>
         } else {
             C62_ZERO_DIVISOR
         };
-        return Err(Code::known(code));
+        return NumberOrCode::code(Code::known(code));
     }
     if x == 0 {
-        return Ok(Dec::zero());
+        return NumberOrCode::number(Dec::zero());
     }
     let neg = a.is_negative() != b.is_negative();
     let whole = x as u128 * 100_000_000_000_000 / y as u128;

@@ -29,9 +29,9 @@ pub fn modulo(a: Dec, b: Dec, m: Mode) -> Result<Dec, Code>
     }
     let rest = rest_of_raised(x, a.place() - b.place(), y);
     if same || rest == 0 {
-        return round_short(b.is_negative(), rest, b.place() + 111, m);
+        return round_short(b.is_negative(), rest, b.place() + 111, m).result();
     }
-    round_short(b.is_negative(), y - rest, b.place() + 111, m)
+    round_short(b.is_negative(), y - rest, b.place() + 111, m).result()
 }
 
 /// What `y` leaves of `x · 10 ^ places`.
@@ -86,4 +86,5 @@ fn nearest_multiple(a: Dec, last: u32) -> Result<Dec, Code>
         last + 111,
         Mode::Cut,
     )
+    .result()
 }

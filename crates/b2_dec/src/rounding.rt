@@ -3,7 +3,7 @@ ghost use Rattle.std.specs.Prelude.{◌≡◌, ℕ, ◌+◌, ◌*◌, ◌^◌, �
 ghost use Rattle.b2_dec.specs.Rounding as spec;
 ghost use Rattle.b2_dec.specs.Rounding.{rnd, IsWholePart};
 
-use crate::number::{Dec, Mode};
+use crate::number::{Dec, Mode, NumberOrCode};
 use b2_base::Code;
 use b2_base::codes::{C60_UNDERFLOW, C61_OVERFLOW};
 
@@ -98,22 +98,22 @@ fn wide_ten_to(k: u32) -> u128
 
 /// The number with these thirteen digits, whose last one stands at a place counted from 10^-222; C60 and C61 where the
 /// exponent is too small or too large.
-fn in_range(neg: bool, coef: u64, place: u32) -> Result<Dec, Code>
+fn in_range(neg: bool, coef: u64, place: u32) -> NumberOrCode
     requires least { 1000000000000 ≤ coef }
     requires digits { coef < 10000000000000 }
     ensures { result ≡ spec.in_range neg coef place }
 {
     if place < 111 {
-        return Err(Code::known(C60_UNDERFLOW));
+        return NumberOrCode::code(Code::known(C60_UNDERFLOW));
     }
     if place > 309 {
-        return Err(Code::known(C61_OVERFLOW));
+        return NumberOrCode::code(Code::known(C61_OVERFLOW));
     }
-    Ok(Dec::ending_at(neg, coef, (place - 111) as u8))
+    NumberOrCode::number(Dec::ending_at(neg, coef, (place - 111) as u8))
 }
 
 /// The same where rounding may have led to 10^13.
-fn after_carry(neg: bool, coef: u64, place: u32) -> Result<Dec, Code>
+fn after_carry(neg: bool, coef: u64, place: u32) -> NumberOrCode
     requires least { 1000000000000 ≤ coef }
     requires digits { coef ≤ 10000000000000 }
     requires highest { place < 2 ^ 31 }
@@ -156,7 +156,7 @@ fn wide_whole_by(mode: Mode, m: u128, dropped: u32) -> u128
 
 /// What every fraction becomes whose whole part is `m` in units of `10 ^ at`, counted from 10^-222, and has this many digits
 /// more than thirteen.
-fn round_by(neg: bool, m: u64, dropped: u32, at: u32, mode: Mode) -> Result<Dec, Code>
+fn round_by(neg: bool, m: u64, dropped: u32, at: u32, mode: Mode) -> NumberOrCode
     requires some { 1 ≤ dropped }
     requires few { dropped ≤ 3 }
     requires least { 10 ^ (12 + dropped) ≤ m }
@@ -169,7 +169,7 @@ fn round_by(neg: bool, m: u64, dropped: u32, at: u32, mode: Mode) -> Result<Dec,
 
 /// What every fraction becomes whose whole part is `m` in units of `10 ^ at`, counted from 10^-222, for fourteen to sixteen
 /// digits.
-pub(crate) fn round_part(neg: bool, m: u64, at: u32, mode: Mode) -> Result<Dec, Code>
+pub(crate) fn round_part(neg: bool, m: u64, at: u32, mode: Mode) -> NumberOrCode
     requires digits { 10000000000000 ≤ m }
     requires fits { m < 10 ^ 16 }
     requires near { at < 1000 }
@@ -186,7 +186,7 @@ pub(crate) fn round_part(neg: bool, m: u64, at: u32, mode: Mode) -> Result<Dec, 
 }
 
 /// What the exact number `m · 10 ^ at`, counted from 10^-222, becomes, for at most sixteen digits.
-pub(crate) fn round_short(neg: bool, m: u64, at: u32, mode: Mode) -> Result<Dec, Code>
+pub fn round_short(neg: bool, m: u64, at: u32, mode: Mode) -> NumberOrCode
     requires fits { m < 10 ^ 16 }
     requires low { 25 ≤ at }
     requires near { at < 1000 }
@@ -196,7 +196,7 @@ pub(crate) fn round_short(neg: bool, m: u64, at: u32, mode: Mode) -> Result<Dec,
         return round_part(neg, m, at, mode);
     }
     if m == 0 {
-        return Ok(Dec::zero());
+        return NumberOrCode::number(Dec::zero());
     }
     let missing = 12 - m.ilog10();
     in_range(neg, m * ten_to(missing), at - missing)
@@ -210,11 +210,11 @@ pub fn round_whole_part(neg: bool, m: u128, at: u32, mode: Mode) -> Result<Dec, 
     ensures { (n d : ℕ) → 0 < d → IsWholePart m at n d → result ≡ rnd mode neg n d }
 {
     if m < SHORT_LIMIT {
-        return round_part(neg, m as u64, at, mode);
+        return round_part(neg, m as u64, at, mode).result();
     }
     let dropped = m.ilog10() - 12;
     let coef = wide_whole_by(mode, m, dropped);
-    after_carry(neg, coef as u64, at + dropped)
+    after_carry(neg, coef as u64, at + dropped).result()
 }
 
 /// What the exact number `m · 10 ^ at`, counted from 10^-222, becomes.
@@ -225,7 +225,7 @@ pub fn round_exact(neg: bool, m: u128, at: u32, mode: Mode) -> Result<Dec, Code>
     ensures { (n d : ℕ) → 0 < d → m * (10 ^ at * d) ≡ n * 10 ^ 222 → result ≡ rnd mode neg n d }
 {
     if m < SHORT_LIMIT {
-        round_short(neg, m as u64, at, mode)
+        round_short(neg, m as u64, at, mode).result()
     } else {
         round_whole_part(neg, m, at, mode)
     }

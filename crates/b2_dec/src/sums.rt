@@ -2,7 +2,7 @@
 ghost use Rattle.std.specs.Prelude.{◌≡◌, ◌+◌, ◌*◌, ◌/◌, ◌^◌, ◌<◌, ◌≤◌};
 ghost use Rattle.b2_dec.specs.Arithmetic.{sum_of, difference_of};
 
-use crate::number::{Dec, Mode};
+use crate::number::{Dec, Mode, NumberOrCode};
 use crate::rounding::{round_part, round_short, ten_to};
 use b2_base::Code;
 
@@ -10,12 +10,26 @@ use b2_base::Code;
 pub fn add(a: Dec, b: Dec, m: Mode) -> Result<Dec, Code>
     ensures { result ≡ sum_of m a b }
 {
+    sum_or_code(a, b, m).result()
+}
+
+/// The rounded difference; C60 and C61 where it is too small or too large.
+pub fn sub(a: Dec, b: Dec, m: Mode) -> Result<Dec, Code>
+    ensures { result ≡ difference_of m a b }
+{
+    difference_or_code(a, b, m).result()
+}
+
+/// The rounded sum, or C60 or C61, in one word.
+pub fn sum_or_code(a: Dec, b: Dec, m: Mode) -> NumberOrCode
+    ensures { result ≡ sum_of m a b }
+{
     let (nothing, no_change) = (a.is_zero(), b.is_zero());
     if nothing {
-        return Ok(b);
+        return NumberOrCode::number(b);
     }
     if no_change {
-        return Ok(a);
+        return NumberOrCode::number(a);
     }
     if a.place() >= b.place() {
         sum(a, b, m)
@@ -24,15 +38,15 @@ pub fn add(a: Dec, b: Dec, m: Mode) -> Result<Dec, Code>
     }
 }
 
-/// The rounded difference; C60 and C61 where it is too small or too large.
-pub fn sub(a: Dec, b: Dec, m: Mode) -> Result<Dec, Code>
+/// The rounded difference, or C60 or C61, in one word.
+pub fn difference_or_code(a: Dec, b: Dec, m: Mode) -> NumberOrCode
     ensures { result ≡ difference_of m a b }
 {
-    add(a, b.opposite(), m)
+    sum_or_code(a, b.opposite(), m)
 }
 
 /// The sum of two numbers, the first of which has no lower place.
-fn sum(high: Dec, low: Dec, mode: Mode) -> Result<Dec, Code>
+fn sum(high: Dec, low: Dec, mode: Mode) -> NumberOrCode
     requires some { 1000000000000 ≤ high.coef }
     requires other { 1000000000000 ≤ low.coef }
     requires digits { low.coef < 10000000000000 }
@@ -48,7 +62,7 @@ fn sum(high: Dec, low: Dec, mode: Mode) -> Result<Dec, Code>
 }
 
 /// The sum of two numbers that are at most one place apart, in units of the lower place.
-fn near_sum(high: Dec, low: Dec, apart: u32, mode: Mode) -> Result<Dec, Code>
+fn near_sum(high: Dec, low: Dec, apart: u32, mode: Mode) -> NumberOrCode
     requires apart { high.place ≡ low.place + apart }
     requires near { apart ≤ 1 }
     ensures { result ≡ sum_of mode high low }
@@ -76,7 +90,7 @@ fn lowered(coef: u64, places: u32) -> u64
 }
 
 /// The sum of two numbers that are further apart: what the second one has in two more places than the first settles it.
-fn far_sum(high: Dec, low: Dec, apart: u32, mode: Mode) -> Result<Dec, Code>
+fn far_sum(high: Dec, low: Dec, apart: u32, mode: Mode) -> NumberOrCode
     requires some { 1000000000000 ≤ high.coef }
     requires other { 1000000000000 ≤ low.coef }
     requires apart { high.place ≡ low.place + apart }

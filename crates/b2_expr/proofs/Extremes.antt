@@ -1,5 +1,5 @@
 -- The numbers of MAX and MIN after the first, by their rows.
-use Rattle.std.proofs.Common.{◌≡◌, ◌<◌, ◌≤◌, ℕ, zero, suc, length, arith, sym, Bool, true, false, ◌==◌, ◌&&◌, if◌then◌else◌, List, [], ◌∷◌, drop, refl, ap, ◌∙◌, subst, Ok, Err}
+use Rattle.std.proofs.Common.{◌≡◌, ◌<◌, ◌≤◌, ℕ, zero, suc, length, arith, sym, Bool, true, false, is_err, ◌==◌, ◌&&◌, if◌then◌else◌, List, [], ◌∷◌, drop, refl, ap, ◌∙◌, subst, Ok, Err}
 use Rattle.std.proofs.lemmas.Bool.Decides.{nat_tests}
 use Rattle.b2_base.specs.Byte as byte
 use Rattle.b2_base.specs.Lexical.{first}
@@ -212,6 +212,10 @@ refused e c code Done = refl
 refused e c code (In n a end) = by_branch e c code a (n == 1) (refused e c code a)
 
 -- a further number, and none
+pub code_refused : (e : Context) (c : ℕ) (r : Answer) (x : Number) (t : Trees) → is_err r ≡ true → extremes e c (r >>= (λ w. Ok (extreme c x w))) t ≡ r
+code_refused e c (Ok w) x t h = cc
+code_refused e c (Err code) x t h = refused e c code t
+
 pub further_on_value : (e : Context) (c : ℕ) (x : Answer) (k : ℕ) (t : Text) → (first t == byte.comma) ≡ true
     → extremes e c x (further_tree (suc k) t) ≡ extremes e c (x >>= (λ v. value e level.Sum (tree_at row.SUM (drop 1 t)) >>= (λ w. Ok (extreme c v w)))) (further_tree k (after_part row.SUM (drop 1 t)))
 unfolding extremes are_further further_tree after_further

@@ -1,12 +1,13 @@
 pub mod Chains
 pub mod Factors
-pub mod Climbs
-pub mod Waits
+pub mod Chained
+pub mod Tails
 pub mod Extremes
 pub mod Operands
 pub mod OperandKinds
 pub mod WrittenNumbers
 pub mod Names
+pub mod PlainNames
 pub mod Pairs
 pub mod Texts
 pub mod Defined

@@ -1,15 +1,13 @@
--- The levels of operators on the rows of the table, and what may still follow a number.
-use Rattle.std.specs.Prelude.{ℕ, ◌&&◌, Bool, true, false, if◌then◌else◌, List, [], ◌∷◌, Option, Some, None}
+-- The levels of operators on the rows of the table.
+use Rattle.std.specs.Prelude.{ℕ, ◌&&◌, Bool, true, false}
 use Rattle.b2_atom.specs.Words.{Text}
 use Rattle.b2_atom.specs.Tree.{Trees}
 use Rattle.b2_atom.specs.declared.rows.TheConstants as row
-use Rattle.b2_rows.specs.Rows.{after_part, is_list, list_at, after_list}
-use Rattle.b2_rows.specs.Chains.{is_operator_of, is_sign, more_row, more_start}
+use Rattle.b2_rows.specs.Rows.{after_part, list_at, after_list}
+use Rattle.b2_rows.specs.Chains.{is_operator_of, more_row, more_start}
 use Rattle.b2_rows.specs.declared.chains.Chain.{Chain}
 use Rattle.b2_rows.specs.declared.chains.Chain.TheVariants as chain
-use Rattle.b2_expr.specs.Answers.{Answer}
-use Rattle.b2_expr.specs.Scope.{Context}
-use Rattle.b2_expr.specs.Value.{item_level, further}
+use Rattle.b2_expr.specs.Value.{item_level}
 use Rattle.b2_expr.specs.declared.operators.Level.{Level}
 use Rattle.b2_expr.specs.declared.operators.Level.TheVariants as level
 
@@ -50,40 +48,3 @@ tail_of l t = after_part (row_of_level (item_level l)) t
 -- whether a byte is an operator of a level
 abbrev pub is_operator : Level → ℕ → Bool
 is_operator l b = is_chain l && is_operator_of (chain_of l) b
-
--- whether a sign may stand before an item of a level
-abbrev pub has_sign : Level → ℕ → Bool
-has_sign level.Power b = false
-has_sign level.Operand b = false
-has_sign l b = is_sign b
-
--- the levels whose operators may still follow an item of a level, where a level is wanted
-abbrev pub spans : Level → Level → List Level
-spans level.Sum level.Power = level.Power ∷ level.Product ∷ level.Sum ∷ []
-spans level.Sum level.Product = level.Product ∷ level.Sum ∷ []
-spans level.Sum level.Sum = level.Sum ∷ []
-spans level.Product level.Power = level.Power ∷ level.Product ∷ []
-spans level.Product level.Product = level.Product ∷ []
-spans level.Factor level.Power = level.Power ∷ []
-spans level.Power level.Power = level.Power ∷ []
-spans w l = []
-
--- the first of some levels that has an operator
-abbrev pub pick : List Level → ℕ → Option Level
-pick [] b = None
-pick (l ∷ ls) b = if is_operator l b then Some l else pick ls b
-
--- what the items of these levels make of a number, one level after the other
-abbrev pub ends : Context → List Level → Answer → Text → Answer
-ends s [] x t = x
-ends s (l ∷ ls) x t = ends s ls (further s l x (list_of l t)) (after_of l t)
-
--- what is left after them
-abbrev pub left_after_levels : List Level → Text → Text
-left_after_levels [] t = t
-left_after_levels (l ∷ ls) t = left_after_levels ls (after_of l t)
-
--- whether their items stand there
-abbrev pub are_lists : List Level → Text → Bool
-are_lists [] t = true
-are_lists (l ∷ ls) t = is_list (more_start (chain_of l)) (more_row (chain_of l)) t && are_lists ls (after_of l t)

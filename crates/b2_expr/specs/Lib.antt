@@ -7,7 +7,6 @@ pub mod Workspace
 pub mod Named
 pub mod Value
 pub mod Levels
-pub mod Unfinished
 pub mod Further
 pub mod Reads
 pub mod Condition

@@ -1,6 +1,7 @@
 -- Variables by their names as they are written.
-use Rattle.std.specs.Prelude.{ℕ, Bool, true, false, drop, Option, Result, Ok, if◌then◌else◌}
+use Rattle.std.specs.Prelude.{ℕ, ◌-◌, Bool, true, false, drop, get_or, Option, Result, Ok, if◌then◌else◌}
 use Rattle.std.specs.FinMap as map
+use Rattle.b2_base.specs.Lexical.{is_digit}
 use Rattle.b2_base.specs.declared.codes.TheConstants.{X77_NO_PARTITION}
 use Rattle.b2_vars.specs.declared.name.Var.{Var}
 use Rattle.b2_vars.specs.Shapes.{cell_at}
@@ -79,3 +80,10 @@ name_leaf name_kind.AlphaReceiver = leaf.AlphaName
 -- what stands after it
 abbrev pub after_name : NameKind → Text → Text
 after_name k t = drop (leaf_width Atoms (name_leaf k) t) t
+
+-- the digit of a plain name counted from 1, 0 where there is none, and how many bytes the name takes
+abbrev pub counted_digit : ℕ → ℕ
+counted_digit b = if is_digit b then b - 47 else 0
+
+abbrev pub plain_width : Text → ℕ
+plain_width t = if is_digit (get_or t 1 0) then 2 else 1

@@ -7,7 +7,6 @@ use Rattle.b2_dec.specs.Arithmetic.{sum_of, difference_of, product_of, quotient_
 use Rattle.b2_dec.specs.declared.number.Mode.{Mode}
 use Rattle.b2_atom.specs.declared.words.TheConstants as word
 use Rattle.b2_expr.specs.Answers.{Answer}
-use Rattle.b2_expr.specs.declared.operators.Waiting.{Waiting}
 
 -- a number to the power of a whole one of at most 255
 abbrev pub raised_by : Mode → Number → Option ℤ → Answer
@@ -30,14 +29,6 @@ joined mode c a b =
 -- a number with `+` or `-` before it
 abbrev pub under_sign : Mode → ℕ → Number → Answer
 under_sign mode c x = if c == byte.minus then difference_of mode zero_number x else Ok x
-
--- what an operator or a sign that waited makes of the number after it
-abbrev pub completed_after : Mode → Option Number → ℕ → Number → Answer
-completed_after mode (Some a) c b = joined mode c a b
-completed_after mode None c b = under_sign mode c b
-
-abbrev pub completed : Mode → Waiting → Number → Answer
-completed mode p x = completed_after mode p.before p.operator x
 
 -- what AND, OR or XOR make of two conditions
 abbrev pub joined_condition : ℕ → Bool → Bool → Bool

@@ -1,14 +1,24 @@
 -- What comes of evaluating along a text.
-use Rattle.std.specs.Prelude.{◌≡◌, ℕ, List, Result, Ok, Err}
+use Rattle.std.specs.Prelude.{◌≡◌, ℕ, ◌-◌, false, List, length, drop, is_err, Result, Ok, Err}
 use Rattle.std.specs.Borrow.{Bor}
 use Rattle.b2_atom.specs.Words.{Text}
-use Rattle.b2_expr.specs.Answers.{TextAnswer, ◌>>=◌}
+use Rattle.b2_expr.specs.Answers.{Answer, TextAnswer, ◌>>=◌}
 use Rattle.b2_expr.specs.Functions.{joined_text}
+use Rattle.b2_expr.specs.declared.found.Found.{Found}
 
 -- a value and what is left of the text, or its code
 abbrev pub Gives : {A : Type 0} → Result A ℕ → Text → Result (A × Bor Text) ℕ → Type 0
 Gives answer rest (Ok p) = (answer ≡ Ok p.0) × (p.1.now ≡ rest)
 Gives answer rest (Err code) = answer ≡ Err code
+
+-- the last bytes of a text, all where there are no more
+abbrev pub last : ℕ → Text → Text
+last n t = drop (length t - n) t
+
+-- a number or a code, and where there is no code how many bytes are left of the text
+pub record Finds (answer : Answer) (rest : Text) (found : Found) : Type 0 where
+  pub number : found.number ≡ answer
+  pub left : is_err found.number ≡ false → found.left ≡ length rest
 
 -- bytes that are put after others and what is left of the text, or a code
 abbrev pub Appends : TextAnswer → Text → List ℕ → List ℕ → Result (Bor Text) ℕ → Type 0

@@ -6,8 +6,9 @@ ghost use Rattle.b2_expr.specs.Condition.{compared_text, compared_numbers, compa
 ghost use Rattle.b2_expr.specs.Reads.{Gives};
 ghost use Rattle.b2_expr.specs.Value.{context};
 
-use crate::evaluate::{alpha, climb};
-use crate::operators::{Level, joined_condition};
+use crate::evaluate::{alpha, sum};
+use crate::found::after_sum;
+use crate::operators::joined_condition;
 use crate::scope::Scope;
 use b2_alpha::compare;
 use b2_atom::relation_width;
@@ -18,6 +19,7 @@ use b2_rows::{Chain, goes_on, is_alpha_at, relation_at};
 
 /// A condition: comparisons joined from the left, all of which are evaluated.
 #[tactic(auto, using(crate::proofs::Comparisons::truth_first, crate::proofs::Comparisons::truth_list, crate::proofs::Comparisons::truth_value, crate::proofs::Comparisons::truth_rest, crate::proofs::Comparisons::on_comparison, crate::proofs::Comparisons::on_list, crate::proofs::Comparisons::on_value, crate::proofs::Comparisons::on_rest, crate::proofs::Comparisons::on_shorter, crate::proofs::Comparisons::off_value, crate::proofs::Comparisons::off_rest, crate::proofs::Comparisons::condition_refused))]
+#[inline(always)]
 pub fn truth<'a>(s: &Scope<'_>, text: &'a [u8]) -> Result<(bool, &'a [u8]), Code>
     requires part { is_part row.CONDITION text.now ≡ true }
     ensures { Gives (truth (context s.now) (tree_at row.CONDITION text.now)) (after_part row.CONDITION text.now) result }
@@ -42,6 +44,7 @@ pub fn truth<'a>(s: &Scope<'_>, text: &'a [u8]) -> Result<(bool, &'a [u8]), Code
 
 /// A comparison of two alpha expressions or of two numeric ones.
 #[tactic(auto, using(crate::proofs::Comparisons::alpha_here, crate::proofs::Comparisons::alpha_gives, crate::proofs::Comparisons::alpha_left, crate::proofs::Comparisons::numeric_here, crate::proofs::Comparisons::numeric_gives, crate::proofs::Comparisons::numeric_left))]
+#[inline(always)]
 fn comparison<'a>(s: &Scope<'_>, text: &'a [u8]) -> Result<(bool, &'a [u8]), Code>
     requires part { is_part row.COMPARISON text.now ≡ true }
     ensures { Gives (compared (context s.now) (tree_at row.COMPARISON text.now)) (after_part row.COMPARISON text.now) result }
@@ -77,17 +80,21 @@ fn alpha_comparison<'a>(s: &Scope<'_>, text: &'a [u8]) -> Result<(bool, &'a [u8]
 
 /// A comparison of two numeric expressions.
 #[tactic(auto, using(crate::proofs::Comparisons::numbers_first, crate::proofs::Comparisons::numbers_sign, crate::proofs::Comparisons::numbers_second, crate::proofs::Comparisons::numbers_is, crate::proofs::Comparisons::numbers_rest))]
+#[inline(always)]
 fn numeric_comparison<'a>(s: &Scope<'_>, text: &'a [u8]) -> Result<(bool, &'a [u8]), Code>
     requires part { is_part row.NUMERIC_COMPARISON text.now ≡ true }
     ensures { Gives (compared_numbers (context s.now) (tree_at row.NUMERIC_COMPARISON text.now)) (after_part row.NUMERIC_COMPARISON text.now) result }
 {
-    let (left, sign) = match climb(Level::Sum, s, text) {
-        Ok(found) => found,
-        Err(code) => return Err(code),
-    };
-    let width = relation_width(sign);
-    match climb(Level::Sum, s, rest_after(sign, width)) {
-        Ok((right, rest)) => Ok((relation_at(sign).holds(cmp(left, right)), rest)),
-        Err(code) => Err(code),
+    let left = sum(s, text);
+    if left.number.is_code() {
+        return Err(left.number.get_code());
     }
+    let sign = after_sum(text, left.left);
+    let other = rest_after(sign, relation_width(sign));
+    let right = sum(s, other);
+    if right.number.is_code() {
+        return Err(right.number.get_code());
+    }
+    let order = cmp(left.number.get(), right.number.get());
+    Ok((relation_at(sign).holds(order), after_sum(other, right.left)))
 }

@@ -18,39 +18,41 @@ ghost use Rattle.b2_atom.specs.declared.words.Origin.TheVariants.{Atoms};
 ghost use Rattle.b2_rows.specs.Optional.{maybe_part, maybe_tree, after_maybe};
 ghost use Rattle.b2_expr.specs.Functions.{joined_number, joined_text};
 ghost use Rattle.b2_expr.specs.Further.{after_further, are_further, further_tree};
-ghost use Rattle.b2_expr.specs.Levels.{are_lists, ends, left_after_levels, row_of_level, spans};
-ghost use Rattle.b2_expr.specs.Unfinished.{all_completed, have_room, left_after_all, level_after, lists_stand, past_sign, waiting_sign};
+ghost use Rattle.b2_expr.specs.Levels.{row_of_level};
 ghost use Rattle.b2_expr.specs.Named.{after_name, is_alpha_kind, name_leaf, name_row, cell_seen, variable_of, variables_of};
 ghost use Rattle.b2_expr.specs.Scope.{surroundings};
-ghost use Rattle.b2_expr.specs.Reads.{Appends, Gives};
+ghost use Rattle.b2_expr.specs.Reads.{Appends, Finds, Gives};
 ghost use Rattle.b2_expr.specs.Value as meaning;
 ghost use Rattle.b2_expr.specs.Value.{element_number, called, context, extremes, further_text, hex_bytes, literal_bytes, kept_value, pairs_of, located, bytes_of_part, second, subscripts, text_row, value};
 ghost use Rattle.b2_expr.specs.declared.operators.Level.TheVariants as level_of;
 ghost use Rattle.b2_rows.specs.declared.operands.Operand.TheVariants as kind_is;
 ghost use Rattle.b2_rows.specs.declared.operands.AlphaOperand.TheVariants as alpha_kind_is;
 
+use crate::found::{Found, after_sum, last_bytes};
 use crate::functions::{
     binary_bytes, column_written, count_written, extreme, number_of, of_one, of_text, of_two,
     position_of, subscript, whole_between, whole_number,
 };
 use crate::literals::written_number_at;
-use crate::named::{Element, Located, NameKind, Subscripts, variable_of};
-use crate::operators::{Level, Waiting, completed, is_signed, item_level, operator_at};
+use crate::named::{
+    Element, Located, NameKind, Subscripts, counted_digit, plain_width, variable_of,
+};
+use crate::operators::{Level, joined, under_sign};
 use crate::scope::{Env, Parameter, Scope, hidden_by, kept_number};
-use arrayvec::ArrayVec;
 use b2_alpha::value_len;
 use b2_atom::{Origin, literal_width, numeric_name_width, relation_width};
 use b2_base::Code;
 use b2_base::codes::{A04_TOO_DEEP, P38_NO_DEFFN, X72_TOO_LONG, X77_NO_PARTITION};
-use b2_base::lexical::{at, first, first_bytes, rest_after};
-use b2_dec::{Bytes, Dec};
+use b2_base::lexical::{at, first, first_bytes, is_letter, rest_after};
+use b2_dec::{Bytes, Dec, NumberOrCode};
 use b2_rows::{
-    AlphaOperand, Chain, Name, Operand, alpha_name, alpha_operand_at, goes_on, hex_byte_at, is_at,
-    is_hex_at, numeric_name, operand_at, relation_at, row_unit, spells_a_line,
+    AlphaOperand, Chain, Name, Operand, alpha_name, alpha_operand_at, goes_on, has_sign,
+    hex_byte_at, is_at, is_hex_at, numeric_name, operand_at, relation_at, row_unit, spells_a_line,
 };
 use b2_vars::Vars;
 
 /// The variables of which a name speaks: X77 where there are no `@` variables.
+#[inline(always)]
 pub fn variables_of<'a>(env: &Env<'a>, name: Name) -> Result<&'a Vars, Code>
     ensures { MatchResult result (λ vars. variables_of (surroundings env.now) name ≡ Ok vars.now) (λ code. variables_of (surroundings env.now) name ≡ Err code) }
 {
@@ -63,114 +65,148 @@ pub fn variables_of<'a>(env: &Env<'a>, name: Name) -> Result<&'a Vars, Code>
     }
 }
 
-/// Lets a sign before what is read at a level wait; the level of what is read then, and where that stands.
-#[tactic(auto, using(crate::proofs::Waits::few_wait))]
-fn past_sign<'a>(
-    wanted: Level,
-    text: &'a [u8],
-    waiting: &mut ArrayVec<Waiting, 4>,
-) -> (Level, &'a [u8])
-    requires room { have_room 0 waiting.old.items wanted ≡ true }
-    ensures items { waiting.new.items ≡ waiting.old.items ++ waiting_sign wanted text.now }
-    ensures level { result.0 ≡ level_after wanted text.now }
-    ensures rest { result.1.now ≡ past_sign wanted text.now }
-{
-    let sign = first(text);
-    if !is_signed(wanted, sign) {
-        return (wanted, text);
-    }
-    waiting.push(Waiting {
-        before: None,
-        operator: sign,
-        wanted,
-        made: Level::Product,
-    });
-    (Level::Power, rest_after(text, 1))
-}
-
-/// The first operand of what is read at a level, the level at which its operators go on, and what stands after it; a sign before it waits.
-#[cycle(values)]
-fn first_operand<'a>(
-    wanted: Level,
-    s: &Scope<'_>,
-    text: &'a [u8],
-    waiting: &mut ArrayVec<Waiting, 4>,
-) -> Result<(Dec, Level, &'a [u8]), Code>
-    requires part { is_part (row_of_level wanted) text.now ≡ true }
-    requires room { have_room 0 waiting.old.items wanted ≡ true }
-    ensures items { waiting.new.items ≡ waiting.old.items ++ waiting_sign wanted text.now }
-    ensures level { IfOk result (λ p. p.1 ≡ level_after wanted text.now) }
-    ensures value { MatchResult result (λ p. value (context s.now) wanted (tree_at (row_of_level wanted) text.now) ≡ all_completed (context s.now) (waiting_sign wanted text.now) (ends (context s.now) (spans p.1 level_of.Power) (Ok p.0) p.2.now) (left_after_levels (spans p.1 level_of.Power) p.2.now)) (λ code. value (context s.now) wanted (tree_at (row_of_level wanted) text.now) ≡ Err code) }
-    ensures lists { IfOk result (λ p. are_lists (spans p.1 level_of.Power) p.2.now ≡ true) }
-    ensures stand { IfOk result (λ p. lists_stand (waiting_sign wanted text.now) (left_after_levels (spans p.1 level_of.Power) p.2.now) ≡ true) }
-    ensures rest { IfOk result (λ p. after_part (row_of_level wanted) text.now ≡ left_after_all (waiting_sign wanted text.now) (left_after_levels (spans p.1 level_of.Power) p.2.now)) }
-    ensures shorter { IfOk result (λ p. length p.2.now ≤ length text.now) }
-{
-    let (level, item) = past_sign(wanted, text, waiting);
-    let (number, rest) = match operand(s, item) {
-        Ok(found) => found,
-        Err(code) => return Err(code),
-    };
-    Ok((number, level, rest))
-}
-
-/// The value of an expression of a level, and what stands after it. Operators that bind less wait while one that binds more has its number.
-#[cycle(values)]
+/// The value of an expression of a level, and what stands after it.
+#[tactic(auto, using(crate::proofs::Tails::part_tail))]
 pub fn climb<'a>(wanted: Level, s: &Scope<'_>, text: &'a [u8]) -> Result<(Dec, &'a [u8]), Code>
     requires part { is_part (row_of_level wanted) text.now ≡ true }
     ensures { Gives (value (context s.now) wanted (tree_at (row_of_level wanted) text.now)) (after_part (row_of_level wanted) text.now) result }
 {
-    let mut waiting = ArrayVec::new();
-    let (start, below, after) = match first_operand(wanted, s, text, &mut waiting) {
-        Ok(found) => found,
-        Err(code) => return Err(code),
-    };
-    let mut number = start;
-    let mut reading = below;
-    let mut top = Level::Power;
-    let mut left = after;
-    loop {
-        let operator = first(left);
-        if let Some(level) = operator_at(reading, top, operator) {
-            waiting.push(Waiting {
-                before: Some(number),
-                operator,
-                wanted: reading,
-                made: level,
-            });
-            let (other, below, rest) = match first_operand(
-                item_level(level),
-                s,
-                rest_after(left, 1),
-                &mut waiting,
-            ) {
-                Ok(found) => found,
-                Err(code) => return Err(code),
-            };
-            number = other;
-            reading = below;
-            top = Level::Power;
-            left = rest;
-        } else if let Some(last) = waiting.pop() {
-            number = match completed(s.env.mode, &last, number) {
-                Ok(found) => found,
-                Err(code) => return Err(code),
-            };
-            reading = last.wanted;
-            top = last.made;
-        } else {
-            return Ok((number, left));
-        }
+    let found = level_at(wanted, s, text);
+    if found.number.is_code() {
+        return Err(found.number.get_code());
     }
+    Ok((found.number.get(), last_bytes(text, found.left)))
+}
+
+/// The value of an expression of a level.
+fn level_at(wanted: Level, s: &Scope<'_>, text: &[u8]) -> Found
+    requires part { is_part (row_of_level wanted) text.now ≡ true }
+    ensures { Finds (value (context s.now) wanted (tree_at (row_of_level wanted) text.now)) (after_part (row_of_level wanted) text.now) result }
+{
+    match wanted {
+        Level::Sum => sum(s, text),
+        Level::Product => product(s, text),
+        Level::Factor => factor(s, text),
+        Level::Power => power(s, text),
+        Level::Operand => operand(s, text),
+    }
+}
+
+/// A sum of products.
+#[cycle(values)]
+pub fn sum(s: &Scope<'_>, text: &[u8]) -> Found
+    requires part { is_part row.SUM text.now ≡ true }
+    ensures { Finds (value (context s.now) level_of.Sum (tree_at row.SUM text.now)) (after_part row.SUM text.now) result }
+{
+    let start = product(s, text);
+    if start.number.is_code() {
+        return start;
+    }
+    let mut number = start.number.get();
+    let mut left = last_bytes(text, start.left);
+    while goes_on(Chain::Sum, left) {
+        let item = rest_after(left, 1);
+        let other = product(s, item);
+        if other.number.is_code() {
+            return other;
+        }
+        let made = joined(s.env.mode, first(left), number, other.number.get());
+        if made.is_code() {
+            return Found::at_end(made);
+        }
+        number = made.get();
+        left = last_bytes(item, other.left);
+    }
+    Found::with(number, left.len())
+}
+
+/// A product of factors.
+#[cycle(values)]
+fn product(s: &Scope<'_>, text: &[u8]) -> Found
+    requires part { is_part row.PRODUCT text.now ≡ true }
+    ensures { Finds (value (context s.now) level_of.Product (tree_at row.PRODUCT text.now)) (after_part row.PRODUCT text.now) result }
+{
+    let start = factor(s, text);
+    if start.number.is_code() {
+        return start;
+    }
+    let mut number = start.number.get();
+    let mut left = last_bytes(text, start.left);
+    while goes_on(Chain::Product, left) {
+        let item = rest_after(left, 1);
+        let other = factor(s, item);
+        if other.number.is_code() {
+            return other;
+        }
+        let made = joined(s.env.mode, first(left), number, other.number.get());
+        if made.is_code() {
+            return Found::at_end(made);
+        }
+        number = made.get();
+        left = last_bytes(item, other.left);
+    }
+    Found::with(number, left.len())
+}
+
+/// A power, with a sign before it or none.
+#[cycle(values)]
+#[inline(always)]
+fn factor(s: &Scope<'_>, text: &[u8]) -> Found
+    requires part { is_part row.FACTOR text.now ≡ true }
+    ensures { Finds (value (context s.now) level_of.Factor (tree_at row.FACTOR text.now)) (after_part row.FACTOR text.now) result }
+{
+    if !has_sign(text) {
+        return power(s, text);
+    }
+    let found = power(s, rest_after(text, 1));
+    if found.number.is_code() {
+        return found;
+    }
+    Found {
+        number: under_sign(s.env.mode, first(text), found.number.get()),
+        left: found.left,
+    }
+}
+
+/// A power of operands.
+#[cycle(values)]
+#[inline(always)]
+fn power(s: &Scope<'_>, text: &[u8]) -> Found
+    requires part { is_part row.POWER text.now ≡ true }
+    ensures { Finds (value (context s.now) level_of.Power (tree_at row.POWER text.now)) (after_part row.POWER text.now) result }
+{
+    let start = operand(s, text);
+    if start.number.is_code() {
+        return start;
+    }
+    let mut number = start.number.get();
+    let mut left = last_bytes(text, start.left);
+    while goes_on(Chain::Power, left) {
+        let item = rest_after(left, 1);
+        let other = operand(s, item);
+        if other.number.is_code() {
+            return other;
+        }
+        let made = joined(s.env.mode, first(left), number, other.number.get());
+        if made.is_code() {
+            return Found::at_end(made);
+        }
+        number = made.get();
+        left = last_bytes(item, other.left);
+    }
+    Found::with(number, left.len())
 }
 
 /// An operand.
 #[cycle(values)]
-#[tactic(auto, using(b2_rows::proofs::EachOperand::number_here, b2_rows::proofs::EachOperand::parentheses_here, b2_rows::proofs::EachOperand::function_here, b2_rows::proofs::EachOperand::of_one_here, b2_rows::proofs::EachOperand::of_two_here, b2_rows::proofs::EachOperand::of_more_here, b2_rows::proofs::EachOperand::of_alpha_here, b2_rows::proofs::EachOperand::position_here, b2_rows::proofs::EachOperand::value_here, b2_rows::proofs::EachOperand::kept_number_here, b2_rows::proofs::EachOperand::variable_here, b2_rows::proofs::EachOperand::number_left, b2_rows::proofs::EachOperand::parentheses_left, b2_rows::proofs::EachOperand::function_left, b2_rows::proofs::EachOperand::of_one_left, b2_rows::proofs::EachOperand::of_two_left, b2_rows::proofs::EachOperand::of_more_left, b2_rows::proofs::EachOperand::of_alpha_left, b2_rows::proofs::EachOperand::position_left, b2_rows::proofs::EachOperand::value_left, b2_rows::proofs::EachOperand::kept_number_left, b2_rows::proofs::EachOperand::variable_left, crate::proofs::OperandKinds::number_gives, crate::proofs::OperandKinds::parentheses_gives, crate::proofs::OperandKinds::function_gives, crate::proofs::OperandKinds::of_one_gives, crate::proofs::OperandKinds::of_two_gives, crate::proofs::OperandKinds::of_more_gives, crate::proofs::OperandKinds::of_alpha_gives, crate::proofs::OperandKinds::position_gives, crate::proofs::OperandKinds::value_gives, crate::proofs::OperandKinds::kept_number_gives, crate::proofs::OperandKinds::variable_gives))]
-fn operand<'a>(s: &Scope<'_>, text: &'a [u8]) -> Result<(Dec, &'a [u8]), Code>
+#[tactic(auto, using(b2_rows::proofs::EachOperand::number_here, b2_rows::proofs::EachOperand::parentheses_here, b2_rows::proofs::EachOperand::function_here, b2_rows::proofs::EachOperand::of_one_here, b2_rows::proofs::EachOperand::of_two_here, b2_rows::proofs::EachOperand::of_more_here, b2_rows::proofs::EachOperand::of_alpha_here, b2_rows::proofs::EachOperand::position_here, b2_rows::proofs::EachOperand::value_here, b2_rows::proofs::EachOperand::kept_number_here, b2_rows::proofs::EachOperand::variable_here, b2_rows::proofs::EachOperand::number_left, b2_rows::proofs::EachOperand::parentheses_left, b2_rows::proofs::EachOperand::function_left, b2_rows::proofs::EachOperand::of_one_left, b2_rows::proofs::EachOperand::of_two_left, b2_rows::proofs::EachOperand::of_more_left, b2_rows::proofs::EachOperand::of_alpha_left, b2_rows::proofs::EachOperand::position_left, b2_rows::proofs::EachOperand::value_left, b2_rows::proofs::EachOperand::kept_number_left, b2_rows::proofs::EachOperand::variable_left, crate::proofs::PlainNames::letter_operand, crate::proofs::OperandKinds::number_gives, crate::proofs::OperandKinds::parentheses_gives, crate::proofs::OperandKinds::function_gives, crate::proofs::OperandKinds::of_one_gives, crate::proofs::OperandKinds::of_two_gives, crate::proofs::OperandKinds::of_more_gives, crate::proofs::OperandKinds::of_alpha_gives, crate::proofs::OperandKinds::position_gives, crate::proofs::OperandKinds::value_gives, crate::proofs::OperandKinds::kept_number_gives, crate::proofs::OperandKinds::variable_gives))]
+fn operand(s: &Scope<'_>, text: &[u8]) -> Found
     requires part { is_part row.OPERAND text.now ≡ true }
-    ensures { Gives (value (context s.now) level_of.Operand (tree_at row.OPERAND text.now)) (after_part row.OPERAND text.now) result }
+    ensures { Finds (value (context s.now) level_of.Operand (tree_at row.OPERAND text.now)) (after_part row.OPERAND text.now) result }
 {
+    if is_letter(first(text)) {
+        return variable(s, text);
+    }
     match operand_at(text) {
         Operand::Number => written_number_at(text),
         Operand::Parentheses => group(s, text),
@@ -181,64 +217,64 @@ fn operand<'a>(s: &Scope<'_>, text: &'a [u8]) -> Result<(Dec, &'a [u8]), Code>
         Operand::OfAlpha => of_alpha_at(s, text),
         Operand::Position => position_at(s, text),
         Operand::Value => bytes_at(s, text),
-        Operand::KeptNumber => Ok(kept_at(s.env, text)),
+        Operand::KeptNumber => kept_at(s.env, text),
         Operand::Variable => variable(s, text),
     }
 }
 
 /// ERR, #PART or #TERM.
 #[tactic(auto, using(crate::proofs::Operands::kept_is, crate::proofs::Operands::kept_rest))]
-fn kept_at<'a>(env: &Env<'_>, text: &'a [u8]) -> (Dec, &'a [u8])
+fn kept_at(env: &Env<'_>, text: &[u8]) -> Found
     requires part { is_part row.KEPT_NUMBER text.now ≡ true }
-    ensures value { kept_value (surroundings env.now) (tree_at row.KEPT_NUMBER text.now) ≡ Ok result.0 }
-    ensures rest { result.1.now ≡ after_part row.KEPT_NUMBER text.now }
+    ensures { Finds (kept_value (surroundings env.now) (tree_at row.KEPT_NUMBER text.now)) (after_part row.KEPT_NUMBER text.now) result }
 {
     let number = kept_number(env, first(text));
-    (whole_number(u64::from(number)), rest_after(text, 1))
+    Found::with(whole_number(u64::from(number)), rest_after(text, 1).len())
 }
 
 /// An expression in parentheses.
 #[cycle(values)]
 #[tactic(auto, using(crate::proofs::Operands::group_sum, crate::proofs::Operands::group_is, crate::proofs::Operands::group_rest, crate::proofs::Operands::group_shorter))]
-fn group<'a>(s: &Scope<'_>, text: &'a [u8]) -> Result<(Dec, &'a [u8]), Code>
+fn group(s: &Scope<'_>, text: &[u8]) -> Found
     requires part { is_part row.PARENTHESES text.now ≡ true }
-    ensures { Gives (meaning.operand (context s.now) kind_is.Parentheses (tree_at row.PARENTHESES text.now)) (after_part row.PARENTHESES text.now) result }
+    ensures { Finds (meaning.operand (context s.now) kind_is.Parentheses (tree_at row.PARENTHESES text.now)) (after_part row.PARENTHESES text.now) result }
 {
-    match climb(Level::Sum, s, rest_after(text, 1)) {
-        Ok((number, rest)) => Ok((number, rest_after(rest, 1))),
-        Err(code) => Err(code),
+    let found = sum(s, rest_after(text, 1));
+    Found {
+        number: found.number,
+        left: found.left.saturating_sub(1),
     }
 }
 
 /// A call of a DEFFN.
 #[cycle(values)]
 #[tactic(auto, using(crate::proofs::Operands::call_sum, crate::proofs::Operands::call_name, crate::proofs::Operands::call_is, crate::proofs::Operands::call_rest, crate::proofs::Operands::call_shorter))]
-fn call_at<'a>(s: &Scope<'_>, text: &'a [u8]) -> Result<(Dec, &'a [u8]), Code>
+fn call_at(s: &Scope<'_>, text: &[u8]) -> Found
     requires part { is_part row.FUNCTION text.now ≡ true }
-    ensures { Gives (meaning.operand (context s.now) kind_is.Function (tree_at row.FUNCTION text.now)) (after_part row.FUNCTION text.now) result }
+    ensures { Finds (meaning.operand (context s.now) kind_is.Function (tree_at row.FUNCTION text.now)) (after_part row.FUNCTION text.now) result }
 {
-    let (argument, rest) = match climb(Level::Sum, s, rest_after(text, 3)) {
-        Ok(found) => found,
-        Err(code) => return Err(code),
-    };
-    match call(s, at(text, 1), argument) {
-        Ok(number) => Ok((number, rest_after(rest, 1))),
-        Err(code) => Err(code),
+    let argument = sum(s, rest_after(text, 3));
+    if argument.number.is_code() {
+        return argument;
+    }
+    Found {
+        number: call(s, at(text, 1), argument.number.get()),
+        left: argument.left.saturating_sub(1),
     }
 }
 
 /// What the function of a name gives for an argument: P38 where the home has none, A04 where sixteen calls are open.
 #[cycle(values)]
 #[tactic(auto, using(crate::proofs::Defined::called_nowhere, crate::proofs::Defined::called_too_deep, crate::proofs::Defined::called_body, crate::proofs::Defined::body_part, crate::proofs::Defined::parameter_here))]
-fn call(s: &Scope<'_>, name: u8, argument: Dec) -> Result<Dec, Code>
+fn call(s: &Scope<'_>, name: u8, argument: Dec) -> NumberOrCode
     requires named { (is_letter name || is_digit name) ≡ true }
     ensures { result ≡ called (surroundings s.now.env.now) s.now.room name argument }
 {
     let Some(unit) = definition_of(s.env, name) else {
-        return Err(Code::known(P38_NO_DEFFN));
+        return NumberOrCode::code(Code::known(P38_NO_DEFFN));
     };
     if s.room == 0 {
-        return Err(Code::known(A04_TOO_DEEP));
+        return NumberOrCode::code(Code::known(A04_TOO_DEEP));
     }
     let named = rest_after(unit, 3);
     let (name, width) = numeric_name(named);
@@ -251,10 +287,8 @@ fn call(s: &Scope<'_>, name: u8, argument: Dec) -> Result<Dec, Code>
         room: s.room - 1,
     };
     let body = rest_after(named, width + 2);
-    match climb(Level::Sum, &inner, body) {
-        Ok((number, _)) => Ok(number),
-        Err(code) => Err(code),
-    }
+    let found = sum(&inner, body);
+    found.number
 }
 
 /// The unit of the DEFFN of a name.
@@ -284,149 +318,152 @@ fn definition_of<'a>(env: &Env<'a>, name: u8) -> Option<&'a [u8]>
 /// ABS, INT, FIX, SGN or SQR.
 #[cycle(values)]
 #[tactic(auto, using(crate::proofs::Operands::one_sum, crate::proofs::Operands::one_is, crate::proofs::Operands::one_rest, crate::proofs::Operands::one_shorter))]
-fn of_one_at<'a>(s: &Scope<'_>, text: &'a [u8]) -> Result<(Dec, &'a [u8]), Code>
+fn of_one_at(s: &Scope<'_>, text: &[u8]) -> Found
     requires part { is_part row.OF_ONE text.now ≡ true }
-    ensures { Gives (meaning.operand (context s.now) kind_is.OfOne (tree_at row.OF_ONE text.now)) (after_part row.OF_ONE text.now) result }
+    ensures { Finds (meaning.operand (context s.now) kind_is.OfOne (tree_at row.OF_ONE text.now)) (after_part row.OF_ONE text.now) result }
 {
-    let (x, rest) = match climb(Level::Sum, s, rest_after(text, 1)) {
-        Ok(found) => found,
-        Err(code) => return Err(code),
-    };
-    match of_one(first(text), x) {
-        Ok(number) => Ok((number, rest_after(rest, 1))),
-        Err(code) => Err(code),
+    let found = sum(s, rest_after(text, 1));
+    if found.number.is_code() {
+        return found;
+    }
+    Found {
+        number: NumberOrCode::of(of_one(first(text), found.number.get())),
+        left: found.left.saturating_sub(1),
     }
 }
 
 /// ROUND or MOD.
 #[cycle(values)]
 #[tactic(auto, using(crate::proofs::Operands::two_first, crate::proofs::Operands::two_second, crate::proofs::Operands::two_is, crate::proofs::Operands::two_rest, crate::proofs::Operands::two_shorter, crate::proofs::Operands::second_shorter))]
-fn of_two_at<'a>(s: &Scope<'_>, text: &'a [u8]) -> Result<(Dec, &'a [u8]), Code>
+fn of_two_at(s: &Scope<'_>, text: &[u8]) -> Found
     requires part { is_part row.OF_TWO text.now ≡ true }
-    ensures { Gives (meaning.operand (context s.now) kind_is.OfTwo (tree_at row.OF_TWO text.now)) (after_part row.OF_TWO text.now) result }
+    ensures { Finds (meaning.operand (context s.now) kind_is.OfTwo (tree_at row.OF_TWO text.now)) (after_part row.OF_TWO text.now) result }
 {
-    let (x, after) = match climb(Level::Sum, s, rest_after(text, 1)) {
-        Ok(found) => found,
-        Err(code) => return Err(code),
-    };
-    let (y, rest) = match climb(Level::Sum, s, rest_after(after, 1)) {
-        Ok(found) => found,
-        Err(code) => return Err(code),
-    };
-    match of_two(s.env.mode, first(text), x, y) {
-        Ok(number) => Ok((number, rest_after(rest, 1))),
-        Err(code) => Err(code),
+    let inside = rest_after(text, 1);
+    let one = sum(s, inside);
+    if one.number.is_code() {
+        return one;
+    }
+    let other = sum(s, rest_after(after_sum(inside, one.left), 1));
+    if other.number.is_code() {
+        return other;
+    }
+    let (x, y) = (one.number.get(), other.number.get());
+    Found {
+        number: NumberOrCode::of(of_two(s.env.mode, first(text), x, y)),
+        left: other.left.saturating_sub(1),
     }
 }
 
 /// MAX or MIN.
 #[cycle(values)]
 #[tactic(auto, using(crate::proofs::Operands::more_first, crate::proofs::Operands::more_further, crate::proofs::Operands::more_is, crate::proofs::Operands::more_rest, crate::proofs::Operands::more_shorter, crate::proofs::Operands::rest_shorter, crate::proofs::Extremes::refused))]
-fn of_more_at<'a>(s: &Scope<'_>, text: &'a [u8]) -> Result<(Dec, &'a [u8]), Code>
+fn of_more_at(s: &Scope<'_>, text: &[u8]) -> Found
     requires part { is_part row.OF_MORE text.now ≡ true }
-    ensures { Gives (meaning.operand (context s.now) kind_is.OfMore (tree_at row.OF_MORE text.now)) (after_part row.OF_MORE text.now) result }
+    ensures { Finds (meaning.operand (context s.now) kind_is.OfMore (tree_at row.OF_MORE text.now)) (after_part row.OF_MORE text.now) result }
 {
-    let word = first(text);
-    let (number, after) = match climb(Level::Sum, s, rest_after(text, 1)) {
-        Ok(found) => found,
-        Err(code) => return Err(code),
-    };
-    match further_numbers(word, number, s, after) {
-        Ok((number, rest)) => Ok((number, rest_after(rest, 1))),
-        Err(code) => Err(code),
+    let inside = rest_after(text, 1);
+    let start = sum(s, inside);
+    if start.number.is_code() {
+        return start;
+    }
+    let after = after_sum(inside, start.left);
+    let found = further_numbers(first(text), start.number.get(), s, after);
+    Found {
+        number: found.number,
+        left: found.left.saturating_sub(1),
     }
 }
 
 /// The greatest or the least of a number and of those that follow it, of which there are at most seven.
 #[cycle(values)]
-fn further_numbers<'a>(
-    word: u8,
-    start: Dec,
-    s: &Scope<'_>,
-    text: &'a [u8],
-) -> Result<(Dec, &'a [u8]), Code>
+fn further_numbers(word: u8, start: Dec, s: &Scope<'_>, text: &[u8]) -> Found
     requires part { are_further 7 text.now ≡ true }
-    ensures { Gives (extremes (context s.now) word (Ok start) (further_tree 7 text.now)) (after_further 7 text.now) result }
+    ensures { Finds (extremes (context s.now) word (Ok start) (further_tree 7 text.now)) (after_further 7 text.now) result }
 {
     let mut number = start;
     let mut left = text;
     for _ in 0..7usize {
         if !is_at(b',', left) {
-            return Ok((number, left));
+            return Found::with(number, left.len());
         }
-        let (other, rest) = match climb(Level::Sum, s, rest_after(left, 1)) {
-            Ok(found) => found,
-            Err(code) => return Err(code),
-        };
-        number = extreme(word, number, other);
-        left = rest;
+        let item = rest_after(left, 1);
+        let other = sum(s, item);
+        if other.number.is_code() {
+            return other;
+        }
+        number = extreme(word, number, other.number.get());
+        left = after_sum(item, other.left);
     }
-    Ok((number, left))
+    Found::with(number, left.len())
 }
 
 /// LEN or NUM.
 #[cycle(values)]
 #[tactic(auto, using(crate::proofs::Operands::alpha_text, crate::proofs::Operands::alpha_is, crate::proofs::Operands::alpha_rest, crate::proofs::Operands::alpha_shorter))]
-fn of_alpha_at<'a>(s: &Scope<'_>, text: &'a [u8]) -> Result<(Dec, &'a [u8]), Code>
+fn of_alpha_at(s: &Scope<'_>, text: &[u8]) -> Found
     requires part { is_part row.OF_ALPHA text.now ≡ true }
-    ensures { Gives (meaning.operand (context s.now) kind_is.OfAlpha (tree_at row.OF_ALPHA text.now)) (after_part row.OF_ALPHA text.now) result }
+    ensures { Finds (meaning.operand (context s.now) kind_is.OfAlpha (tree_at row.OF_ALPHA text.now)) (after_part row.OF_ALPHA text.now) result }
 {
     let mut value = Bytes::new();
     match alpha(s, rest_after(text, 1), &mut value) {
-        Ok(rest) => Ok((of_text(first(text), value.bytes()), rest_after(rest, 1))),
-        Err(code) => Err(code),
+        Ok(rest) => Found::with(
+            of_text(first(text), value.bytes()),
+            rest_after(rest, 1).len(),
+        ),
+        Err(code) => Found::at_end(NumberOrCode::code(code)),
     }
 }
 
 /// POS.
 #[cycle(values)]
 #[tactic(auto, using(crate::proofs::Operands::position_first, crate::proofs::Operands::position_sign, crate::proofs::Operands::position_second, crate::proofs::Operands::position_is, crate::proofs::Operands::position_rest, crate::proofs::Operands::position_shorter, crate::proofs::Operands::other_shorter))]
-fn position_at<'a>(s: &Scope<'_>, text: &'a [u8]) -> Result<(Dec, &'a [u8]), Code>
+fn position_at(s: &Scope<'_>, text: &[u8]) -> Found
     requires part { is_part row.POSITION text.now ≡ true }
-    ensures { Gives (meaning.operand (context s.now) kind_is.Position (tree_at row.POSITION text.now)) (after_part row.POSITION text.now) result }
+    ensures { Finds (meaning.operand (context s.now) kind_is.Position (tree_at row.POSITION text.now)) (after_part row.POSITION text.now) result }
 {
     let mut value = Bytes::new();
     let sign = match alpha(s, rest_after(text, 1), &mut value) {
         Ok(rest) => rest,
-        Err(code) => return Err(code),
+        Err(code) => return Found::at_end(NumberOrCode::code(code)),
     };
     let width = relation_width(sign);
     let mut wanted = Bytes::new();
     match alpha(s, rest_after(sign, width), &mut wanted) {
         Ok(rest) => {
             let relation = relation_at(sign);
-            Ok((
+            Found::with(
                 position_of(relation, value.bytes(), wanted.bytes()),
-                rest_after(rest, 1),
-            ))
+                rest_after(rest, 1).len(),
+            )
         }
-        Err(code) => Err(code),
+        Err(code) => Found::at_end(NumberOrCode::code(code)),
     }
 }
 
 /// VAL.
 #[cycle(values)]
 #[tactic(auto, using(crate::proofs::Operands::bytes_first, crate::proofs::Operands::bytes_count, crate::proofs::Operands::bytes_is, crate::proofs::Operands::bytes_rest, crate::proofs::Operands::bytes_shorter, crate::proofs::Operands::count_shorter))]
-fn bytes_at<'a>(s: &Scope<'_>, text: &'a [u8]) -> Result<(Dec, &'a [u8]), Code>
+fn bytes_at(s: &Scope<'_>, text: &[u8]) -> Found
     requires part { is_part row.VALUE text.now ≡ true }
-    ensures { Gives (meaning.operand (context s.now) kind_is.Value (tree_at row.VALUE text.now)) (after_part row.VALUE text.now) result }
+    ensures { Finds (meaning.operand (context s.now) kind_is.Value (tree_at row.VALUE text.now)) (after_part row.VALUE text.now) result }
 {
     let mut value = Bytes::new();
     let after = match alpha(s, rest_after(text, 1), &mut value) {
         Ok(rest) => rest,
-        Err(code) => return Err(code),
+        Err(code) => return Found::at_end(NumberOrCode::code(code)),
     };
     let (count, rest) = match second(s, after) {
         Ok(found) => found,
-        Err(code) => return Err(code),
+        Err(code) => return Found::at_end(NumberOrCode::code(code)),
     };
     let count = match count_written(count) {
         Ok(count) => count,
-        Err(code) => return Err(code),
+        Err(code) => return Found::at_end(NumberOrCode::code(code)),
     };
-    match number_of(value.bytes(), count) {
-        Ok(number) => Ok((number, rest_after(rest, 1))),
-        Err(code) => Err(code),
+    Found {
+        number: NumberOrCode::of(number_of(value.bytes(), count)),
+        left: rest_after(rest, 1).len(),
     }
 }
 
@@ -440,15 +477,18 @@ pub fn second<'a>(s: &Scope<'_>, text: &'a [u8]) -> Result<(Option<Dec>, &'a [u8
     if !is_at(b',', text) {
         return Ok((None, text));
     }
-    match climb(Level::Sum, s, rest_after(text, 1)) {
-        Ok((number, rest)) => Ok((Some(number), rest)),
-        Err(code) => Err(code),
+    let item = rest_after(text, 1);
+    let found = sum(s, item);
+    if found.number.is_code() {
+        return Err(found.number.get_code());
     }
+    Ok((Some(found.number.get()), after_sum(item, found.left)))
 }
 
 /// The row and the column of subscripts, 0 where there is none.
 #[cycle(values)]
 #[tactic(auto, using(crate::proofs::Names::row_part, crate::proofs::Names::column_part, crate::proofs::Names::subscripts_is, crate::proofs::Names::subscripts_rest, crate::proofs::Names::no_subscripts, crate::proofs::Names::no_subscripts_rest, crate::proofs::Names::row_shorter, crate::proofs::Names::column_shorter))]
+#[inline(always)]
 fn subscripts<'a>(s: &Scope<'_>, text: &'a [u8]) -> Result<(Subscripts, &'a [u8]), Code>
     requires part { maybe_part (start.Code byte.opening) row.SUBSCRIPTS text.now ≡ true }
     ensures { Gives (subscripts (context s.now) (maybe_tree (start.Code byte.opening) row.SUBSCRIPTS text.now)) (after_maybe (start.Code byte.opening) row.SUBSCRIPTS text.now) result }
@@ -456,16 +496,17 @@ fn subscripts<'a>(s: &Scope<'_>, text: &'a [u8]) -> Result<(Subscripts, &'a [u8]
     if !is_at(b'(', text) {
         return Ok((Subscripts { row: 0, column: 0 }, text));
     }
-    let (row, after) = match climb(Level::Sum, s, rest_after(text, 1)) {
-        Ok(found) => found,
-        Err(code) => return Err(code),
-    };
-    let (column, rest) = match second(s, after) {
+    let inside = rest_after(text, 1);
+    let row = sum(s, inside);
+    if row.number.is_code() {
+        return Err(row.number.get_code());
+    }
+    let (column, rest) = match second(s, after_sum(inside, row.left)) {
         Ok(found) => found,
         Err(code) => return Err(code),
     };
     let at = Subscripts {
-        row: subscript(row),
+        row: subscript(row.number.get()),
         column: column_written(column),
     };
     Ok((at, rest_after(rest, 1)))
@@ -474,6 +515,7 @@ fn subscripts<'a>(s: &Scope<'_>, text: &'a [u8]) -> Result<(Subscripts, &'a [u8]
 /// The element that a name and its subscripts stand for. X77 comes at the name, before its subscripts.
 #[cycle(values)]
 #[tactic(auto, using(crate::proofs::Names::located_subscripts, crate::proofs::Names::located_is, crate::proofs::Names::located_rest, crate::proofs::Names::branch_is, crate::proofs::Names::drop_no_longer))]
+#[inline(always)]
 pub fn located<'a, 'v>(
     s: &Scope<'v>,
     kind: NameKind,
@@ -504,6 +546,7 @@ pub fn located<'a, 'v>(
 
 /// A name of a kind, and how many bytes it takes.
 #[tactic(auto, using(crate::proofs::Names::alpha_there, crate::proofs::Names::numeric_there, crate::proofs::Names::alpha_leaf_is, crate::proofs::Names::number_leaf_is, crate::proofs::Names::legal_name))]
+#[inline(always)]
 fn name_at(kind: NameKind, text: &[u8]) -> (Name, usize)
     requires part { is_part (name_row kind) text.now ≡ true }
     ensures name { result.0 ≡ variable_name (is_alpha_kind kind) (leaf_bytes (name_leaf kind) text.now) }
@@ -519,6 +562,7 @@ fn name_at(kind: NameKind, text: &[u8]) -> (Name, usize)
 
 /// The value of the parameter, where a numeric variable has its name.
 #[tactic(auto, using(crate::proofs::Names::variable_hidden, crate::proofs::Names::variable_shown, crate::proofs::Names::variable_array, crate::proofs::Names::variable_plain, crate::proofs::Names::number_leaf))]
+#[inline(always)]
 fn hidden_at(s: &Scope<'_>, text: &[u8]) -> Option<Dec>
     requires part { is_part row.VARIABLE text.now ≡ true }
     ensures some { IfSome result (λ x. meaning.operand (context s.now) kind_is.Variable (tree_at row.VARIABLE text.now) ≡ Ok x) }
@@ -535,26 +579,45 @@ fn hidden_at(s: &Scope<'_>, text: &[u8]) -> Option<Dec>
     hidden_by(s.parameter, name)
 }
 
+/// A numeric variable. A plain one outside a function is read by its letter and its digit at once.
+#[cycle(values)]
+fn variable(s: &Scope<'_>, text: &[u8]) -> Found
+    requires part { is_part row.VARIABLE text.now ≡ true }
+    ensures { Finds (meaning.operand (context s.now) kind_is.Variable (tree_at row.VARIABLE text.now)) (after_part row.VARIABLE text.now) result }
+{
+    let letter = first(text);
+    if !is_letter(letter) {
+        return hidden_or_there(s, text);
+    }
+    let None = s.parameter else {
+        return hidden_or_there(s, text);
+    };
+    let rest = rest_after(text, plain_width(text));
+    if is_at(b'(', rest) {
+        return hidden_or_there(s, text);
+    }
+    let digit = counted_digit(at(text, 1));
+    Found::with(s.env.own.scalar(letter, digit), rest.len())
+}
+
 /// A numeric variable: the parameter of its name, and else the number that it has.
 #[cycle(values)]
 #[tactic(auto, using(crate::proofs::Names::variable_rest))]
-fn variable<'a>(s: &Scope<'_>, text: &'a [u8]) -> Result<(Dec, &'a [u8]), Code>
+fn hidden_or_there(s: &Scope<'_>, text: &[u8]) -> Found
     requires part { is_part row.VARIABLE text.now ≡ true }
-    ensures { Gives (meaning.operand (context s.now) kind_is.Variable (tree_at row.VARIABLE text.now)) (after_part row.VARIABLE text.now) result }
+    ensures { Finds (meaning.operand (context s.now) kind_is.Variable (tree_at row.VARIABLE text.now)) (after_part row.VARIABLE text.now) result }
 {
     if let Some(number) = hidden_at(s, text) {
-        return Ok((
-            number,
-            rest_after(text, numeric_name_width(Origin::Atoms, text)),
-        ));
+        let width = numeric_name_width(Origin::Atoms, text);
+        return Found::with(number, rest_after(text, width).len());
     }
     let (located, rest) = match located(s, NameKind::Number, text) {
         Ok(found) => found,
-        Err(code) => return Err(code),
+        Err(code) => return Found::at_end(NumberOrCode::code(code)),
     };
-    match located.number() {
-        Ok(number) => Ok((number, rest)),
-        Err(code) => Err(code),
+    Found {
+        number: NumberOrCode::of(located.number()),
+        left: rest.len(),
     }
 }
 
@@ -674,15 +737,16 @@ fn part_at<'a>(s: &Scope<'_>, text: &'a [u8], into: &mut Bytes) -> Result<&'a [u
         Ok(bytes) => bytes,
         Err(code) => return Err(code),
     };
-    let (from, after) = match climb(Level::Sum, s, rest_after(after, 1)) {
+    let inside = rest_after(after, 1);
+    let from = sum(s, inside);
+    if from.number.is_code() {
+        return Err(from.number.get_code());
+    }
+    let (count, rest) = match second(s, after_sum(inside, from.left)) {
         Ok(found) => found,
         Err(code) => return Err(code),
     };
-    let (count, rest) = match second(s, after) {
-        Ok(found) => found,
-        Err(code) => return Err(code),
-    };
-    let part = match bytes_of_part(bytes, from, count) {
+    let part = match bytes_of_part(bytes, from.number.get(), count) {
         Ok(part) => part,
         Err(code) => return Err(code),
     };
@@ -716,11 +780,12 @@ fn binary_at<'a>(s: &Scope<'_>, text: &'a [u8], into: &mut Bytes) -> Result<&'a 
     requires part { is_part row.BINARY text.now ≡ true }
     ensures { Appends (meaning.text_operand (context s.now) alpha_kind_is.Binary (tree_at row.BINARY text.now)) (after_part row.BINARY text.now) into.old into.new result }
 {
-    let (number, after) = match climb(Level::Sum, s, rest_after(text, 1)) {
-        Ok(found) => found,
-        Err(code) => return Err(code),
-    };
-    let (count, rest) = match second(s, after) {
+    let inside = rest_after(text, 1);
+    let number = sum(s, inside);
+    if number.number.is_code() {
+        return Err(number.number.get_code());
+    }
+    let (count, rest) = match second(s, after_sum(inside, number.left)) {
         Ok(found) => found,
         Err(code) => return Err(code),
     };
@@ -728,7 +793,7 @@ fn binary_at<'a>(s: &Scope<'_>, text: &'a [u8], into: &mut Bytes) -> Result<&'a 
         Ok(count) => count,
         Err(code) => return Err(code),
     };
-    match join_number(number, count, into) {
+    match join_number(number.number.get(), count, into) {
         Ok(()) => Ok(rest_after(rest, 1)),
         Err(code) => Err(code),
     }

@@ -4,8 +4,10 @@
 //! that a numeric expression, an alpha expression or a condition is read there (`is_part` of `b2_rows`), and what it comes
 //! to is said by its tree: `specs/Value.antt` for numbers and bytes, `specs/Condition.antt` for conditions, with
 //! `specs/Functions.antt` and `specs/Operators.antt` on values alone and `specs/Named.antt` for variables by their names.
-//! `specs/Scope.antt` says what an expression looks at. The code goes along the bytes and keeps no tree: one loop over the
-//! operators, a call for parentheses and arguments.
+//! `specs/Scope.antt` says what an expression looks at. The code goes along the bytes and keeps no tree: a loop each
+//! for sums, products and powers, a call for parentheses and arguments. Its functions of numbers hand on a number or a code
+//! in one word, and how many bytes are left after it (`found`); `number_or_code` gives the number or the code of an
+//! expression so.
 //!
 //! Stands on `b2_rows` for rows at the bytes of a unit, on `b2_atom` for the table, on `b2_dec`, `b2_dectext` and `b2_alpha`
 //! for values, on `b2_vars` for variables and on `b2_text` for the functions of a program.
@@ -17,6 +19,7 @@
 
 mod conditions;
 mod evaluate;
+mod found;
 mod functions;
 mod kinds;
 mod literals;
@@ -30,9 +33,9 @@ mod workspace;
 pub use evaluate::{alpha as alpha_at, climb, located, second, variables_of};
 pub use functions::{fixed, whole_between};
 pub use kinds::suits;
-pub use named::{Element, Located, NameKind, variable_of};
+pub use named::{Element, Located, NameKind, counted_digit, plain_width, variable_of};
 pub use operators::Level;
 pub use passing::{past_alpha, past_name, past_part, past_sum};
 pub use scope::{Env, Scope};
-pub use value::{alpha, condition, in_statement, number};
+pub use value::{alpha, condition, in_statement, number, number_or_code};
 pub use workspace::{Workspace, reached_after, surroundings_of};

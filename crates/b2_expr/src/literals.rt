@@ -8,14 +8,15 @@ ghost use Rattle.b2_dec.specs.declared.number.Mode.TheVariants as mode;
 ghost use Rattle.b2_dec.specs.Rounding.{rnd};
 ghost use Rattle.b2_dectext.specs.Digits.{value_after};
 ghost use Rattle.b2_rows.specs.Rows.{is_part, tree_at, after_part};
-ghost use Rattle.b2_expr.specs.Reads.{Gives};
+ghost use Rattle.b2_expr.specs.Reads.{Finds};
 ghost use Rattle.b2_expr.specs.Value.{literal_number, literal_value};
 
+use crate::found::Found;
 use b2_atom::{Origin, number_width};
 use b2_base::Code;
 use b2_base::codes::S17_NUMERIC;
 use b2_base::lexical::{first, first_bytes, is_digit, rest_after};
-use b2_dec::{Dec, Mode, round_exact};
+use b2_dec::{Dec, Mode, NumberOrCode, round_short};
 use b2_dectext::literal;
 
 /// The least number of thirteen digits.
@@ -26,6 +27,7 @@ const PLACES: usize = 99;
 
 /// A number to which the digits at the front of a text are added, while it has less than thirteen, and what stands after
 /// them.
+#[inline(always)]
 fn take_digits(start: u64, text: &[u8]) -> (u64, &[u8])
     requires { start < 10000000000000 }
     ensures small { result.0 < 10000000000000 }
@@ -57,55 +59,51 @@ fn literal_value(text: &[u8]) -> Result<Dec, Code>
 
 /// A number that is written out, of any length and with an exponent or without.
 #[tactic(auto, using(crate::proofs::Operands::literal_is, crate::proofs::Operands::literal_rest, crate::proofs::Operands::literal_here))]
-fn long_literal(text: &[u8]) -> Result<(Dec, &[u8]), Code>
+fn long_literal(text: &[u8]) -> Found
     requires part { is_part row.NUMBER text.now ≡ true }
-    ensures { Gives (literal_number (tree_at row.NUMBER text.now)) (after_part row.NUMBER text.now) result }
+    ensures { Finds (literal_number (tree_at row.NUMBER text.now)) (after_part row.NUMBER text.now) result }
 {
     let width = number_width(Origin::Atoms, text);
-    match literal_value(first_bytes(text, width)) {
-        Ok(number) => Ok((number, rest_after(text, width))),
-        Err(code) => Err(code),
+    Found {
+        number: NumberOrCode::of(literal_value(first_bytes(text, width))),
+        left: rest_after(text, width).len(),
     }
 }
 
 /// A number of at most thirteen digits divided by ten `places` times.
-fn divided_by_tens(digits: u64, places: usize) -> Result<Dec, Code>
+fn divided_by_tens(digits: u64, places: usize) -> NumberOrCode
     requires small { digits < 10000000000000 }
     requires few { places ≤ 99 }
     ensures { result ≡ rnd mode.Round false digits (10 ^ places) }
 {
-    round_exact(false, digits as u128, 222 - places as u32, Mode::Round)
+    round_short(false, digits, 222 - places as u32, Mode::Round)
 }
 
 /// A number that is written out, of which `digits` were taken, the last `places` of them after the point, and `rest` is
 /// left: it ends there, or goes on with a digit or an exponent.
-fn ended<'a>(
-    text: &'a [u8],
-    digits: u64,
-    places: usize,
-    rest: &'a [u8],
-) -> Result<(Dec, &'a [u8]), Code>
+#[inline(always)]
+fn ended(text: &[u8], digits: u64, places: usize, rest: &[u8]) -> Found
     requires part { is_part row.NUMBER text.now ≡ true }
     requires small { digits < 10000000000000 }
     requires value { is_digit (lexical.first rest.now) ≡ false → (lexical.first rest.now == byte.upper_e) ≡ false → literal_number (tree_at row.NUMBER text.now) ≡ rnd mode.Round false digits (10 ^ places) }
     requires rest { is_digit (lexical.first rest.now) ≡ false → (lexical.first rest.now == byte.upper_e) ≡ false → rest.now ≡ after_part row.NUMBER text.now }
-    ensures { Gives (literal_number (tree_at row.NUMBER text.now)) (after_part row.NUMBER text.now) result }
+    ensures { Finds (literal_number (tree_at row.NUMBER text.now)) (after_part row.NUMBER text.now) result }
 {
     let end = first(rest);
     if is_digit(end) || end == b'E' || places > PLACES {
         return long_literal(text);
     }
-    match divided_by_tens(digits, places) {
-        Ok(number) => Ok((number, rest)),
-        Err(code) => Err(code),
+    Found {
+        number: divided_by_tens(digits, places),
+        left: rest.len(),
     }
 }
 
 /// A number that is written out: in one pass where it has no exponent and thirteen digits at most, not counting zeros at
 /// its front.
-pub fn written_number_at(text: &[u8]) -> Result<(Dec, &[u8]), Code>
+pub fn written_number_at(text: &[u8]) -> Found
     requires part { is_part row.NUMBER text.now ≡ true }
-    ensures { Gives (literal_number (tree_at row.NUMBER text.now)) (after_part row.NUMBER text.now) result }
+    ensures { Finds (literal_number (tree_at row.NUMBER text.now)) (after_part row.NUMBER text.now) result }
 {
     let (whole, after) = take_digits(0, text);
     if first(after) != b'.' {

@@ -1,9 +1,10 @@
 // Variables by their names as they are written.
 ghost use Rattle.std.specs.Prelude.{◌≡◌, ◌≤◌, true, false, length, MatchResult, IfOk, Ok, Err};
 ghost use Rattle.b2_vars.specs.Names.{is_legal_name};
-ghost use Rattle.b2_expr.specs.Named.{bytes_there, element_there, is_alpha_kind, number_there, cell_seen, variable_of};
+ghost use Rattle.b2_expr.specs.Named.{bytes_there, counted_digit, element_there, is_alpha_kind, number_there, cell_seen, plain_width, variable_of};
 
 use b2_base::Code;
+use b2_base::lexical::{at, is_digit};
 use b2_dec::Dec;
 use b2_rows::Name;
 use b2_vars::{Var, Vars};
@@ -62,6 +63,23 @@ pub fn variable_of(name: Name, array: bool) -> Var
         alpha: name.alpha,
         array,
     }
+}
+
+/// The digit of a plain name counted from 1, 0 where a byte is none.
+#[inline(always)]
+pub fn counted_digit(byte: u8) -> u8
+    ensures digit { result ≡ counted_digit byte }
+    ensures small { result ≤ 10 }
+{
+    if is_digit(byte) { byte - 47 } else { 0 }
+}
+
+/// How many bytes a plain name takes.
+#[inline(always)]
+pub fn plain_width(text: &[u8]) -> usize
+    ensures { result ≡ plain_width text.now }
+{
+    if is_digit(at(text, 1)) { 2 } else { 1 }
 }
 
 impl<'a> Located<'a> {

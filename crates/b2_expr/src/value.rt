@@ -8,12 +8,12 @@ ghost use Rattle.b2_expr.specs.Scope.{surroundings};
 ghost use Rattle.b2_expr.specs.declared.operators.Level.TheVariants as level_of;
 
 use crate::conditions::truth;
-use crate::evaluate::{alpha as alpha_at, climb};
-use crate::operators::Level;
+use crate::evaluate::{alpha as alpha_at, sum};
+use crate::found::after_sum;
 use crate::scope::{Env, Scope};
 use b2_atom::Cursor;
 use b2_base::Code;
-use b2_dec::{Bytes, Dec};
+use b2_dec::{Bytes, Dec, NumberOrCode};
 
 /// How many calls of functions may be open.
 const CALLS: u8 = 16;
@@ -31,16 +31,27 @@ pub fn in_statement<'a>(env: &'a Env<'a>) -> Scope<'a>
 
 /// The value of the numeric expression at a cursor, which then stands after it, or the first code from the left, and then
 /// the cursor is as before.
+#[inline(always)]
 pub fn number(c: &mut Cursor<'_>, e: &Env<'_>) -> Result<Dec, Code>
     requires part { is_part row.SUM c.old ≡ true }
     ensures { MatchResult result (λ x. (value (in_statement (surroundings e.now)) level_of.Sum (tree_at row.SUM c.old) ≡ Ok x) × (c.new ≡ after_part row.SUM c.old)) (λ code. (value (in_statement (surroundings e.now)) level_of.Sum (tree_at row.SUM c.old) ≡ Err code) × (c.new ≡ c.old)) }
 {
-    let (number, rest) = match climb(Level::Sum, &in_statement(e), c.rest()) {
-        Ok(found) => found,
-        Err(code) => return Err(code),
-    };
-    *c = Cursor::over(rest);
-    Ok(number)
+    let found = sum(&in_statement(e), c.rest());
+    if found.number.is_code() {
+        return Err(found.number.get_code());
+    }
+    *c = Cursor::over(after_sum(c.rest(), found.left));
+    Ok(found.number.get())
+}
+
+/// The value of the numeric expression at a text, or the first code from the left, in one word.
+#[inline(always)]
+pub fn number_or_code(text: &[u8], e: &Env<'_>) -> NumberOrCode
+    requires part { is_part row.SUM text.now ≡ true }
+    ensures { result ≡ value (in_statement (surroundings e.now)) level_of.Sum (tree_at row.SUM text.now) }
+{
+    let found = sum(&in_statement(e), text);
+    found.number
 }
 
 /// Puts the bytes of the alpha expression at a cursor in the place of what was there, and the cursor then stands after it;
@@ -61,6 +72,7 @@ pub fn alpha(c: &mut Cursor<'_>, e: &Env<'_>, into: &mut Bytes) -> Result<(), Co
 
 /// Whether the condition at a cursor holds; the cursor then stands after it. Or the first code from the left, and then the
 /// cursor is as before.
+#[inline(always)]
 pub fn condition(c: &mut Cursor<'_>, e: &Env<'_>) -> Result<bool, Code>
     requires part { is_part row.CONDITION c.old ≡ true }
     ensures { MatchResult result (λ holds. (truth (in_statement (surroundings e.now)) (tree_at row.CONDITION c.old) ≡ Ok holds) × (c.new ≡ after_part row.CONDITION c.old)) (λ code. (truth (in_statement (surroundings e.now)) (tree_at row.CONDITION c.old) ≡ Err code) × (c.new ≡ c.old)) }

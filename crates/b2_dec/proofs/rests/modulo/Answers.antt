@@ -37,7 +37,8 @@ returns-then-same-2 c =
     let signs : (c.args.a.neg ≡ c.args.b.neg) ⊎ ((c.args.a.neg ≡ not c.args.b.neg) × (c.rest_of_raised-rest.result ≡ 0)) =
     ⊎_elim (λ e. inl (sym (same_sign _ _ _ _ e c.is_negative.ensures.value c.is_negative-2.ensures.value)))
     (λ e. inr (not-back _ _ (other_sign _ _ _ _ e.0 c.is_negative.ensures.value c.is_negative-2.ensures.value), e.1)) c.then-same-2.either in
-    rest-kept c.args.m c.args.a c.args.b (c.args.a.place - c.args.b.place) _ _ _ _ some here apart rest c.place-then-same-2.ensures.value
+    c.result.ensures
+    ∙ rest-kept c.args.m c.args.a c.args.b (c.args.a.place - c.args.b.place) _ _ _ _ some here apart rest c.place-then-same-2.ensures.value
     c.is_negative-then-same-2.ensures.value signs c.round_short.ensures
 
 pub returns : goal.returns
@@ -46,6 +47,7 @@ returns c =
     let here : 0 < size c.args.a = something c.args.a (omega arith) in
     let apart : c.args.a.place ≡ c.args.b.place + (c.args.a.place - c.args.b.place) = omega arith in
     let rest = rw (c.coefficient-x.ensures.value, c.coefficient-y.ensures.value, c.place-3.ensures.value, c.place-4.ensures.value) at c.rest_of_raised-rest.ensures.value in
-    rest-turned c.args.m c.args.a c.args.b (c.args.a.place - c.args.b.place) _ _ _ _ some here apart rest c.place-5.ensures.value c.is_negative-3.ensures.value
+    c.result-2.ensures
+    ∙ rest-turned c.args.m c.args.a c.args.b (c.args.a.place - c.args.b.place) _ _ _ _ some here apart rest c.place-5.ensures.value c.is_negative-3.ensures.value
     (not-back _ _ (other_sign _ _ _ _ c.if-same-2.false c.is_negative.ensures.value c.is_negative-2.ensures.value)) c.if-rest-eq0.false _
     c.coefficient-y.ensures.value c.round_short-2.ensures

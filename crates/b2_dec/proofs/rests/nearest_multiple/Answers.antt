@@ -28,5 +28,6 @@ nonzero_div-coef c = rw c.ten_to-unit.ensures (ten_pos (c.args.last - c.place-pl
 
 pub returns : goal.returns
 returns c =
-    nearest-is c.args.a (c.args.last - c.place-place.result) c.args.last _ _ _ _ (omega arith) (omega arith) c.coefficient-coef.ensures.value c.ten_to-unit.ensures
+    c.result.ensures
+    ∙ nearest-is c.args.a (c.args.last - c.place-place.result) c.args.last _ _ _ _ (omega arith) (omega arith) c.coefficient-coef.ensures.value c.ten_to-unit.ensures
     c.is_negative.ensures.value c.round_short.ensures

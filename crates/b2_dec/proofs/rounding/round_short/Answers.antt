@@ -3,7 +3,7 @@ use Rattle.b2_dec.proofs.Exact.{none_from, rnd-none, exact_is_whole, few_digits,
 use Rattle.b2_dec.proofs.rounding.round_short.Goals as goal
 
 pub returns-then-m-eq0 : goal.returns-then-m-eq0
-returns-then-m-eq0 c n d some e = rw c.zero.ensures (sym (rnd-none c.args.mode c.args.neg n d (none_from c.args.m _ n c.if-m-eq0.true e)))
+returns-then-m-eq0 c n d some e = rw (c.number.ensures, c.zero.ensures) (sym (rnd-none c.args.mode c.args.neg n d (none_from c.args.m _ n c.if-m-eq0.true e)))
 
 pub returns-then-m-ge-COEFFICIENT_LIMIT : goal.returns-then-m-ge-COEFFICIENT_LIMIT
 returns-then-m-ge-COEFFICIENT_LIMIT c n d some e = c.round_part.ensures n d some (exact_is_whole c.args.m c.args.at n d some e)

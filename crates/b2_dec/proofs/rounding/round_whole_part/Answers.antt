@@ -23,5 +23,5 @@ after_carry-requires-clause-digits c =
 
 pub returns : goal.returns
 returns c n d some whole =
-    rw (c.after_carry.ensures, c.wide_whole_by-coef.ensures) (rnd-from_digits c.args.mode c.args.neg c.args.m c.args.at n d _ c.requires.digits
+    rw (c.result-2.ensures, c.after_carry.ensures, c.wide_whole_by-coef.ensures) (rnd-from_digits c.args.mode c.args.neg c.args.m c.args.at n d _ c.requires.digits
     c.ilog10-dropped.ensures.power_le c.ilog10-dropped.ensures.next_power_gt some whole)

@@ -1,4 +1,4 @@
-use Rattle.std.proofs.Common.{◌≡◌, true, Ok, Err, None, List, [], ◌∷◌, ◌++◌, length, sym, ap, subst, ◌∙◌, arith, ◌-◌, ◌+◌}
+use Rattle.std.proofs.Common.{◌≡◌, ℕ, true, Ok, length, drop, get_or, refl, sym, ap, ap₂, subst, ◌∙◌, arith, ◌-◌, ◌+◌}
 use Rattle.b2_base.specs.Lexical.{first}
 use Rattle.b2_dec.specs.Number.{Number}
 use Rattle.b2_atom.specs.Words.{Text}
@@ -6,15 +6,21 @@ use Rattle.b2_atom.specs.declared.rows.TheConstants as row
 use Rattle.b2_rows.specs.Rows.{is_part, tree_at, after_part}
 use Rattle.b2_rows.specs.Leaves.{leaf_bytes}
 use Rattle.b2_expr.specs.Further.{further_tree}
-use Rattle.b2_rows.proofs.Levels.{part_no_longer}
-use Rattle.b2_expr.specs.Levels.{ends, left_after_levels, pick, spans}
-use Rattle.b2_expr.specs.Unfinished.{all_completed, have_room, left_after_all, lists_stand, waiting_sign}
-use Rattle.b2_expr.specs.declared.operators.Level.TheVariants as level
-use Rattle.b2_expr.specs.declared.operators.Waiting.{Waiting}
 use Rattle.b2_expr.specs.Named.{name_leaf, cell_seen}
-use Rattle.b2_expr.specs.Value.{context, extremes}
-use Rattle.b2_expr.proofs.Climbs.{off_value, off_rest}
-use Rattle.b2_expr.proofs.Waits.{waits_for, few_for_operator, waiting_shorter, waiting_part, waiting_fit, waiting_refused, waiting_value, waiting_rest, waiting_stand, one_more_sign, read_value, read_rest, read_stand, read_fit, completed_value, completed_refused, completed_rest, completed_stand, completed_lists, completed_fit, none_wait, opened_no_longer, opened_operand, opened_value, opened_refused, opened_lists, opened_stand, opened_rest}
+use Rattle.b2_expr.specs.Value.{context, extremes, value}
+use Rattle.b2_expr.specs.Operators.{joined, under_sign}
+use Rattle.b2_expr.specs.Reads.{Finds}
+use Rattle.b2_expr.specs.declared.operators.Level.TheVariants as level
+use Rattle.b2_rows.proofs.EachChain as each
+use Rattle.b2_base.specs.Lexical.{is_letter}
+use Rattle.b2_vars.specs.Names.{scalar_named}
+use Rattle.b2_expr.specs.Named.{counted_digit}
+use Rattle.b2_expr.proofs.Chained.{bound_code, bound_number, finds_code, finds_same, finds_with, off, on_code, on_part, on_refused, on_shorter, on_smaller, on_step, start_refused, started}
+use Rattle.b2_expr.proofs.Chains.{chain_item}
+use Rattle.b2_expr.proofs.Factors.{plain_value, signed_value}
+use Rattle.b2_expr.proofs.Operands.{call_is, call_rest}
+use Rattle.b2_expr.proofs.PlainNames.{scalar_found}
+use Rattle.b2_expr.proofs.Tails.{one_less}
 use Rattle.b2_expr.proofs.Defined.{body_part, body_is, length_after}
 use Rattle.b2_expr.proofs.Extremes as further
 use Rattle.b2_expr.proofs.Names.{is_legal, is_alpha}
@@ -39,162 +45,190 @@ located-returns-clause-name t c = (
   is_alpha c.args.kind c.name_at-width.result.0 c.is_at.result c.variable_of.result (leaf_bytes (name_leaf c.args.kind) c.args.text.now) c.variable_of.ensures c.name_at-width.ensures.name,
 )
 
-pub call-climb-requires : goal.call-climb-requires
-call-climb-requires t c = (
+pub call-sum-found-requires : goal.call-sum-found-requires
+call-sum-found-requires t c = (
   let few = length_after c.in-Some.unit.now c.rest_after-named.result.now c.rest_after-body.result.now _ c.rest_after-named.ensures c.rest_after-body.ensures c.in-Some.ensures.short in omega (arith, few, c.decreases, c.if-s-eq0.false),
   subst (λ (u : Text). is_part row.SUM u ≡ true) (sym (c.rest_after-body.ensures ∙ body_is c.in-Some.unit.now c.rest_after-named.result.now c.numeric_name-width.result.1 c.rest_after-named.ensures c.numeric_name-width.ensures.width))
       (body_part c.args.name c.in-Some.unit.now c.in-Some.ensures.part c.requires.named c.in-Some.ensures.found),
 )
 
 pub further_numbers-returns-then-not-is_at : goal.further_numbers-returns-then-not-is_at
-further_numbers-returns-then-not-is_at t c = (
-  sym c.loop.invariant.value
-      ∙ further.stop_value (context c.args.s.now) c.args.word (Ok c.loop.number) (7 - c.loop.counter) (7 - (c.loop.counter + 1)) c.loop.left.now (let less = c.loop-test.true in omega (arith, less)) (sym c.if-not-is_at.ensures),
-  sym (further.stop_rest (7 - c.loop.counter) (7 - (c.loop.counter + 1)) c.loop.left.now (let less = c.loop-test.true in omega (arith, less)) (sym c.if-not-is_at.ensures)) ∙ c.loop.invariant.rest,
+further_numbers-returns-then-not-is_at t c =
+    finds_with _ _ c.loop.left.now c.loop.number c.with.result c.with.ensures
+    (sym c.loop.invariant.value
+    ∙ further.stop_value (context c.args.s.now) c.args.word (Ok c.loop.number) (7 - c.loop.counter) (7 - (c.loop.counter + 1)) c.loop.left.now (let less = c.loop-test.true in omega (arith, less)) (sym c.if-not-is_at.ensures))
+    (sym (further.stop_rest (7 - c.loop.counter) (7 - (c.loop.counter + 1)) c.loop.left.now (let less = c.loop-test.true in omega (arith, less)) (sym c.if-not-is_at.ensures)) ∙ c.loop.invariant.rest)
+
+pub further_numbers-sum-other-requires : goal.further_numbers-sum-other-requires
+further_numbers-sum-other-requires t c = (
+  let shorter = further.step_shorter c.loop.left.now c.rest_after-item.result.now (sym c.if-not-is_at.ensures) c.rest_after-item.ensures in let left = c.loop.invariant.shorter in omega (arith, shorter, left, c.decreases),
+  further.step_part (7 - c.loop.counter) (7 - (c.loop.counter + 1)) c.loop.left.now c.rest_after-item.result.now c.loop.invariant.part (let less = c.loop-test.true in omega (arith, less)) (sym c.if-not-is_at.ensures) c.rest_after-item.ensures,
 )
 
-pub further_numbers-climb-requires : goal.further_numbers-climb-requires
-further_numbers-climb-requires t c = (
-  let shorter = further.step_shorter c.loop.left.now c.rest_after.result.now (sym c.if-not-is_at.ensures) c.rest_after.ensures in let left = c.loop.invariant.shorter in omega (arith, shorter, left, c.decreases),
-  further.step_part (7 - c.loop.counter) (7 - (c.loop.counter + 1)) c.loop.left.now c.rest_after.result.now c.loop.invariant.part (let less = c.loop-test.true in omega (arith, less)) (sym c.if-not-is_at.ensures) c.rest_after.ensures,
-)
-
-pub further_numbers-returns-in-Err : goal.further_numbers-returns-in-Err
-further_numbers-returns-in-Err t c =
-    sym c.loop.invariant.value
-    ∙ further.step_value (context c.args.s.now) c.args.word c.loop.number (7 - c.loop.counter) (7 - (c.loop.counter + 1)) c.loop.left.now c.rest_after.result.now (Err c.in-Err.code) (let less = c.loop-test.true in omega (arith, less)) (sym c.if-not-is_at.ensures) c.rest_after.ensures c.in-Err.ensures
-    ∙ further.refused (context c.args.s.now) c.args.word c.in-Err.code (further_tree (7 - (c.loop.counter + 1)) (after_part row.SUM c.rest_after.result.now))
+pub further_numbers-returns-then-is_code : goal.further_numbers-returns-then-is_code
+further_numbers-returns-then-is_code t c =
+    let coded = sym c.is_code.ensures ∙ c.if-is_code.true in
+    finds_code _ _ c.sum-other.result
+    (sym c.loop.invariant.value
+    ∙ further.step_value (context c.args.s.now) c.args.word c.loop.number (7 - c.loop.counter) (7 - (c.loop.counter + 1)) c.loop.left.now c.rest_after-item.result.now c.sum-other.result.number (let less = c.loop-test.true in omega (arith, less)) (sym c.if-not-is_at.ensures) c.rest_after-item.ensures (sym c.sum-other.ensures.number)
+    ∙ further.code_refused (context c.args.s.now) c.args.word c.sum-other.result.number c.loop.number (further_tree (7 - (c.loop.counter + 1)) (after_part row.SUM c.rest_after-item.result.now)) coded)
+    coded
 
 pub further_numbers-loop-preserved : goal.further_numbers-loop-preserved
 further_numbers-loop-preserved t c =
     record {
-      part = further.step_further (7 - c.loop.counter) (7 - (c.loop.counter + 1)) c.loop.left.now c.rest_after.result.now c.in-Ok.found.1.now c.loop.invariant.part (let less = c.loop-test.true in omega (arith, less)) (sym c.if-not-is_at.ensures) c.rest_after.ensures c.in-Ok.ensures.1;
-      value = ap (λ (u : Text). extremes (context c.args.s.now) c.args.word (Ok c.extreme-number.result) (further_tree (7 - (c.loop.counter + 1)) u)) c.in-Ok.ensures.1
-          ∙ ap (λ (x : Number). extremes (context c.args.s.now) c.args.word (Ok x) (further_tree (7 - (c.loop.counter + 1)) (after_part row.SUM c.rest_after.result.now))) c.extreme-number.ensures
-          ∙ sym (further.step_value (context c.args.s.now) c.args.word c.loop.number (7 - c.loop.counter) (7 - (c.loop.counter + 1)) c.loop.left.now c.rest_after.result.now (Ok c.in-Ok.found.0) (let less = c.loop-test.true in omega (arith, less)) (sym c.if-not-is_at.ensures) c.rest_after.ensures c.in-Ok.ensures.0)
+      part = further.step_further (7 - c.loop.counter) (7 - (c.loop.counter + 1)) c.loop.left.now c.rest_after-item.result.now c.after_sum-left.result.now c.loop.invariant.part (let less = c.loop-test.true in omega (arith, less)) (sym c.if-not-is_at.ensures) c.rest_after-item.ensures c.after_sum-left.ensures;
+      value = ap (λ (u : Text). extremes (context c.args.s.now) c.args.word (Ok c.extreme-number.result) (further_tree (7 - (c.loop.counter + 1)) u)) c.after_sum-left.ensures
+          ∙ ap (λ (x : Number). extremes (context c.args.s.now) c.args.word (Ok x) (further_tree (7 - (c.loop.counter + 1)) (after_part row.SUM c.rest_after-item.result.now))) c.extreme-number.ensures
+          ∙ sym (further.step_value (context c.args.s.now) c.args.word c.loop.number (7 - c.loop.counter) (7 - (c.loop.counter + 1)) c.loop.left.now c.rest_after-item.result.now (Ok c.get.result) (let less = c.loop-test.true in omega (arith, less)) (sym c.if-not-is_at.ensures) c.rest_after-item.ensures (sym c.sum-other.ensures.number ∙ c.get.ensures))
           ∙ c.loop.invariant.value;
-      rest = further.step_rest (7 - c.loop.counter) (7 - (c.loop.counter + 1)) c.loop.left.now c.rest_after.result.now c.in-Ok.found.1.now (let less = c.loop-test.true in omega (arith, less)) (sym c.if-not-is_at.ensures) c.rest_after.ensures c.in-Ok.ensures.1 ∙ c.loop.invariant.rest;
-      shorter = (let a = further.step_shorter c.loop.left.now c.rest_after.result.now (sym c.if-not-is_at.ensures) c.rest_after.ensures in let b = further.part_after c.rest_after.result.now c.in-Ok.found.1.now c.in-Ok.ensures.1 in let d = c.loop.invariant.shorter in omega (arith, a, b, d));
+      rest = further.step_rest (7 - c.loop.counter) (7 - (c.loop.counter + 1)) c.loop.left.now c.rest_after-item.result.now c.after_sum-left.result.now (let less = c.loop-test.true in omega (arith, less)) (sym c.if-not-is_at.ensures) c.rest_after-item.ensures c.after_sum-left.ensures ∙ c.loop.invariant.rest;
+      shorter = (let a = further.step_shorter c.loop.left.now c.rest_after-item.result.now (sym c.if-not-is_at.ensures) c.rest_after-item.ensures in let b = further.part_after c.rest_after-item.result.now c.after_sum-left.result.now c.after_sum-left.ensures in let d = c.loop.invariant.shorter in omega (arith, a, b, d));
     }
 
 pub further_numbers-returns : goal.further_numbers-returns
-further_numbers-returns t c = (
-  sym c.loop.invariant.value
-      ∙ further.none_value (context c.args.s.now) c.args.word (Ok c.loop.number) (7 - c.loop.counter) c.loop.left.now (let more = c.loop-test.false in omega (arith, more)),
-  sym (further.none_rest (7 - c.loop.counter) c.loop.left.now (let more = c.loop-test.false in omega (arith, more))) ∙ c.loop.invariant.rest,
+further_numbers-returns t c =
+    finds_with _ _ c.loop.left.now c.loop.number c.with-2.result c.with-2.ensures
+    (sym c.loop.invariant.value
+    ∙ further.none_value (context c.args.s.now) c.args.word (Ok c.loop.number) (7 - c.loop.counter) c.loop.left.now (let more = c.loop-test.false in omega (arith, more)))
+    (sym (further.none_rest (7 - c.loop.counter) c.loop.left.now (let more = c.loop-test.false in omega (arith, more))) ∙ c.loop.invariant.rest)
+
+pub sum-product-start-requires : goal.sum-product-start-requires
+sum-product-start-requires t c = (omega (arith, c.decreases), chain_item level.Sum c.args.text.now refl c.requires.part)
+
+pub sum-returns-then-is_code : goal.sum-returns-then-is_code
+sum-returns-then-is_code t c = start_refused (context c.args.s.now) level.Sum c.args.text.now c.product-start.result refl c.requires.part c.product-start.ensures (sym c.is_code.ensures ∙ c.if-is_code.true)
+
+pub sum-loop-item-init : goal.sum-loop-item-init
+sum-loop-item-init t c =
+    started (context c.args.s.now) level.Sum c.args.text.now c.product-start.result c.get-number.result c.last_bytes-left.result.now refl c.requires.part c.product-start.ensures
+    (sym c.is_code.ensures ∙ c.if-is_code.false) c.get-number.ensures c.last_bytes-left.ensures
+
+pub sum-product-other-requires : goal.sum-product-other-requires
+sum-product-other-requires t c = (
+  let a = on_shorter (context c.args.s.now) level.Sum c.args.text.now c.loop-item.number c.loop-item.left.now c.loop-item.invariant refl (sym c.goes_on.ensures ∙ c.loop-item-test.true) c.rest_after-item.result.now c.rest_after-item.ensures in let b = c.loop-item.invariant.shorter in omega (arith, a, b, c.decreases),
+  on_part (context c.args.s.now) level.Sum c.args.text.now c.loop-item.number c.loop-item.left.now c.loop-item.invariant refl (sym c.goes_on.ensures ∙ c.loop-item-test.true) c.rest_after-item.result.now c.rest_after-item.ensures,
 )
 
-pub climb-push-requires : goal.climb-push-requires
-climb-push-requires t c = (
-  omega arith,
-  few_for_operator c.loop-level.waiting.items c.loop-level.reading c.loop-level.top c.in-Some.level c.loop-level.left.now c.loop-level.invariant.room (c.in-Some.ensures ∙ ap (pick (spans c.loop-level.reading c.loop-level.top)) c.first-operator.ensures),
+pub sum-returns-then-is_code-2 : goal.sum-returns-then-is_code-2
+sum-returns-then-is_code-2 t c = on_refused (context c.args.s.now) level.Sum c.args.text.now c.loop-item.number c.loop-item.left.now c.loop-item.invariant refl (sym c.goes_on.ensures ∙ c.loop-item-test.true) c.rest_after-item.result.now c.rest_after-item.ensures c.product-other.result c.product-other.ensures (sym c.is_code-in-loop-item.ensures ∙ c.if-is_code-2.true)
+
+pub sum-returns-then-is_code-3 : goal.sum-returns-then-is_code-3
+sum-returns-then-is_code-3 t c = on_code (context c.args.s.now) level.Sum c.args.text.now c.loop-item.number c.loop-item.left.now c.loop-item.invariant refl (sym c.goes_on.ensures ∙ c.loop-item-test.true) c.rest_after-item.result.now c.rest_after-item.ensures c.product-other.result c.product-other.ensures (sym c.is_code-in-loop-item.ensures ∙ c.if-is_code-2.false) c.get.result c.get.ensures c.joined-made.result (c.joined-made.ensures ∙ ap (λ (b : ℕ). joined c.args.s.now.env.now.mode b c.loop-item.number c.get.result) c.first.ensures) c.at_end.result c.at_end.ensures (sym c.is_code-in-loop-item-2.ensures ∙ c.if-is_code-3.true)
+
+pub sum-loop-item-smaller : goal.sum-loop-item-smaller
+sum-loop-item-smaller t c = on_smaller (context c.args.s.now) level.Sum c.args.text.now c.loop-item.number c.loop-item.left.now c.loop-item.invariant refl (sym c.goes_on.ensures ∙ c.loop-item-test.true) c.rest_after-item.result.now c.rest_after-item.ensures c.product-other.result c.product-other.ensures (sym c.is_code-in-loop-item.ensures ∙ c.if-is_code-2.false) c.get.result c.get.ensures c.joined-made.result (c.joined-made.ensures ∙ ap (λ (b : ℕ). joined c.args.s.now.env.now.mode b c.loop-item.number c.get.result) c.first.ensures) c.get-number-in-loop-item.result c.get-number-in-loop-item.ensures c.last_bytes-left-in-loop-item.result.now c.last_bytes-left-in-loop-item.ensures
+
+pub sum-loop-item-preserved : goal.sum-loop-item-preserved
+sum-loop-item-preserved t c = on_step (context c.args.s.now) level.Sum c.args.text.now c.loop-item.number c.loop-item.left.now c.loop-item.invariant refl (sym c.goes_on.ensures ∙ c.loop-item-test.true) c.rest_after-item.result.now c.rest_after-item.ensures c.product-other.result c.product-other.ensures (sym c.is_code-in-loop-item.ensures ∙ c.if-is_code-2.false) c.get.result c.get.ensures c.joined-made.result (c.joined-made.ensures ∙ ap (λ (b : ℕ). joined c.args.s.now.env.now.mode b c.loop-item.number c.get.result) c.first.ensures) c.get-number-in-loop-item.result c.get-number-in-loop-item.ensures c.last_bytes-left-in-loop-item.result.now c.last_bytes-left-in-loop-item.ensures
+
+pub sum-returns : goal.sum-returns
+sum-returns t c = off (context c.args.s.now) level.Sum c.args.text.now c.loop-item.number c.loop-item.left.now c.loop-item.invariant refl (sym c.goes_on.ensures ∙ c.loop-item-test.false) (length c.loop-item.left.now) refl c.with.result c.with.ensures
+
+pub product-factor-start-requires : goal.product-factor-start-requires
+product-factor-start-requires t c = (omega (arith, c.decreases), chain_item level.Product c.args.text.now refl c.requires.part)
+
+pub product-returns-then-is_code : goal.product-returns-then-is_code
+product-returns-then-is_code t c = start_refused (context c.args.s.now) level.Product c.args.text.now c.factor-start.result refl c.requires.part c.factor-start.ensures (sym c.is_code.ensures ∙ c.if-is_code.true)
+
+pub product-loop-item-init : goal.product-loop-item-init
+product-loop-item-init t c =
+    started (context c.args.s.now) level.Product c.args.text.now c.factor-start.result c.get-number.result c.last_bytes-left.result.now refl c.requires.part c.factor-start.ensures
+    (sym c.is_code.ensures ∙ c.if-is_code.false) c.get-number.ensures c.last_bytes-left.ensures
+
+pub product-factor-other-requires : goal.product-factor-other-requires
+product-factor-other-requires t c = (
+  let a = on_shorter (context c.args.s.now) level.Product c.args.text.now c.loop-item.number c.loop-item.left.now c.loop-item.invariant refl (sym c.goes_on.ensures ∙ c.loop-item-test.true) c.rest_after-item.result.now c.rest_after-item.ensures in let b = c.loop-item.invariant.shorter in omega (arith, a, b, c.decreases),
+  on_part (context c.args.s.now) level.Product c.args.text.now c.loop-item.number c.loop-item.left.now c.loop-item.invariant refl (sym c.goes_on.ensures ∙ c.loop-item-test.true) c.rest_after-item.result.now c.rest_after-item.ensures,
 )
 
-pub climb-first_operand-requires-in-Some : goal.climb-first_operand-requires-in-Some
-climb-first_operand-requires-in-Some t c = (
-  let a = waiting_shorter c.loop-level.reading c.loop-level.top c.in-Some.level c.loop-level.left.now c.rest_after.result.now c.loop-level.invariant.lists (c.in-Some.ensures ∙ ap (pick (spans c.loop-level.reading c.loop-level.top)) c.first-operator.ensures) c.rest_after.ensures in let d = c.loop-level.invariant.shorter in omega (arith, a, d, c.decreases),
-  (
-    waiting_part c.loop-level.reading c.loop-level.top c.in-Some.level c.item_level.result c.loop-level.left.now c.rest_after.result.now c.loop-level.invariant.lists (c.in-Some.ensures ∙ ap (pick (spans c.loop-level.reading c.loop-level.top)) c.first-operator.ensures) c.item_level.ensures c.rest_after.ensures,
-    subst (λ (ps : List Waiting). have_room 0 ps c.item_level.result ≡ true) (sym c.push.ensures.items)
-        (waiting_fit c.loop-level.waiting.items c.loop-level.reading c.loop-level.top c.in-Some.level c.item_level.result c.loop-level.number c.first-operator.result c.loop-level.left.now c.loop-level.invariant.room (c.in-Some.ensures ∙ ap (pick (spans c.loop-level.reading c.loop-level.top)) c.first-operator.ensures) c.item_level.ensures),
-  ),
+pub product-returns-then-is_code-2 : goal.product-returns-then-is_code-2
+product-returns-then-is_code-2 t c = on_refused (context c.args.s.now) level.Product c.args.text.now c.loop-item.number c.loop-item.left.now c.loop-item.invariant refl (sym c.goes_on.ensures ∙ c.loop-item-test.true) c.rest_after-item.result.now c.rest_after-item.ensures c.factor-other.result c.factor-other.ensures (sym c.is_code-in-loop-item.ensures ∙ c.if-is_code-2.true)
+
+pub product-returns-then-is_code-3 : goal.product-returns-then-is_code-3
+product-returns-then-is_code-3 t c = on_code (context c.args.s.now) level.Product c.args.text.now c.loop-item.number c.loop-item.left.now c.loop-item.invariant refl (sym c.goes_on.ensures ∙ c.loop-item-test.true) c.rest_after-item.result.now c.rest_after-item.ensures c.factor-other.result c.factor-other.ensures (sym c.is_code-in-loop-item.ensures ∙ c.if-is_code-2.false) c.get.result c.get.ensures c.joined-made.result (c.joined-made.ensures ∙ ap (λ (b : ℕ). joined c.args.s.now.env.now.mode b c.loop-item.number c.get.result) c.first.ensures) c.at_end.result c.at_end.ensures (sym c.is_code-in-loop-item-2.ensures ∙ c.if-is_code-3.true)
+
+pub product-loop-item-smaller : goal.product-loop-item-smaller
+product-loop-item-smaller t c = on_smaller (context c.args.s.now) level.Product c.args.text.now c.loop-item.number c.loop-item.left.now c.loop-item.invariant refl (sym c.goes_on.ensures ∙ c.loop-item-test.true) c.rest_after-item.result.now c.rest_after-item.ensures c.factor-other.result c.factor-other.ensures (sym c.is_code-in-loop-item.ensures ∙ c.if-is_code-2.false) c.get.result c.get.ensures c.joined-made.result (c.joined-made.ensures ∙ ap (λ (b : ℕ). joined c.args.s.now.env.now.mode b c.loop-item.number c.get.result) c.first.ensures) c.get-number-in-loop-item.result c.get-number-in-loop-item.ensures c.last_bytes-left-in-loop-item.result.now c.last_bytes-left-in-loop-item.ensures
+
+pub product-loop-item-preserved : goal.product-loop-item-preserved
+product-loop-item-preserved t c = on_step (context c.args.s.now) level.Product c.args.text.now c.loop-item.number c.loop-item.left.now c.loop-item.invariant refl (sym c.goes_on.ensures ∙ c.loop-item-test.true) c.rest_after-item.result.now c.rest_after-item.ensures c.factor-other.result c.factor-other.ensures (sym c.is_code-in-loop-item.ensures ∙ c.if-is_code-2.false) c.get.result c.get.ensures c.joined-made.result (c.joined-made.ensures ∙ ap (λ (b : ℕ). joined c.args.s.now.env.now.mode b c.loop-item.number c.get.result) c.first.ensures) c.get-number-in-loop-item.result c.get-number-in-loop-item.ensures c.last_bytes-left-in-loop-item.result.now c.last_bytes-left-in-loop-item.ensures
+
+pub product-returns : goal.product-returns
+product-returns t c = off (context c.args.s.now) level.Product c.args.text.now c.loop-item.number c.loop-item.left.now c.loop-item.invariant refl (sym c.goes_on.ensures ∙ c.loop-item-test.false) (length c.loop-item.left.now) refl c.with.result c.with.ensures
+
+pub power-operand-start-requires : goal.power-operand-start-requires
+power-operand-start-requires t c = (omega (arith, c.decreases), chain_item level.Power c.args.text.now refl c.requires.part)
+
+pub power-returns-then-is_code : goal.power-returns-then-is_code
+power-returns-then-is_code t c = start_refused (context c.args.s.now) level.Power c.args.text.now c.operand-start.result refl c.requires.part c.operand-start.ensures (sym c.is_code.ensures ∙ c.if-is_code.true)
+
+pub power-loop-item-init : goal.power-loop-item-init
+power-loop-item-init t c =
+    started (context c.args.s.now) level.Power c.args.text.now c.operand-start.result c.get-number.result c.last_bytes-left.result.now refl c.requires.part c.operand-start.ensures
+    (sym c.is_code.ensures ∙ c.if-is_code.false) c.get-number.ensures c.last_bytes-left.ensures
+
+pub power-operand-other-requires : goal.power-operand-other-requires
+power-operand-other-requires t c = (
+  let a = on_shorter (context c.args.s.now) level.Power c.args.text.now c.loop-item.number c.loop-item.left.now c.loop-item.invariant refl (sym c.goes_on.ensures ∙ c.loop-item-test.true) c.rest_after-item.result.now c.rest_after-item.ensures in let b = c.loop-item.invariant.shorter in omega (arith, a, b, c.decreases),
+  on_part (context c.args.s.now) level.Power c.args.text.now c.loop-item.number c.loop-item.left.now c.loop-item.invariant refl (sym c.goes_on.ensures ∙ c.loop-item-test.true) c.rest_after-item.result.now c.rest_after-item.ensures,
 )
 
-pub climb-returns-in-Err-first_operand : goal.climb-returns-in-Err-first_operand
-climb-returns-in-Err-first_operand t c =
-    sym c.loop-level.invariant.value
-    ∙ waiting_refused (context c.args.s.now) c.loop-level.waiting.items c.loop-level.reading c.loop-level.top c.in-Some.level c.item_level.result c.loop-level.number c.first-operator.result c.loop-level.left.now c.rest_after.result.now c.in-Err-first_operand.code c.loop-level.invariant.lists (c.in-Some.ensures ∙ ap (pick (spans c.loop-level.reading c.loop-level.top)) c.first-operator.ensures) c.item_level.ensures c.rest_after.ensures c.first-operator.ensures c.in-Err-first_operand.ensures.value
+pub power-returns-then-is_code-2 : goal.power-returns-then-is_code-2
+power-returns-then-is_code-2 t c = on_refused (context c.args.s.now) level.Power c.args.text.now c.loop-item.number c.loop-item.left.now c.loop-item.invariant refl (sym c.goes_on.ensures ∙ c.loop-item-test.true) c.rest_after-item.result.now c.rest_after-item.ensures c.operand-other.result c.operand-other.ensures (sym c.is_code-in-loop-item.ensures ∙ c.if-is_code-2.true)
 
-pub climb-loop-level-smaller-in-Some : goal.climb-loop-level-smaller-in-Some
-climb-loop-level-smaller-in-Some t c =
-    let a = waiting_shorter c.loop-level.reading c.loop-level.top c.in-Some.level c.loop-level.left.now c.rest_after.result.now c.loop-level.invariant.lists (c.in-Some.ensures ∙ ap (pick (spans c.loop-level.reading c.loop-level.top)) c.first-operator.ensures) c.rest_after.ensures in
-    let b = c.in-Ok-first_operand.ensures.shorter in
-    let d = one_more_sign c.push.new.self.items c.first_operand-in-Some.new.waiting.items c.item_level.result c.rest_after.result.now c.in-Ok-first_operand.ensures.items in
-    let e = c.push.ensures.len in
-    omega (arith, a, b, d, e)
+pub power-returns-then-is_code-3 : goal.power-returns-then-is_code-3
+power-returns-then-is_code-3 t c = on_code (context c.args.s.now) level.Power c.args.text.now c.loop-item.number c.loop-item.left.now c.loop-item.invariant refl (sym c.goes_on.ensures ∙ c.loop-item-test.true) c.rest_after-item.result.now c.rest_after-item.ensures c.operand-other.result c.operand-other.ensures (sym c.is_code-in-loop-item.ensures ∙ c.if-is_code-2.false) c.get.result c.get.ensures c.joined-made.result (c.joined-made.ensures ∙ ap (λ (b : ℕ). joined c.args.s.now.env.now.mode b c.loop-item.number c.get.result) c.first.ensures) c.at_end.result c.at_end.ensures (sym c.is_code-in-loop-item-2.ensures ∙ c.if-is_code-3.true)
 
-pub climb-loop-level-preserved-in-Some : goal.climb-loop-level-preserved-in-Some
-climb-loop-level-preserved-in-Some t c =
-    let items : c.first_operand-in-Some.new.waiting.items ≡ (c.loop-level.waiting.items ++ waits_for c.loop-level.reading c.in-Some.level c.loop-level.number c.first-operator.result ∷ []) ++ (waiting_sign c.item_level.result c.rest_after.result.now) = c.in-Ok-first_operand.ensures.items ∙ ap (λ (ps : List Waiting). ps ++ (waiting_sign c.item_level.result c.rest_after.result.now)) c.push.ensures.items in
-    record {
-      lists = c.in-Ok-first_operand.ensures.lists;
-      stand = subst (λ (ps : List Waiting). lists_stand ps (left_after_levels (spans c.in-Ok-first_operand.found.1 level.Power) c.in-Ok-first_operand.found.2.now) ≡ true) (sym items)
-          (read_stand (c.loop-level.waiting.items ++ waits_for c.loop-level.reading c.in-Some.level c.loop-level.number c.first-operator.result ∷ []) (waiting_sign c.item_level.result c.rest_after.result.now) c.item_level.result c.in-Ok-first_operand.found.1 c.rest_after.result.now c.in-Ok-first_operand.found.2.now c.in-Ok-first_operand.ensures.rest c.in-Ok-first_operand.ensures.stand
-          (waiting_stand c.loop-level.waiting.items c.loop-level.reading c.loop-level.top c.in-Some.level c.item_level.result c.loop-level.number c.first-operator.result c.loop-level.left.now c.rest_after.result.now c.loop-level.invariant.lists (c.in-Some.ensures ∙ ap (pick (spans c.loop-level.reading c.loop-level.top)) c.first-operator.ensures) c.item_level.ensures c.rest_after.ensures c.loop-level.invariant.stand));
-      room = subst (λ (ps : List Waiting). have_room 0 ps c.in-Ok-first_operand.found.1 ≡ true) (sym items)
-          (read_fit (c.loop-level.waiting.items ++ waits_for c.loop-level.reading c.in-Some.level c.loop-level.number c.first-operator.result ∷ []) c.item_level.result c.in-Ok-first_operand.found.1 c.rest_after.result.now c.in-Ok-first_operand.ensures.level
-          (waiting_fit c.loop-level.waiting.items c.loop-level.reading c.loop-level.top c.in-Some.level c.item_level.result c.loop-level.number c.first-operator.result c.loop-level.left.now c.loop-level.invariant.room (c.in-Some.ensures ∙ ap (pick (spans c.loop-level.reading c.loop-level.top)) c.first-operator.ensures) c.item_level.ensures));
-      value = ap (λ (ps : List Waiting). all_completed (context c.args.s.now) ps (ends (context c.args.s.now) (spans c.in-Ok-first_operand.found.1 level.Power) (Ok c.in-Ok-first_operand.found.0) c.in-Ok-first_operand.found.2.now) (left_after_levels (spans c.in-Ok-first_operand.found.1 level.Power) c.in-Ok-first_operand.found.2.now)) items
-          ∙ read_value (context c.args.s.now) (c.loop-level.waiting.items ++ waits_for c.loop-level.reading c.in-Some.level c.loop-level.number c.first-operator.result ∷ []) (waiting_sign c.item_level.result c.rest_after.result.now) c.item_level.result c.in-Ok-first_operand.found.1 c.in-Ok-first_operand.found.0 c.rest_after.result.now c.in-Ok-first_operand.found.2.now c.in-Ok-first_operand.ensures.value c.in-Ok-first_operand.ensures.rest
-          ∙ waiting_value (context c.args.s.now) c.loop-level.waiting.items c.loop-level.reading c.loop-level.top c.in-Some.level c.item_level.result c.loop-level.number c.first-operator.result c.loop-level.left.now c.rest_after.result.now c.loop-level.invariant.lists (c.in-Some.ensures ∙ ap (pick (spans c.loop-level.reading c.loop-level.top)) c.first-operator.ensures) c.item_level.ensures c.rest_after.ensures c.first-operator.ensures
-          ∙ c.loop-level.invariant.value;
-      rest = ap (λ (ps : List Waiting). left_after_all ps (left_after_levels (spans c.in-Ok-first_operand.found.1 level.Power) c.in-Ok-first_operand.found.2.now)) items
-          ∙ read_rest (c.loop-level.waiting.items ++ waits_for c.loop-level.reading c.in-Some.level c.loop-level.number c.first-operator.result ∷ []) (waiting_sign c.item_level.result c.rest_after.result.now) c.item_level.result c.in-Ok-first_operand.found.1 c.rest_after.result.now c.in-Ok-first_operand.found.2.now c.in-Ok-first_operand.ensures.rest
-          ∙ waiting_rest c.loop-level.waiting.items c.loop-level.reading c.loop-level.top c.in-Some.level c.item_level.result c.loop-level.number c.first-operator.result c.loop-level.left.now c.rest_after.result.now c.loop-level.invariant.lists (c.in-Some.ensures ∙ ap (pick (spans c.loop-level.reading c.loop-level.top)) c.first-operator.ensures) c.item_level.ensures c.rest_after.ensures
-          ∙ c.loop-level.invariant.rest;
-      shorter = (let a = waiting_shorter c.loop-level.reading c.loop-level.top c.in-Some.level c.loop-level.left.now c.rest_after.result.now c.loop-level.invariant.lists (c.in-Some.ensures ∙ ap (pick (spans c.loop-level.reading c.loop-level.top)) c.first-operator.ensures) c.rest_after.ensures in let d = c.in-Ok-first_operand.ensures.shorter in let e = c.loop-level.invariant.shorter in omega (arith, a, d, e));
-    }
+pub power-loop-item-smaller : goal.power-loop-item-smaller
+power-loop-item-smaller t c = on_smaller (context c.args.s.now) level.Power c.args.text.now c.loop-item.number c.loop-item.left.now c.loop-item.invariant refl (sym c.goes_on.ensures ∙ c.loop-item-test.true) c.rest_after-item.result.now c.rest_after-item.ensures c.operand-other.result c.operand-other.ensures (sym c.is_code-in-loop-item.ensures ∙ c.if-is_code-2.false) c.get.result c.get.ensures c.joined-made.result (c.joined-made.ensures ∙ ap (λ (b : ℕ). joined c.args.s.now.env.now.mode b c.loop-item.number c.get.result) c.first.ensures) c.get-number-in-loop-item.result c.get-number-in-loop-item.ensures c.last_bytes-left-in-loop-item.result.now c.last_bytes-left-in-loop-item.ensures
 
-pub climb-returns-in-Err-completed : goal.climb-returns-in-Err-completed
-climb-returns-in-Err-completed t c =
-    sym c.loop-level.invariant.value
-    ∙ ap (λ (ps : List Waiting). all_completed (context c.args.s.now) ps (ends (context c.args.s.now) (spans c.loop-level.reading c.loop-level.top) (Ok c.loop-level.number) c.loop-level.left.now) (left_after_levels (spans c.loop-level.reading c.loop-level.top) c.loop-level.left.now)) c.in-Some-pop.ensures.items
-    ∙ completed_refused (context c.args.s.now) c.pop.new.self.items c.in-Some-pop.last c.loop-level.reading c.loop-level.top c.loop-level.number c.in-Err-completed.code c.loop-level.left.now (sym (sym c.in_default.is ∙ c.operator_at.ensures ∙ ap (pick (spans c.loop-level.reading c.loop-level.top)) c.first-operator.ensures)) (sym c.in-Err-completed.ensures)
+pub power-loop-item-preserved : goal.power-loop-item-preserved
+power-loop-item-preserved t c = on_step (context c.args.s.now) level.Power c.args.text.now c.loop-item.number c.loop-item.left.now c.loop-item.invariant refl (sym c.goes_on.ensures ∙ c.loop-item-test.true) c.rest_after-item.result.now c.rest_after-item.ensures c.operand-other.result c.operand-other.ensures (sym c.is_code-in-loop-item.ensures ∙ c.if-is_code-2.false) c.get.result c.get.ensures c.joined-made.result (c.joined-made.ensures ∙ ap (λ (b : ℕ). joined c.args.s.now.env.now.mode b c.loop-item.number c.get.result) c.first.ensures) c.get-number-in-loop-item.result c.get-number-in-loop-item.ensures c.last_bytes-left-in-loop-item.result.now c.last_bytes-left-in-loop-item.ensures
 
-pub climb-loop-level-preserved : goal.climb-loop-level-preserved
-climb-loop-level-preserved t c =
-    let none : pick (spans c.loop-level.reading c.loop-level.top) (first c.loop-level.left.now) ≡ None = (sym (sym c.in_default.is ∙ c.operator_at.ensures ∙ ap (pick (spans c.loop-level.reading c.loop-level.top)) c.first-operator.ensures)) in
-    record {
-      lists = completed_lists c.pop.new.self.items c.in-Some-pop.last c.loop-level.reading c.loop-level.top c.loop-level.left.now none
-          (subst (λ (ps : List Waiting). lists_stand ps (left_after_levels (spans c.loop-level.reading c.loop-level.top) c.loop-level.left.now) ≡ true) c.in-Some-pop.ensures.items c.loop-level.invariant.stand);
-      stand = completed_stand c.pop.new.self.items c.in-Some-pop.last c.loop-level.reading c.loop-level.top c.loop-level.left.now none
-          (subst (λ (ps : List Waiting). lists_stand ps (left_after_levels (spans c.loop-level.reading c.loop-level.top) c.loop-level.left.now) ≡ true) c.in-Some-pop.ensures.items c.loop-level.invariant.stand);
-      room = completed_fit c.pop.new.self.items c.in-Some-pop.last c.loop-level.reading (subst (λ (ps : List Waiting). have_room 0 ps c.loop-level.reading ≡ true) c.in-Some-pop.ensures.items c.loop-level.invariant.room);
-      value = sym (completed_value (context c.args.s.now) c.pop.new.self.items c.in-Some-pop.last c.loop-level.reading c.loop-level.top c.loop-level.number (Ok c.in-Ok-completed.found) c.loop-level.left.now none (sym c.in-Ok-completed.ensures))
-          ∙ sym (ap (λ (ps : List Waiting). all_completed (context c.args.s.now) ps (ends (context c.args.s.now) (spans c.loop-level.reading c.loop-level.top) (Ok c.loop-level.number) c.loop-level.left.now) (left_after_levels (spans c.loop-level.reading c.loop-level.top) c.loop-level.left.now)) c.in-Some-pop.ensures.items)
-          ∙ c.loop-level.invariant.value;
-      rest = sym (completed_rest c.pop.new.self.items c.in-Some-pop.last c.loop-level.reading c.loop-level.top c.loop-level.left.now none)
-          ∙ sym (ap (λ (ps : List Waiting). left_after_all ps (left_after_levels (spans c.loop-level.reading c.loop-level.top) c.loop-level.left.now)) c.in-Some-pop.ensures.items)
-          ∙ c.loop-level.invariant.rest;
-      shorter = c.loop-level.invariant.shorter;
-    }
+pub power-returns : goal.power-returns
+power-returns t c = off (context c.args.s.now) level.Power c.args.text.now c.loop-item.number c.loop-item.left.now c.loop-item.invariant refl (sym c.goes_on.ensures ∙ c.loop-item-test.false) (length c.loop-item.left.now) refl c.with.result c.with.ensures
 
-pub climb-returns-in_default-pop : goal.climb-returns-in_default-pop
-climb-returns-in_default-pop t c =
-    let none : pick (spans c.loop-level.reading c.loop-level.top) (first c.loop-level.left.now) ≡ None = (sym (sym c.in_default.is ∙ c.operator_at.ensures ∙ ap (pick (spans c.loop-level.reading c.loop-level.top)) c.first-operator.ensures)) in
-    let empty : c.loop-level.waiting.items ≡ [] = none_wait c.loop-level.waiting.items c.in_default-pop.ensures.variant.1 in (
-      sym c.loop-level.invariant.value
-          ∙ ap (λ (ps : List Waiting). all_completed (context c.args.s.now) ps (ends (context c.args.s.now) (spans c.loop-level.reading c.loop-level.top) (Ok c.loop-level.number) c.loop-level.left.now) (left_after_levels (spans c.loop-level.reading c.loop-level.top) c.loop-level.left.now)) empty
-          ∙ off_value (context c.args.s.now) c.loop-level.reading c.loop-level.top (Ok c.loop-level.number) c.loop-level.left.now none,
-      sym (off_rest c.loop-level.reading c.loop-level.top c.loop-level.left.now none)
-          ∙ sym (ap (λ (ps : List Waiting). left_after_all ps (left_after_levels (spans c.loop-level.reading c.loop-level.top) c.loop-level.left.now)) empty)
-          ∙ c.loop-level.invariant.rest,
-    )
+pub factor-power-requires : goal.factor-power-requires
+factor-power-requires t c = (omega (arith, c.decreases), each.plain_part c.args.text.now c.requires.part (sym c.if-not-has_sign.ensures))
 
-pub first_operand-operand-requires : goal.first_operand-operand-requires
-first_operand-operand-requires t c = (
-  let a = opened_no_longer c.args.wanted c.past_sign-level.result.0 c.args.text.now c.past_sign-level.result.1.now c.requires.part c.past_sign-level.ensures.level c.past_sign-level.ensures.rest in omega (arith, a, c.decreases),
-  opened_operand c.args.wanted c.past_sign-level.result.0 c.args.text.now c.past_sign-level.result.1.now c.requires.part c.past_sign-level.ensures.level c.past_sign-level.ensures.rest,
+pub factor-returns-then-not-has_sign : goal.factor-returns-then-not-has_sign
+factor-returns-then-not-has_sign t c =
+    finds_same _ _ _ _ c.power.result (plain_value (context c.args.s.now) c.args.text.now c.requires.part (sym c.if-not-has_sign.ensures))
+    (each.plain_rest c.args.text.now c.requires.part (sym c.if-not-has_sign.ensures)) c.power.ensures
+
+pub factor-power-found-requires : goal.factor-power-found-requires
+factor-power-found-requires t c = (
+  let a = each.signed_shorter c.args.text.now (sym c.if-not-has_sign.ensures) in let b = ap length c.rest_after.ensures in omega (arith, a, b, c.decreases),
+  subst (λ (u : Text). is_part row.POWER u ≡ true) (sym c.rest_after.ensures) (each.signed_part c.args.text.now c.requires.part (sym c.if-not-has_sign.ensures)),
 )
 
-pub first_operand-returns-clause-value : goal.first_operand-returns-clause-value
-first_operand-returns-clause-value t c = opened_value (context c.args.s.now) c.args.wanted c.past_sign-level.result.0 c.args.text.now c.past_sign-level.result.1.now c.in-Ok.found.1.now (Ok c.in-Ok.found.0) c.requires.part c.past_sign-level.ensures.level c.past_sign-level.ensures.rest c.in-Ok.ensures.0 c.in-Ok.ensures.1
+pub factor-returns-then-is_code : goal.factor-returns-then-is_code
+factor-returns-then-is_code t c =
+    bound_code (under_sign c.args.s.now.env.now.mode (first c.args.text.now)) _ _ _ _ c.power-found.result
+    (subst (λ (u : Text). Finds (value (context c.args.s.now) level.Power (tree_at row.POWER u)) (after_part row.POWER u) c.power-found.result) c.rest_after.ensures c.power-found.ensures)
+    (signed_value (context c.args.s.now) c.args.text.now c.requires.part (sym c.if-not-has_sign.ensures)) (sym c.is_code.ensures ∙ c.if-is_code.true)
 
-pub first_operand-returns-clause-lists : goal.first_operand-returns-clause-lists
-first_operand-returns-clause-lists t c = opened_lists c.args.wanted c.past_sign-level.result.0 c.args.text.now c.past_sign-level.result.1.now c.in-Ok.found.1.now c.requires.part c.past_sign-level.ensures.level c.past_sign-level.ensures.rest c.in-Ok.ensures.1
+pub factor-returns : goal.factor-returns
+factor-returns t c =
+    bound_number (under_sign c.args.s.now.env.now.mode (first c.args.text.now)) _ _ _ _ c.power-found.result c.get.result _
+    (subst (λ (u : Text). Finds (value (context c.args.s.now) level.Power (tree_at row.POWER u)) (after_part row.POWER u) c.power-found.result) c.rest_after.ensures c.power-found.ensures)
+    (signed_value (context c.args.s.now) c.args.text.now c.requires.part (sym c.if-not-has_sign.ensures)) (sym c.is_code.ensures ∙ c.if-is_code.false) c.get.ensures
+    (c.under_sign.ensures ∙ ap (λ (b : ℕ). under_sign c.args.s.now.env.now.mode b c.get.result) c.first.ensures)
+    (λ is. is ∙ ap length (sym (each.signed_rest c.args.text.now c.requires.part (sym c.if-not-has_sign.ensures))))
 
-pub first_operand-returns-clause-stand : goal.first_operand-returns-clause-stand
-first_operand-returns-clause-stand t c = opened_stand c.args.wanted c.past_sign-level.result.0 c.args.text.now c.past_sign-level.result.1.now c.in-Ok.found.1.now c.requires.part c.past_sign-level.ensures.level c.past_sign-level.ensures.rest c.in-Ok.ensures.1
+pub call_at-returns : goal.call_at-returns
+call_at-returns t c =
+    bound_number ((context c.args.s.now).call (get_or c.args.text.now 1 0)) _ _ _ _ c.sum-argument.result c.get.result _
+    (subst (λ (u : Text). Finds (value (context c.args.s.now) level.Sum (tree_at row.SUM u)) (after_part row.SUM u) c.sum-argument.result) c.rest_after.ensures c.sum-argument.ensures)
+    (call_is (context c.args.s.now) c.args.text.now c.requires.part) (sym c.is_code.ensures ∙ c.if-is_code.false) c.get.ensures
+    (c.call.ensures ∙ ap (λ (b : ℕ). (context c.args.s.now).call b c.get.result) c.at.ensures)
+    (λ is. c.saturating_sub.ensures ∙ ap (λ (n : ℕ). n - 1) is ∙ one_less (after_part row.SUM (drop 3 c.args.text.now)) ∙ ap length (sym (call_rest c.args.text.now c.requires.part)))
 
-pub first_operand-returns-clause-rest : goal.first_operand-returns-clause-rest
-first_operand-returns-clause-rest t c = opened_rest c.args.wanted c.past_sign-level.result.0 c.args.text.now c.past_sign-level.result.1.now c.in-Ok.found.1.now c.requires.part c.past_sign-level.ensures.level c.past_sign-level.ensures.rest c.in-Ok.ensures.1
-
-pub first_operand-returns-clause-shorter : goal.first_operand-returns-clause-shorter
-first_operand-returns-clause-shorter t c =
-    let a = opened_no_longer c.args.wanted c.past_sign-level.result.0 c.args.text.now c.past_sign-level.result.1.now c.requires.part c.past_sign-level.ensures.level c.past_sign-level.ensures.rest in
-    let b : length c.in-Ok.found.1.now ≡ length (after_part row.OPERAND c.past_sign-level.result.1.now) = ap length c.in-Ok.ensures.1 in
-    let d = part_no_longer row.OPERAND c.past_sign-level.result.1.now in
-    omega (arith, a, b, d)
-
-pub first_operand-returns-in-Err-clause-value : goal.first_operand-returns-in-Err-clause-value
-first_operand-returns-in-Err-clause-value t c = opened_refused (context c.args.s.now) c.args.wanted c.past_sign-level.result.0 c.args.text.now c.past_sign-level.result.1.now c.in-Err.code c.requires.part c.past_sign-level.ensures.level c.past_sign-level.ensures.rest c.in-Err.ensures
+pub variable-returns : goal.variable-returns
+variable-returns t c =
+    scalar_found (context c.args.s.now) c.args.text.now (scalar_named c.first-letter.result c.counted_digit-digit.result) c.scalar.result c.rest_after-rest.result.now c.with.result c.requires.part
+    (ap is_letter (sym c.first-letter.ensures) ∙ sym c.if-not-is_letter.ensures) c.in-None.is
+    (c.rest_after-rest.ensures ∙ ap (λ (n : ℕ). drop n c.args.text.now) c.plain_width.ensures) (sym c.is_at.ensures ∙ c.if-is_at.false)
+    (ap₂ scalar_named c.first-letter.ensures (c.counted_digit-digit.ensures.digit ∙ ap counted_digit c.at.ensures))
+    c.scalar.ensures.value c.scalar.ensures.there c.with.ensures

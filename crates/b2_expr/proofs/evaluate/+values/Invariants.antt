@@ -1,20 +1,26 @@
 use Rattle.std.proofs.Common.{◌≡◌, ◌≤◌, ◌+◌, ◌-◌, ◌*◌, true, Ok, length}
 use Rattle.b2_atom.specs.declared.rows.TheConstants as row
-use Rattle.b2_rows.specs.Rows.{tree_at, after_part, is_list, list_at, after_list}
+use Rattle.b2_rows.specs.Rows.{is_list, list_at, after_list}
 use Rattle.b2_rows.specs.Chains.{more_start}
 use Rattle.b2_rows.specs.declared.chains.Chain.TheVariants as chain
 use Rattle.b2_expr.specs.Further.{are_further, further_tree, after_further}
-use Rattle.b2_expr.specs.Levels.{row_of_level, spans, ends, left_after_levels, are_lists}
-use Rattle.b2_expr.specs.Unfinished.{all_completed, have_room, left_after_all, lists_stand}
-use Rattle.b2_expr.specs.Value.{context, value, extremes, further_text}
+use Rattle.b2_expr.specs.Value.{context, extremes, further_text}
+use Rattle.b2_expr.specs.declared.operators.Level.TheVariants as level
+use Rattle.b2_expr.proofs.Chained.{GoesOn}
 use Rattle.b2_expr.proofs.evaluate.+values.Given as goal
 
 -- a call of a function has less room; all else a shorter text, or the same text and a lower rank
-abbrev pub decreases-climb : goal.decreases-climb
-decreases-climb l = 6000 * l.s.now.room + (20 * length l.text.now + 14)
+abbrev pub decreases-sum : goal.decreases-sum
+decreases-sum l = 6000 * l.s.now.room + (20 * length l.text.now + 16)
 
-abbrev pub decreases-first_operand : goal.decreases-first_operand
-decreases-first_operand l = 6000 * l.s.now.room + (20 * length l.text.now + 13)
+abbrev pub decreases-product : goal.decreases-product
+decreases-product l = 6000 * l.s.now.room + (20 * length l.text.now + 15)
+
+abbrev pub decreases-factor : goal.decreases-factor
+decreases-factor l = 6000 * l.s.now.room + (20 * length l.text.now + 14)
+
+abbrev pub decreases-power : goal.decreases-power
+decreases-power l = 6000 * l.s.now.room + (20 * length l.text.now + 13)
 
 abbrev pub decreases-operand : goal.decreases-operand
 decreases-operand l = 6000 * l.s.now.room + (20 * length l.text.now + 12)
@@ -45,6 +51,9 @@ decreases-bytes_at l = 6000 * l.s.now.room + (20 * length l.text.now + 11)
 
 abbrev pub decreases-variable : goal.decreases-variable
 decreases-variable l = 6000 * l.s.now.room + (20 * length l.text.now + 11)
+
+abbrev pub decreases-hidden_or_there : goal.decreases-hidden_or_there
+decreases-hidden_or_there l = 6000 * l.s.now.room + (20 * length l.text.now + 10)
 
 abbrev pub decreases-alpha : goal.decreases-alpha
 decreases-alpha l = 6000 * l.s.now.room + (20 * length l.text.now + 10)
@@ -79,19 +88,24 @@ decreases-further_numbers l = 6000 * l.s.now.room + (20 * length l.text.now + 3)
 abbrev pub decreases-further_operands : goal.decreases-further_operands
 decreases-further_operands l = 6000 * l.s.now.room + (20 * length l.text.now + 9)
 
--- what waits makes of the number what the whole expression is worth
-abbrev pub invariant-climb-loop-level : goal.invariant-climb-loop-level
-invariant-climb-loop-level l = record {
-  lists : are_lists (spans l.reading l.top) l.left ≡ true;
-  stand : lists_stand l.waiting.items (left_after_levels (spans l.reading l.top) l.left) ≡ true;
-  room : have_room 0 l.waiting.items l.reading ≡ true;
-  value : all_completed (context l.s) l.waiting.items (ends (context l.s) (spans l.reading l.top) (Ok l.number) l.left) (left_after_levels (spans l.reading l.top) l.left) ≡ value (context l.s) l.fn.wanted (tree_at (row_of_level l.fn.wanted) l.text);
-  rest : left_after_all l.waiting.items (left_after_levels (spans l.reading l.top) l.left) ≡ after_part (row_of_level l.fn.wanted) l.text;
-  shorter : length l.left ≤ length l.text;
-}
+-- the number so far and the items that are left give what the whole chain does
+abbrev pub invariant-sum-loop-item : goal.invariant-sum-loop-item
+invariant-sum-loop-item l = GoesOn (context l.s) level.Sum l.text l.number l.left
 
-abbrev pub decreases-climb-loop-level : goal.decreases-climb-loop-level
-decreases-climb-loop-level l = 3 * length l.left + length l.waiting.items
+abbrev pub decreases-sum-loop-item : goal.decreases-sum-loop-item
+decreases-sum-loop-item l = length l.left
+
+abbrev pub invariant-product-loop-item : goal.invariant-product-loop-item
+invariant-product-loop-item l = GoesOn (context l.s) level.Product l.text l.number l.left
+
+abbrev pub decreases-product-loop-item : goal.decreases-product-loop-item
+decreases-product-loop-item l = length l.left
+
+abbrev pub invariant-power-loop-item : goal.invariant-power-loop-item
+invariant-power-loop-item l = GoesOn (context l.s) level.Power l.text l.number l.left
+
+abbrev pub decreases-power-loop-item : goal.decreases-power-loop-item
+decreases-power-loop-item l = length l.left
 
 -- the numbers that are left give what all of them do
 abbrev pub invariant-further_numbers-loop : goal.invariant-further_numbers-loop

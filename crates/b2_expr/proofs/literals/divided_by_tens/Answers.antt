@@ -6,5 +6,5 @@ pub returns : goal.returns
 returns c =
     let places = c.args.places in
     let all : 222 - places + places ≡ 222 = omega (arith, c.requires.few) in
-    c.round_exact.ensures c.args.digits (10 ^ places) (ten_pos places)
+    c.round_short.ensures c.args.digits (10 ^ places) (ten_pos places)
     (ap (λ u. c.args.digits * u) (sym (pow-add 10 (222 - places) places) ∙ ap (λ k. 10 ^ k) all))

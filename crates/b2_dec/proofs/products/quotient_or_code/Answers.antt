@@ -1,10 +1,10 @@
 use Rattle.std.proofs.Common.{sym, ◌∙◌}
 use Rattle.b2_dec.proofs.Factors.{quotient-is, quotient-none}
-use Rattle.b2_dec.proofs.products.div.Goals as goal
+use Rattle.b2_dec.proofs.products.quotient_or_code.Goals as goal
 
 pub returns-then-x-eq0-2 : goal.returns-then-x-eq0-2
 returns-then-x-eq0-2 c =
-    rw c.zero.ensures (sym (quotient-none c.args.m c.args.a c.args.b (sym c.coefficient-x.ensures.value ∙ c.if-x-eq0-2.true)
+    rw (c.number.ensures, c.zero.ensures) (sym (quotient-none c.args.m c.args.a c.args.b (sym c.coefficient-x.ensures.value ∙ c.if-x-eq0-2.true)
     (λ e. c.if-y-eq0.false (c.coefficient-y.ensures.value ∙ e))))
 
 pub returns : goal.returns

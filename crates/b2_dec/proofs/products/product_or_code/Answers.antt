@@ -1,13 +1,13 @@
 use Rattle.std.proofs.Common.{sym, ◌∙◌, ⊎_elim, inl, inr, ◌≡◌, ◌≤◌, ◌⊎◌}
 use Rattle.b2_dec.proofs.Ranks.{thirteen}
 use Rattle.b2_dec.proofs.Factors.{product-is, product-none, product-least, product-most}
-use Rattle.b2_dec.proofs.products.mul.Goals as goal
+use Rattle.b2_dec.proofs.products.product_or_code.Goals as goal
 
 pub returns-then-x-eq0 : goal.returns-then-x-eq0
 returns-then-x-eq0 c =
     let none : (c.args.a.coef ≡ 0) ⊎ (c.args.b.coef ≡ 0) = ⊎_elim (λ e. inl (sym c.coefficient-x.ensures.value ∙ e))
     (λ e. inr (sym c.coefficient-y.ensures.value ∙ e.1)) c.then-x-eq0.either in
-    rw c.zero.ensures (sym (product-none c.args.m c.args.a c.args.b none))
+    rw (c.number.ensures, c.zero.ensures) (sym (product-none c.args.m c.args.a c.args.b none))
 
 pub round_part-requires-clause-digits : goal.round_part-requires-clause-digits
 round_part-requires-clause-digits c =
