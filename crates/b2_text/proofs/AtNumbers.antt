@@ -14,12 +14,12 @@ use Rattle.b2_text.specs.Blocks.{IsAscending, IsPlaceOf, line_placed, lines_laid
 use Rattle.b2_text.specs.declared.block.LinePlace.{LinePlace}
 
 -- the numbers of the lines are those of the index
-key_at : (block : List ℕ) (places : List LinePlace) (i : ℕ) → i < length places → get_or (keys_of (lines_laid block places)) i 0 ≡ number_at places i
+pub key_at : (block : List ℕ) (places : List LinePlace) (i : ℕ) → i < length places → get_or (keys_of (lines_laid block places)) i 0 ≡ number_at places i
 key_at block [] i h = absurd (omega arith)
 key_at block (s ∷ ss) zero h = refl
 key_at block (s ∷ ss) (suc i) h = key_at block ss i (omega arith)
 
-length_keys : (block : List ℕ) (places : List LinePlace) → length (keys_of (lines_laid block places)) ≡ length places
+pub length_keys : (block : List ℕ) (places : List LinePlace) → length (keys_of (lines_laid block places)) ≡ length places
 length_keys block [] = refl
 length_keys block (s ∷ ss) = let rest = length_keys block ss in omega (arith, rest)
 
@@ -63,7 +63,7 @@ line_there block n (s ∷ ss) (suc i) h l e =
     cond-false (is_eq (nat_cmp n s.number)) (Some (line_placed block s).1) (line_at n (lines_laid block ss)) (more n s.number less)
     ∙ line_there block n ss i (shorter n s ss i h) (omega arith) e
 
-line_none : (block : List ℕ) (n : ℕ) (places : List LinePlace) → ((k : ℕ) → k < length places → number_at places k ≢ n) → line_at n (lines_laid block places) ≡ None
+pub line_none : (block : List ℕ) (n : ℕ) (places : List LinePlace) → ((k : ℕ) → k < length places → number_at places k ≢ n) → line_at n (lines_laid block places) ≡ None
 line_none block n [] h = refl
 line_none block n (s ∷ ss) h =
     cond-false (is_eq (nat_cmp n s.number)) (Some (line_placed block s).1) (line_at n (lines_laid block ss)) (apart n s.number (λ e. h 0 (omega arith) (sym e)))

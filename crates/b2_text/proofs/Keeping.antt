@@ -119,7 +119,7 @@ small_by : (b : Bool) (l : ℕ × List ℕ) (ls rest : Lines) → l.0 ≤ 9999 �
 small_by true l ls rest here later = All-cons (λ m. m ≤ 9999) l.0 (keys_of rest) here later
 small_by false l ls rest here later = later
 
-small_without : (from to : ℕ) (ls : Lines) → All (λ m. m ≤ 9999) (keys_of ls) → All (λ m. m ≤ 9999) (keys_of (without from to ls))
+pub small_without : (from to : ℕ) (ls : Lines) → All (λ m. m ≤ 9999) (keys_of ls) → All (λ m. m ≤ 9999) (keys_of (without from to ls))
 small_without from to [] all = all
 small_without from to (l ∷ ls) all =
     small_by (not (is_within from to l.0)) l ls (without from to ls) (All-head (λ m. m ≤ 9999) l.0 (keys_of ls) all)

@@ -3,10 +3,10 @@ use Rattle.std.proofs.Common.{◌≡◌, ℕ, zero, suc, ◌+◌, ◌<◌, ◌�
 use Rattle.std.proofs.lemmas.List.{get_or-map}
 use Rattle.b2_atom.specs.Lines.{KeepsUnits, units_of}
 use Rattle.b2_atom.specs.declared.spans.Span.{Span}
-use Rattle.b2_text.specs.Program.{Lines, cost}
+use Rattle.b2_text.specs.Program.{Lines, cost, size_of}
 use Rattle.b2_text.specs.Blocks.{AreSpansOf, IsLaid, line_placed, lines_laid, no_place, places_of, units_in}
 use Rattle.b2_text.specs.declared.block.LinePlace.{LinePlace}
-use Rattle.b2_text.proofs.Blocks.{begins_at, count_laid}
+use Rattle.b2_text.proofs.Blocks.{begins_at, count_laid, length_laid}
 use Rattle.b2_text.proofs.Spans.{count_spans, spans_at}
 
 -- how many units a place has
@@ -67,3 +67,26 @@ units_within block places units i laid all h =
       units_up_to i [] d h = absurd (omega arith)
       units_up_to zero (l ∷ ls) d h = omega arith
       units_up_to (suc i) (l ∷ ls) d h = let rest = units_up_to i ls d (omega arith) in omega (arith, rest)
+
+-- and so are its bytes
+pub bytes_within : (block : List ℕ) (places : List LinePlace) (i : ℕ) → IsLaid block places → i < length places
+    → (get_or places i no_place).start + 5 + (get_or places i no_place).width ≤ length block
+bytes_within block places i laid h =
+    let ls = lines_laid block places in
+    let none : ℕ × List ℕ = (0, []) in
+    let count = count_laid block places in
+    let begins = begins_at block places i laid h in
+    let whole = length_laid block places laid in
+    let width =
+    ap (λ (ps : List LinePlace). (get_or ps i no_place).width) laid.places_are ∙ width_placed i 0 0 ls no_place none (omega (arith, count, h)) in
+    let sum = bytes_up_to i ls none (omega (arith, count, h)) in
+    omega (arith, begins.start, whole, width, sum) where
+      width_placed : (i p u : ℕ) (ls : Lines) (s : LinePlace) (l : ℕ × List ℕ) → i < length ls → (get_or (places_of p u ls) i s).width ≡ length (get_or ls i l).1
+      width_placed i p u [] s l h = absurd (omega arith)
+      width_placed zero p u (k ∷ ks) s l h = refl
+      width_placed (suc i) p u (k ∷ ks) s l h = width_placed i (p + cost k.1) (u + length (units_of k.1)) ks s l (omega arith)
+
+      bytes_up_to : (i : ℕ) (ls : Lines) (d : ℕ × List ℕ) → i < length ls → size_of (take i ls) + cost (get_or ls i d).1 ≤ size_of ls
+      bytes_up_to i [] d h = absurd (omega arith)
+      bytes_up_to zero (l ∷ ls) d h = omega arith
+      bytes_up_to (suc i) (l ∷ ls) d h = let rest = bytes_up_to i ls d (omega arith) in omega (arith, rest)

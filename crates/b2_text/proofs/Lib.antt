@@ -7,6 +7,7 @@ pub mod Listing
 pub mod Replacing
 pub mod Spans
 pub mod Laid
+pub mod Numbering
 pub mod Along
 pub mod NoLine
 pub mod Keeping

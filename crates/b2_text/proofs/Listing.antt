@@ -8,7 +8,8 @@ use Rattle.std.proofs.lemmas.Bool.{cond-true, cond-false}
 use Rattle.std.proofs.lemmas.Bool.Decides.{nat_tests}
 use Rattle.b2_text.specs.Program.{Lines, is_within, with_line, without}
 use Rattle.b2_text.specs.Members.{greater, lesser, lines_where, numbers_where, with_member, without_members}
-use Rattle.b2_text.proofs.Ranked.{all_above, all_more, is_less, less_by, none_below, not_less, rest_above}
+use Rattle.b2_text.proofs.Sizes.{less}
+use Rattle.b2_text.proofs.Ranked.{all_above, all_more, is_less, none_below, not_less, rest_above}
 
 -- what holds of the numbers of all lines
 all_by : (P : ℕ → Type 0) (b : Bool) (l : ℕ × List ℕ) (ls : Lines) → P l.0 → AllByRecursion P (keys_of ls) → AllByRecursion P (keys_of (cond b (l ∷ ls) ls))
@@ -60,8 +61,8 @@ put_by : (test : List ℕ → Bool) (o : Ordering) (n : ℕ) (a : List ℕ) (l :
     → numbers_where test (match_ordering o ((n, a) ∷ l ∷ ls) ((l.0, a) ∷ ls) (l ∷ rest)) ≡ with_member (test a) n (numbers_where test (l ∷ ls))
 unfolding IsStrictlySortedBy
 put_by test Less n a l ls rest is ordered later =
-    let less = less_by n l.0 is in
-    let all = all_listed (λ m. n < m) test (l ∷ ls) (less, rest_above n l.0 (keys_of ls) (omega (arith, less)) ordered.0) in
+    let first = less n l.0 is in
+    let all = all_listed (λ m. n < m) test (l ∷ ls) (first, rest_above n l.0 (keys_of ls) (omega (arith, first)) ordered.0) in
     let ms = numbers_where test (l ∷ ls) in
     first_by (test a) (n, a) (lines_where test (l ∷ ls))
     ∙ sym (λ x. none_below n ms (all_more (λ m. n < m) (λ m. n ≤ m) ms (λ m h. omega (arith, h)) all) x ++ (cond (test a) (n ∷ []) [] ++ all_above n ms all x))

@@ -7,6 +7,7 @@ use Rattle.std.proofs.lemmas.Bool.{cond-true, cond-false}
 use Rattle.std.proofs.lemmas.Bool.Decides.{nat_tests}
 use Rattle.std.proofs.lemmas.List.{take-append-drop, length-append}
 use Rattle.b2_text.specs.Program.{is_within}
+use Rattle.b2_text.proofs.Sizes.{less}
 use Rattle.b2_text.specs.Members.{IsRankOf, greater, lesser, with_member, without_members}
 
 -- what holds of each number
@@ -30,9 +31,6 @@ is_less n m h = grind (arith, nat_tests)
 pub not_less : (n m : ℕ) → m ≤ n → nat_lt n m ≡ false
 not_less n m h = grind (arith, nat_tests)
 
-pub less_by : (n m : ℕ) → nat_cmp n m ≡ Less → n < m
-less_by n m h = grind (arith, nat_tests)
-
 -- numbers that are above another, or not below it
 pub all_above : (n : ℕ) (ns : List ℕ) → AllByRecursion (λ m. n < m) ns → greater n ns ≡ ns
 all_above n ns all = keeps_all (λ m. nat_lt n m) ns (all_more (λ m. n < m) (λ m. nat_lt n m ≡ true) ns (λ m h. is_less n m h) all)
@@ -42,7 +40,7 @@ none_below n ns all = keeps_none (λ m. nat_lt m n) ns (all_more (λ m. n ≤ m)
 
 -- the numbers after the first are above it
 pub rest_above : (n m : ℕ) (ns : List ℕ) → n ≤ m → AllByRecursion (λ k. nat_cmp m k ≡ Less) ns → AllByRecursion (λ k. n < k) ns
-rest_above n m ns h all = all_more (λ k. nat_cmp m k ≡ Less) (λ k. n < k) ns (λ k l. let less = less_by m k l in omega (arith, less, h)) all
+rest_above n m ns h all = all_more (λ k. nat_cmp m k ≡ Less) (λ k. n < k) ns (λ k l. let more = less m k l in omega (arith, more, h)) all
 
 -- past the first number
 pub shorter : (n m i : ℕ) (ns : List ℕ) → IsRankOf n (m ∷ ns) (suc i) → IsRankOf n ns i

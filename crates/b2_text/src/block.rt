@@ -6,7 +6,6 @@ ghost use Rattle.b2_text.specs.Blocks.{IsAscending, IsLaid, IsPlaceOf, heading a
 ghost use Rattle.b2_text.specs.Program.{size_of};
 
 use crate::packed::{put_in, take_out};
-use b2_base::lexical::{first_bytes, rest_after};
 
 /// Where a line lies: its number, the place of its first byte in the block and of its first unit among all units, and how many
 /// bytes its atoms and how many units it has.
@@ -68,10 +67,11 @@ pub fn find(places: &Vec<LinePlace>, n: u16) -> usize
 
 /// The atoms of the line that lies at a place.
 pub fn atoms_at(block: &Vec<u8>, place: LinePlace) -> &[u8]
+    requires { place.start + 5 + place.width ≤ vec_len block.now }
     ensures { result.now ≡ (line_placed block.now.items place).1 }
 {
-    let after = rest_after(block, usize::from(place.start) + 5);
-    first_bytes(after, usize::from(place.width))
+    let start = usize::from(place.start) + 5;
+    &block[start..][..usize::from(place.width)]
 }
 
 /// What is kept of the units of the line that lies at a place.

@@ -8,9 +8,9 @@
 //! tie the two. A text never takes more than its area, and its numbers are at most 9999.
 //!
 //! All memory is taken by `Text::new`: a block of the area's bytes, in which the lines lie one after another in order of their
-//! numbers, each after a heading of five bytes; an index of the lines; where the units of each line are; and the numbers of the
-//! lines that begin with DEFFN or DEFFN' and of those in which a DATA stands. `Blocks` says how block, index and units go
-//! together, and `Members` what the lists of numbers are.
+//! numbers, each after a heading of five bytes; an index of the lines; a table of their places in it by number; where the units
+//! of each line are; and the numbers of the lines that begin with DEFFN or DEFFN' and of those in which a DATA stands. `Blocks`
+//! says how block, index and units go together, `Numbered` what the table has, and `Members` what the lists of numbers are.
 #![tactic(auto)]
 
 mod block;
@@ -20,6 +20,7 @@ mod members;
 mod numbers;
 mod packed;
 mod spots;
+mod table;
 mod text;
 mod within;
 

@@ -5,10 +5,11 @@ ghost use Rattle.std.specs.Map.{keys_of};
 ghost use Rattle.std.specs.Ordering.{nat_cmp};
 ghost use Rattle.b2_atom.specs.Lines.{KeepsUnits, further_unit, units_of};
 ghost use Rattle.b2_text.specs.Blocks.{AreSpansOf, IsLaid, line_placed, lines_laid, no_place, number_at};
+ghost use Rattle.b2_text.specs.Numbered.{IsNumbered};
 ghost use Rattle.b2_text.specs.Program.{line_at};
 
-use crate::block::{LinePlace, atoms_at, find, units_at};
-use crate::numbers::is_at;
+use crate::block::{LinePlace, atoms_at, units_at};
+use crate::table::seek;
 use b2_atom::{Cursor, LentAtoms, Span};
 
 /// A line of a text, where it lies: its number and its atoms, with what is kept of its units.
@@ -55,6 +56,7 @@ impl<'a> Line<'a> {
 }
 
 /// The line that lies at a place of the index.
+#[inline(always)]
 pub fn line_placed<'a>(
     block: &'a Vec<u8>,
     places: &Vec<LinePlace>,
@@ -77,22 +79,25 @@ pub fn line_placed<'a>(
 }
 
 /// The line of a number, None where there is none.
+#[inline(always)]
 pub fn line_of<'a>(
     block: &'a Vec<u8>,
     places: &Vec<LinePlace>,
     units: &'a Vec<Span>,
+    table: &Vec<u16>,
     n: u16,
 ) -> Option<Line<'a>>
     requires laid { IsLaid block.now.items places.now.items }
     requires ordered { IsStrictlySortedBy nat_cmp (keys_of (lines_laid block.now.items places.now.items)) }
     requires kept { AreSpansOf (lines_laid block.now.items places.now.items) units.now.items }
+    requires numbered { IsNumbered table.now.items (lines_laid block.now.items places.now.items) }
     ensures atoms { option_map (λ l. l.atoms.now) result ≡ line_at n (lines_laid block.now.items places.now.items) }
     ensures number { IfSome result (λ l. l.number ≡ n) }
     ensures kept { IfSome result (λ l. KeepsUnits l.atoms.now l.units.now) }
 {
-    let i = find(places, n);
-    if is_at(places, i, n) {
-        return Some(line_placed(block, places, units, i));
+    let place = seek(table, n);
+    if place == 0 {
+        return None;
     }
-    None
+    Some(line_placed(block, places, units, place - 1))
 }

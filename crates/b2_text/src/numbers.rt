@@ -5,9 +5,11 @@ ghost use Rattle.std.specs.List.Sorted.{IsStrictlySortedBy};
 ghost use Rattle.std.specs.Map.{keys_of};
 ghost use Rattle.b2_atom.specs.Lines.{KeepsUnits};
 ghost use Rattle.b2_text.specs.Blocks.{AreSpansOf, IsLaid, IsPlaceOf, heading as heading_of, lines_laid, number_at, units_in};
+ghost use Rattle.b2_text.specs.Numbered.{IsNumbered};
 ghost use Rattle.b2_text.specs.Program.{cost_at, first_number, line_at, number_after, size_of, with_line, without};
 
 use crate::block::{LinePlace, atoms_at, cut_lines, find, put_line};
+use crate::table::{forget_lines, number_lines, seek};
 use b2_atom::Span;
 
 /// The greatest number that a line may have.
@@ -18,6 +20,7 @@ pub const LINE_COST: usize = 5;
 
 /// The atoms of the line of a number, None where there is none.
 fn atoms_of<'a>(block: &'a Vec<u8>, places: &Vec<LinePlace>, n: u16) -> Option<&'a [u8]>
+    requires laid { IsLaid block.now.items places.now.items }
     requires ordered { IsStrictlySortedBy nat_cmp (keys_of (lines_laid block.now.items places.now.items)) }
     ensures { option_copied result ≡ line_at n (lines_laid block.now.items places.now.items) }
 {
@@ -42,13 +45,33 @@ pub fn first_number(places: &Vec<LinePlace>) -> Option<u16>
     }
 }
 
-/// The least number of a line above this one, None where there is none.
-pub fn number_above(block: &Vec<u8>, places: &Vec<LinePlace>, n: u16) -> Option<u16>
+/// The place in an index after all lines up to a number: one look, where the number has a line.
+fn place_above(block: &Vec<u8>, places: &Vec<LinePlace>, table: &Vec<u16>, n: u16) -> usize
     requires ordered { IsStrictlySortedBy nat_cmp (keys_of (lines_laid block.now.items places.now.items)) }
+    requires numbered { IsNumbered table.now.items (lines_laid block.now.items places.now.items) }
+    requires small { n < 65535 }
+    ensures { IsPlaceOf (n + 1) places.now.items result }
+{
+    let place = seek(table, n);
+    if place > 0 {
+        return place;
+    }
+    find(places, n + 1)
+}
+
+/// The least number of a line above this one, None where there is none.
+pub fn number_above(
+    block: &Vec<u8>,
+    places: &Vec<LinePlace>,
+    table: &Vec<u16>,
+    n: u16,
+) -> Option<u16>
+    requires ordered { IsStrictlySortedBy nat_cmp (keys_of (lines_laid block.now.items places.now.items)) }
+    requires numbered { IsNumbered table.now.items (lines_laid block.now.items places.now.items) }
     requires small { n < 65535 }
     ensures { result ≡ number_after (Some n) (lines_laid block.now.items places.now.items) }
 {
-    let i = find(places, n + 1);
+    let i = place_above(block, places, table, n);
     if i == places.len() {
         return None;
     }
@@ -72,6 +95,7 @@ pub fn take_range(
     block: &mut Vec<u8>,
     places: &mut Vec<LinePlace>,
     units: &mut Vec<Span>,
+    table: &mut Vec<u16>,
     from: u16,
     to: u16,
 )
@@ -79,23 +103,27 @@ pub fn take_range(
     requires ordered { IsStrictlySortedBy nat_cmp (keys_of (lines_laid block.old.items places.old.items)) }
     requires kept { AreSpansOf (lines_laid block.old.items places.old.items) units.old.items }
     requires numbers { All (λ n. n ≤ 9999) (keys_of (lines_laid block.old.items places.old.items)) }
+    requires numbered { IsNumbered table.old.items (lines_laid block.old.items places.old.items) }
     requires order { from ≤ to }
     requires small { vec_len block.old ≤ 65535 }
     ensures laid { IsLaid block.new.items places.new.items }
     ensures lines { lines_laid block.new.items places.new.items ≡ without from to (lines_laid block.old.items places.old.items) }
     ensures ordered { IsStrictlySortedBy nat_cmp (keys_of (lines_laid block.new.items places.new.items)) }
     ensures kept { AreSpansOf (lines_laid block.new.items places.new.items) units.new.items }
+    ensures numbered { IsNumbered table.new.items (lines_laid block.new.items places.new.items) }
     ensures capacity { vec_capacity block.new ≡ vec_capacity block.old }
     ensures index_capacity { vec_capacity places.new ≡ vec_capacity places.old }
     ensures units_capacity { vec_capacity units.new ≡ vec_capacity units.old }
 {
     let i = find(places, from);
     let j = place_after(block, places, to);
+    forget_lines(table, &places[i..j]);
     cut_lines(block, places, units, i, j);
+    number_lines(table, places, i);
 }
 
 /// Whether the line of a number stands at a place of an index.
-pub fn is_at(places: &Vec<LinePlace>, i: usize, n: u16) -> bool
+fn is_at(places: &Vec<LinePlace>, i: usize, n: u16) -> bool
     ensures there { result ≡ true → (i < length places.now.items) × (number_at places.now.items i ≡ n) }
     ensures other { result ≡ false → i < length places.now.items → number_at places.now.items i ≢ n }
 {
@@ -147,6 +175,7 @@ pub fn put_number(
     block: &mut Vec<u8>,
     places: &mut Vec<LinePlace>,
     units: &mut Vec<Span>,
+    table: &mut Vec<u16>,
     n: u16,
     heading: &[u8],
     atoms: &[u8],
@@ -155,6 +184,9 @@ pub fn put_number(
     requires laid { IsLaid block.old.items places.old.items }
     requires ordered { IsStrictlySortedBy nat_cmp (keys_of (lines_laid block.old.items places.old.items)) }
     requires kept { AreSpansOf (lines_laid block.old.items places.old.items) units.old.items }
+    requires numbers { All (λ n. n ≤ 9999) (keys_of (lines_laid block.old.items places.old.items)) }
+    requires within { n ≤ 9999 }
+    requires numbered { IsNumbered table.old.items (lines_laid block.old.items places.old.items) }
     requires heading { heading.now ≡ heading_of n atoms.now }
     requires spans { KeepsUnits atoms.now spans.now }
     requires short { length atoms.now ≤ 255 }
@@ -167,6 +199,7 @@ pub fn put_number(
     ensures lines { lines_laid block.new.items places.new.items ≡ with_line n atoms.now (lines_laid block.old.items places.old.items) }
     ensures ordered { IsStrictlySortedBy nat_cmp (keys_of (lines_laid block.new.items places.new.items)) }
     ensures kept { AreSpansOf (lines_laid block.new.items places.new.items) units.new.items }
+    ensures numbered { IsNumbered table.new.items (lines_laid block.new.items places.new.items) }
     ensures capacity { vec_capacity block.old ≤ vec_capacity block.new }
     ensures index_capacity { vec_capacity places.old ≤ vec_capacity places.new }
     ensures units_capacity { vec_capacity units.old ≤ vec_capacity units.new }
@@ -177,10 +210,12 @@ pub fn put_number(
         return;
     }
     put_line(block, places, units, i, n, heading, atoms, spans);
+    number_lines(table, places, i);
 }
 
 /// What the line of a number takes, 0 where there is none.
 pub fn cost_of(block: &Vec<u8>, places: &Vec<LinePlace>, n: u16) -> usize
+    requires laid { IsLaid block.now.items places.now.items }
     requires ordered { IsStrictlySortedBy nat_cmp (keys_of (lines_laid block.now.items places.now.items)) }
     ensures { result ≡ cost_at n (lines_laid block.now.items places.now.items) }
 {

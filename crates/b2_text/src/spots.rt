@@ -5,6 +5,7 @@ ghost use Rattle.std.specs.Map.{keys_of};
 ghost use Rattle.std.specs.Ordering.{nat_cmp};
 ghost use Rattle.b2_text.specs.Blocks.{AreSpansOf, IsLaid, heading, holds_data, is_opener, is_opening, kind, lines_laid};
 ghost use Rattle.b2_text.specs.Members.{numbers_where};
+ghost use Rattle.b2_text.specs.Numbered.{IsNumbered};
 ghost use Rattle.b2_text.specs.Program.{line_at};
 ghost use Rattle.b2_text.specs.Spots.{unit_of, is_mark, is_function, is_data, data_in, data_of, first_opening, data_from};
 
@@ -146,18 +147,21 @@ impl Spot {
 }
 
 /// The first unit of the line of a number, where there is such a line.
+#[inline(always)]
 fn first_unit<'a>(
     block: &'a Vec<u8>,
     places: &Vec<LinePlace>,
     units: &'a Vec<Span>,
+    table: &Vec<u16>,
     number: u16,
 ) -> &'a [u8]
     requires laid { IsLaid block.now.items places.now.items }
     requires ordered { IsStrictlySortedBy nat_cmp (keys_of (lines_laid block.now.items places.now.items)) }
     requires kept { AreSpansOf (lines_laid block.now.items places.now.items) units.now.items }
+    requires numbered { IsNumbered table.now.items (lines_laid block.now.items places.now.items) }
     ensures { (atoms : List ℕ) → line_at number (lines_laid block.now.items places.now.items) ≡ Some atoms → result.now ≡ unit_of 0 atoms }
 {
-    match line_of(block, places, units, number) {
+    match line_of(block, places, units, table, number) {
         Some(line) => unit_of(&line.lend(), 0),
         None => &[],
     }
@@ -168,15 +172,17 @@ fn data_on(
     block: &Vec<u8>,
     places: &Vec<LinePlace>,
     units: &Vec<Span>,
+    table: &Vec<u16>,
     from: Spot,
     number: u16,
 ) -> Option<Spot>
     requires laid { IsLaid block.now.items places.now.items }
     requires ordered { IsStrictlySortedBy nat_cmp (keys_of (lines_laid block.now.items places.now.items)) }
     requires kept { AreSpansOf (lines_laid block.now.items places.now.items) units.now.items }
+    requires numbered { IsNumbered table.now.items (lines_laid block.now.items places.now.items) }
     ensures { (atoms : List ℕ) → line_at number (lines_laid block.now.items places.now.items) ≡ Some atoms → result ≡ data_of from (number, atoms) }
 {
-    match line_of(block, places, units, number) {
+    match line_of(block, places, units, table, number) {
         Some(line) => data_of(from, number, &line.lend()),
         None => None,
     }
@@ -187,18 +193,20 @@ pub fn first_mark(
     block: &Vec<u8>,
     places: &Vec<LinePlace>,
     units: &Vec<Span>,
+    table: &Vec<u16>,
     openers: &Vec<u16>,
     n: u8,
 ) -> Option<Spot>
     requires laid { IsLaid block.now.items places.now.items }
     requires ordered { IsStrictlySortedBy nat_cmp (keys_of (lines_laid block.now.items places.now.items)) }
     requires kept { AreSpansOf (lines_laid block.now.items places.now.items) units.now.items }
+    requires numbered { IsNumbered table.now.items (lines_laid block.now.items places.now.items) }
     requires listed { openers.now.items ≡ numbers_where is_opening (lines_laid block.now.items places.now.items) }
     ensures { result ≡ first_opening (is_mark n) (lines_laid block.now.items places.now.items) }
 {
     for i in 0..openers.len() {
         let number = openers[i];
-        if is_mark(n, first_unit(block, places, units, number)) {
+        if is_mark(n, first_unit(block, places, units, table, number)) {
             return Some(Spot::first_of(number));
         }
     }
@@ -210,18 +218,20 @@ pub fn first_function(
     block: &Vec<u8>,
     places: &Vec<LinePlace>,
     units: &Vec<Span>,
+    table: &Vec<u16>,
     openers: &Vec<u16>,
     name: u8,
 ) -> Option<Spot>
     requires laid { IsLaid block.now.items places.now.items }
     requires ordered { IsStrictlySortedBy nat_cmp (keys_of (lines_laid block.now.items places.now.items)) }
     requires kept { AreSpansOf (lines_laid block.now.items places.now.items) units.now.items }
+    requires numbered { IsNumbered table.now.items (lines_laid block.now.items places.now.items) }
     requires listed { openers.now.items ≡ numbers_where is_opening (lines_laid block.now.items places.now.items) }
     ensures { result ≡ first_opening (is_function name) (lines_laid block.now.items places.now.items) }
 {
     for i in 0..openers.len() {
         let number = openers[i];
-        if is_function(name, first_unit(block, places, units, number)) {
+        if is_function(name, first_unit(block, places, units, table, number)) {
             return Some(Spot::first_of(number));
         }
     }
@@ -233,19 +243,21 @@ pub fn first_data(
     block: &Vec<u8>,
     places: &Vec<LinePlace>,
     units: &Vec<Span>,
+    table: &Vec<u16>,
     datas: &Vec<u16>,
     from: Spot,
 ) -> Option<Spot>
     requires laid { IsLaid block.now.items places.now.items }
     requires ordered { IsStrictlySortedBy nat_cmp (keys_of (lines_laid block.now.items places.now.items)) }
     requires kept { AreSpansOf (lines_laid block.now.items places.now.items) units.now.items }
+    requires numbered { IsNumbered table.now.items (lines_laid block.now.items places.now.items) }
     requires listed { datas.now.items ≡ numbers_where holds_data (lines_laid block.now.items places.now.items) }
     ensures { result ≡ data_from from (lines_laid block.now.items places.now.items) }
 {
     let first = rank(datas, u32::from(from.line));
     for i in first..datas.len() {
         let number = datas[i];
-        if let Some(spot) = data_on(block, places, units, from, number) {
+        if let Some(spot) = data_on(block, places, units, table, from, number) {
             return Some(spot);
         }
     }

@@ -16,6 +16,7 @@ use crate::numbers::{
     LINE_COST, MOST_NUMBER, cost_of, first_number, number_above, put_number, take_range,
 };
 use crate::spots::{Spot, first_data, first_function, first_mark, heading, holds_data, is_opening};
+use crate::table::{forget_all, no_places};
 use crate::within::{LinesWithin, lines_within};
 use b2_atom::{Atoms, Span};
 use b2_base::codes::A01_TEXT_AREA;
@@ -33,13 +34,14 @@ const LEAST_COST: usize = LINE_COST + 1;
 const LEAST_LISTED: usize = LINE_COST + 2;
 
 /// A program text. Contracts see it as its area and its lines, ascending. The lines lie in one block of the area's bytes,
-/// beside an index of them, the places of their units, and the numbers of the lines that begin with DEFFN or DEFFN' and of
-/// those in which a DATA stands; all memory is taken when the text is made.
+/// beside an index of them, a table of their places in it by number, the places of their units, and the numbers of the lines
+/// that begin with DEFFN or DEFFN' and of those in which a DATA stands; all memory is taken when the text is made.
 #[derive(Drop)]
 pub struct Text {
     area: usize,
     block: Vec<u8>,
     places: Vec<LinePlace>,
+    table: Vec<u16>,
     units: Vec<Span>,
     openers: Vec<u16>,
     datas: Vec<u16>,
@@ -49,13 +51,14 @@ impl Model for Text {
     ghost use Rattle.std.specs.Prelude.{vec_capacity};
     ghost use Rattle.b2_text.specs.Blocks.{IsKept, IsRoomy, lines_laid};
     ghost use Rattle.b2_text.specs.Members.{IsListed};
+    ghost use Rattle.b2_text.specs.Numbered.{IsNumbered};
     ghost use Rattle.b2_text.specs.Program.{TextState};
 
     ghost Value = { TextState };
 
     ghost view = { λ t. record { area = t.area; lines = lines_laid t.block.items t.places.items } };
 
-    ghost invariant = { λ t. IsKept t.area t.block.items t.places.items t.units.items × IsRoomy t.area (vec_capacity t.block) (vec_capacity t.places) (vec_capacity t.units) × IsListed t.area (lines_laid t.block.items t.places.items) t.openers.items t.datas.items (vec_capacity t.openers) (vec_capacity t.datas) };
+    ghost invariant = { λ t. IsKept t.area t.block.items t.places.items t.units.items × IsRoomy t.area (vec_capacity t.block) (vec_capacity t.places) (vec_capacity t.units) × IsListed t.area (lines_laid t.block.items t.places.items) t.openers.items t.datas.items (vec_capacity t.openers) (vec_capacity t.datas) × IsNumbered t.table.items (lines_laid t.block.items t.places.items) };
 }
 
 impl Text {
@@ -69,6 +72,7 @@ impl Text {
         }
         let block = Vec::with_capacity(alloc, area)?;
         let places = Vec::with_capacity(alloc, area / LEAST_COST)?;
+        let table = no_places(alloc)?;
         // No line has more units than two thirds of the bytes that it takes.
         let units = Vec::with_capacity(alloc, area * 2 / 3)?;
         let openers = Vec::with_capacity(alloc, area / LEAST_LISTED)?;
@@ -77,6 +81,7 @@ impl Text {
             area,
             block,
             places,
+            table,
             units,
             openers,
             datas,
@@ -99,12 +104,13 @@ impl Text {
     }
 
     /// The line of a number, None where there is none.
+    #[inline(always)]
     pub fn line(&self, n: u16) -> Option<Line<'_>>
         ensures atoms { option_map (λ l. l.atoms.now) result ≡ line_at n self.now.lines }
         ensures number { IfSome result (λ l. l.number ≡ n) }
         ensures kept { IfSome result (λ l. KeepsUnits l.atoms.now l.units.now) }
     {
-        line_of(&self.block, &self.places, &self.units, n)
+        line_of(&self.block, &self.places, &self.units, &self.table, n)
     }
 
     /// The least number of a line above this one, for None the least of all; None where there is none.
@@ -118,7 +124,7 @@ impl Text {
                 if n >= MOST_NUMBER {
                     return None;
                 }
-                number_above(&self.block, &self.places, n)
+                number_above(&self.block, &self.places, &self.table, n)
             }
             None => first_number(&self.places),
         }
@@ -137,7 +143,14 @@ impl Text {
         ensures lowest { result ≡ first_opening (is_mark n) self.now.lines }
         ensures there { IfSome result (λ spot. is_mark n (unit_at spot self.now.lines) ≡ true) }
     {
-        first_mark(&self.block, &self.places, &self.units, &self.openers, n)
+        first_mark(
+            &self.block,
+            &self.places,
+            &self.units,
+            &self.table,
+            &self.openers,
+            n,
+        )
     }
 
     /// The DEFFN of a name, a letter or a digit, in the lowest line that has one, None where no line has.
@@ -146,7 +159,14 @@ impl Text {
         ensures lowest { result ≡ first_opening (is_function name) self.now.lines }
         ensures there { IfSome result (λ spot. is_function name (unit_at spot self.now.lines) ≡ true) }
     {
-        first_function(&self.block, &self.places, &self.units, &self.openers, name)
+        first_function(
+            &self.block,
+            &self.places,
+            &self.units,
+            &self.table,
+            &self.openers,
+            name,
+        )
     }
 
     /// The first DATA at or after a spot, None where there is none.
@@ -154,7 +174,14 @@ impl Text {
         ensures first { result ≡ data_from from self.now.lines }
         ensures there { IfSome result (λ spot. is_data (unit_at spot self.now.lines) ≡ true) }
     {
-        first_data(&self.block, &self.places, &self.units, &self.datas, from)
+        first_data(
+            &self.block,
+            &self.places,
+            &self.units,
+            &self.table,
+            &self.datas,
+            from,
+        )
     }
 
     /// Puts a line in its place, where one of its number gives way. A01 comes exactly where the size would pass the area. After
@@ -176,6 +203,7 @@ impl Text {
             &mut self.block,
             &mut self.places,
             &mut self.units,
+            &mut self.table,
             n,
             &heading(n, &line),
             line.bytes(),
@@ -193,7 +221,14 @@ impl Text {
         if from > to {
             return;
         }
-        take_range(&mut self.block, &mut self.places, &mut self.units, from, to);
+        take_range(
+            &mut self.block,
+            &mut self.places,
+            &mut self.units,
+            &mut self.table,
+            from,
+            to,
+        );
         take_members(&mut self.openers, from, to);
         take_members(&mut self.datas, from, to);
     }
@@ -204,6 +239,7 @@ impl Text {
     {
         self.block.clear();
         self.places.clear();
+        forget_all(&mut self.table);
         self.units.clear();
         self.openers.clear();
         self.datas.clear();

@@ -4,8 +4,18 @@ use Rattle.b2_atom.specs.declared.spans.Span.{Span}
 use Rattle.b2_text.specs.Blocks.{line_placed}
 use Rattle.b2_text.specs.declared.block.LinePlace.{LinePlace}
 use Rattle.b2_text.proofs.Finding.{place_read}
-use Rattle.b2_text.proofs.Laid.{kept_at, units_within}
+use Rattle.b2_text.proofs.Laid.{bytes_within, kept_at, units_within}
 use Rattle.b2_text.proofs.line.line_placed.Goals as goal
+
+pub atoms_at-requires : goal.atoms_at-requires
+atoms_at-requires c =
+    let places = c.args.places.now.items in
+    let inside : c.args.i < length places = omega (arith, c.requires.there) in
+    let read = place_read places c.args.i c.index-place.result.now inside c.index-place.ensures in
+    let start = ap (λ (s : LinePlace). s.start) read in
+    let width = ap (λ (s : LinePlace). s.width) read in
+    let within = bytes_within c.args.block.now.items places c.args.i c.requires.laid inside in
+    omega (arith, start, width, within)
 
 pub units_at-requires : goal.units_at-requires
 units_at-requires c =

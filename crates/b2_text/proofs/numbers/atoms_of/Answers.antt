@@ -2,6 +2,7 @@ use Rattle.std.proofs.Common.{◌<◌, ◌∙◌, ap, sym, length, Some, arith}
 use Rattle.b2_text.specs.declared.block.LinePlace.{LinePlace}
 use Rattle.b2_text.specs.Blocks.{line_placed}
 use Rattle.b2_text.proofs.Finding.{place_read}
+use Rattle.b2_text.proofs.Laid.{bytes_within}
 use Rattle.b2_text.proofs.AtNumbers.{ascending, line_there, line_none_at}
 use Rattle.b2_text.proofs.numbers.atoms_of.Goals as goal
 
@@ -21,6 +22,17 @@ returns-then-place-n c =
     let places = c.args.places.now.items in
     sym (line_none_at block c.args.n places c.find-i.result c.find-i.ensures (ascending block places c.requires.ordered)
     (λ l e. c.if-place-n.true (ap (λ (s : LinePlace). s.number) (place_read places c.find-i.result c.index-place.result.now l c.index-place.ensures) ∙ e)))
+
+pub atoms_at-requires : goal.atoms_at-requires
+atoms_at-requires c =
+    let places = c.args.places.now.items in
+    let i = c.find-i.result in
+    let inside : i < length places = omega (arith, c.if-i-len.false, c.find-i.ensures.within) in
+    let read = place_read places i c.index-place.result.now inside c.index-place.ensures in
+    let start = ap (λ (s : LinePlace). s.start) read in
+    let width = ap (λ (s : LinePlace). s.width) read in
+    let within = bytes_within c.args.block.now.items places i c.requires.laid inside in
+    omega (arith, start, width, within)
 
 pub returns : goal.returns
 returns c =

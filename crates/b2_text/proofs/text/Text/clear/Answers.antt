@@ -1,6 +1,7 @@
 use Rattle.std.proofs.Common.{arith}
 use Rattle.b2_text.proofs.Keeping.{kept_none}
 use Rattle.b2_text.proofs.KeptLists.{listed_none}
+use Rattle.b2_text.proofs.Numbering.{numbered_none}
 use Rattle.b2_text.proofs.text.Text.clear.Goals as goal
 
 pub invariant_of-self : goal.invariant_of-self
@@ -21,4 +22,5 @@ invariant_of-self c =
       },
       listed_none c.self.inside.area c.clear.new.self.items c.clear-2.new.self.items c.clear-4.new.self.items c.clear-5.new.self.items _ _
           c.clear-2.ensures.items c.clear-4.ensures.items c.clear-5.ensures.items (omega (arith, openers, lists.for_openers)) (omega (arith, datas, lists.for_datas)),
+      numbered_none _ c.forget_all.new.table.items c.clear.new.self.items c.clear-2.new.self.items c.self.invariant.3.long c.forget_all.ensures c.clear-2.ensures.items,
     )

@@ -32,6 +32,7 @@ invariant_of-self c =
           (lines_laid c.take_range.new.block.items c.take_range.new.places.items) c.self.inside.openers.items c.self.inside.datas.items
           c.take_members.new.numbers.items c.take_members-2.new.numbers.items _ _ _ _ c.self.invariant.2 c.take_range.ensures.lines c.take_members.ensures.items
           c.take_members-2.ensures.items (omega (arith, openers)) (omega (arith, datas)),
+      c.take_range.ensures.numbered,
     )
 
 pub take_members-requires-clause-ordered : goal.take_members-requires-clause-ordered

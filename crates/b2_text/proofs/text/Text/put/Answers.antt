@@ -113,6 +113,7 @@ invariant_of-self c =
           (c.set_member.ensures.items ∙ ap (λ (b : Bool). with_member b n c.self.inside.openers.items) (c.is_opening.ensures ∙ ap is_opening line))
           (c.set_member-2.ensures.items ∙ ap (λ (b : Bool). with_member b n c.self.inside.datas.items) (c.holds_data.ensures ∙ ap holds_data line))
           (omega (arith, openers)) (omega (arith, datas)),
+      c.put_number.ensures.numbered,
     )
 
 pub returns-clause-fits : goal.returns-clause-fits
