@@ -70,6 +70,7 @@ module _ (block : List ℕ) (used : ℕ) (places : List ℕ) (es : Entries) (lai
       rest = drop (length (entry_bytes (v, x))) laid.rest;
       written = written;
       counted = omega (arith, laid.counted, ap (λ (b : List ℕ). length b) more, length-append (spelled es) (entry_bytes (v, x)), length-entry v x is.variable);
+      short = omega (arith, length-overwritten used (entry_bytes (v, x)) block, laid.short);
       stored = stored-last v x es laid.stored none is;
       named = length-set places (number_of v) (used + 1) ∙ laid.named;
       found = place-set v x es places (used + 1) is.variable.named none (omega (arith, laid.counted, length-spelled es laid.stored)) (omega (arith, below, laid.named)) laid.found;
@@ -110,12 +111,13 @@ no_place zero k = refl
 no_place (suc n) zero = refl
 no_place (suc n) (suc k) = no_place n k
 
-pub laid-empty : (block places : List ℕ) → places ≡ replicate names 0 → IsLaid block 0 places []
+pub laid-empty : (block places : List ℕ) → length block ≤ 4294967295 → places ≡ replicate names 0 → IsLaid block 0 places []
 unfolding place_of
-laid-empty block places e = record {
+laid-empty block places short e = record {
   rest = block;
   written = refl;
   counted = refl;
+  short = short;
   stored = tt;
   named = ap (λ (ns : List ℕ). length ns) e ∙ length-replicate {A = ℕ} names 0;
   found = λ q legal. ap (λ (ns : List ℕ). get_or ns (number_of q) 0) e ∙ no_place names (number_of q);

@@ -107,6 +107,7 @@ module _ (v : Var) (x : VariableState) (front rest : Entries) where
         rest = laid.rest;
         written = written;
         counted = counted;
+        short = omega (arith, length-overwritten at w block, laid.short);
         stored = stored-other v x y front rest laid.stored stored;
         named = laid.named;
         found = λ q legal. laid.found q legal ∙ sym (places-kept v x y front rest q same_cost);

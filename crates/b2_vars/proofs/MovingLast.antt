@@ -161,6 +161,22 @@ module _ (v : Var) (x : VariableState) (front rest : Entries) (block : List ℕ)
       ∙ take-append-le n (drop from x.bytes) laid.rest (omega (arith, low, length-drop from x.bytes))
       ∙ ap (λ (k : ℕ). take k (drop from x.bytes)) (sym m)
 
+  length-turned : (at : ℕ) → at ≡ costs front → length (turned_bytes at) ≡ length block
+  length-turned at at_is =
+      let e = entry_bytes (v, x) in
+      let s = spelled rest in
+      omega (
+        arith,
+        ap (λ (c : List ℕ). length c) (turned-is at at_is),
+        ap (λ (c : List ℕ). length c) (laid.written ∙ arranged v x front rest laid.rest),
+        length-append (spelled front) (s ++ (e ++ laid.rest)),
+        length-append s (e ++ laid.rest),
+        length-append e laid.rest,
+        length-append (spelled front) (e ++ (s ++ laid.rest)),
+        length-append e (s ++ laid.rest),
+        length-append s laid.rest,
+      )
+
   pub lent-laid : (at from a : ℕ) (w : List ℕ) → at ≡ costs front → a + length x.bytes ≡ used + from → from ≤ length x.bytes
       → IsLaid (overwritten a w (turned_bytes at)) used (set (map (lowered (at + 1) (cost v x.shape)) places) (number_of v) (used - cost v x.shape + 1)) (without v (front ++ (v, x) ∷ rest) ++ (v, with_bytes from x w) ∷ [])
   lent-laid at from a w at_is a_is low =
@@ -182,6 +198,7 @@ module _ (v : Var) (x : VariableState) (front rest : Entries) (block : List ℕ)
             ap₂ (λ (n : ℕ) (c : List ℕ). overwritten n w c) b_long (regrouped at at_is) ∙ over-after-any before (x.bytes ++ laid.rest) w from
             ∙ ap (λ (c : List ℕ). before ++ c) (over-past x.bytes laid.rest w from low) ∙ sym (append_assoc before y.bytes spilt) ∙ ap (λ (c : List ℕ). c ++ spilt) (sym spelled_new);
         counted = omega (arith, ap (λ (c : List ℕ). length c) spelled_new, length-append before y.bytes, length-overwritten from w x.bytes, b_long, a_is);
+        short = omega (arith, length-overwritten a w (turned_bytes at), length-turned at at_is, laid.short);
         stored = stored-last v y (front ++ rest) (stored-gone v x front rest laid.stored) (stands-append v front rest absent none_after) (record { variable = bytes-kept v x from w is.variable; numbers = is.numbers });
         named = length-set (map (lowered (at + 1) (cost v x.shape)) places) (number_of v) (used - cost v x.shape + 1) ∙ length-map places (lowered (at + 1) (cost v x.shape)) ∙ laid.named;
         found = places-moved v x y front rest places (at + 1) (cost v x.shape) (used - cost v x.shape + 1) (omega (arith, at_is)) refl (omega (arith, used_is, costs-append front rest)) is.variable.named

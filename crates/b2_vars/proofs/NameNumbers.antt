@@ -1,10 +1,10 @@
 -- Names by their numbers: no two have one.
-use Rattle.std.proofs.Common.{◌≡◌, ℕ, ◌+◌, ◌-◌, ◌*◌, ◌/◌, ◌%◌, ◌≤◌, ◌==◌, ◌&&◌, Bool, true, false, cond, Option, Some, None, refl, ap, sym, ◌∙◌, arith, true≢false}
+use Rattle.std.proofs.Common.{◌≡◌, ℕ, zero, suc, ◌+◌, ◌-◌, ◌*◌, ◌/◌, ◌%◌, ◌≤◌, ◌==◌, ◌&&◌, Bool, true, false, cond, if◌then◌else◌, eqb-true, Option, Some, None, refl, ap, sym, ◌∙◌, arith, true≢false}
 use Rattle.std.specs.Option.{option_map_or}
 use Rattle.std.proofs.lemmas.Bool.Decides.{nat_tests}
 use Rattle.b2_base.specs.Lexical.{is_digit, is_letter}
 use Rattle.b2_vars.specs.declared.name.Var.{Var}
-use Rattle.b2_vars.specs.Names.{is_legal_name}
+use Rattle.b2_vars.specs.Names.{is_legal_name, scalar_named}
 use Rattle.b2_vars.specs.Block.{kind_of, digit_number, number_of}
 
 left_true : (a b : Bool) → a && b ≡ true → a ≡ true
@@ -17,6 +17,21 @@ right_true false b p = absurd (true≢false (sym p))
 
 letter_least : (b : ℕ) → is_letter b ≡ true → 65 ≤ b
 letter_least b is = grind (arith, nat_tests)
+
+pub letter_most : (b : ℕ) → is_letter b ≡ true → b ≤ 90
+letter_most b is = grind (arith, nat_tests)
+
+-- the number of a scalar that is named by the number of its digit
+pub scalar_number : (letter digit a b : ℕ) → a ≡ letter - 65 → b ≡ digit → (a * 11 + b) * 4 ≡ number_of (scalar_named letter digit)
+scalar_number letter digit a b p q = by (digit == 0) refl
+  where
+    by : (none : Bool) → (digit == 0) ≡ none → (a * 11 + b) * 4 ≡ ((letter - 65) * 11 + digit_number (if none then None else Some (digit + 47))) * 4 + 0
+    by true is = let e : (a * 11 + b) * 4 ≡ ((letter - 65) * 11 + 0) * 4 + 0 = omega (arith, p, q, eqb-true digit 0 is) in e
+    by false is = let e : (a * 11 + b) * 4 ≡ ((letter - 65) * 11 + (digit + 47 - 47)) * 4 + 0 = omega (arith, p, q) in e
+
+pub scalar_legal : (letter digit : ℕ) → is_letter letter ≡ true → digit ≤ 10 → is_legal_name (scalar_named letter digit) ≡ true
+scalar_legal letter zero is few = grind (arith, nat_tests)
+scalar_legal letter (suc n) is few = grind (arith, nat_tests)
 
 digit_least : (b : ℕ) → is_digit b ≡ true → 48 ≤ b
 digit_least b is = grind (arith, nat_tests)

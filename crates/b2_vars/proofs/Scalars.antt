@@ -1,5 +1,5 @@
 -- A variable that is made where nothing stands: it is found there, and a scalar has the shape that was seen before.
-use Rattle.std.proofs.Common.{◌≡◌, Bool, true, false, ℕ, ◌+◌, ◌<◌, ◌≤◌, arith, Option, None, Some, IsSome, IfSome, is_some, not, nat_lt, true≢false, ◌&&◌, ◌==◌, [], ◌∷◌, refl, ap, sym, subst, ◌∙◌}
+use Rattle.std.proofs.Common.{◌≡◌, Bool, true, false, ℕ, ◌+◌, ◌<◌, ◌≤◌, arith, length, get_or, Option, None, Some, IsSome, IfSome, is_some, not, nat_lt, true≢false, ◌&&◌, ◌==◌, [], ◌∷◌, refl, ap, sym, subst, ◌∙◌}
 use Rattle.std.proofs.lemmas.Bool.Decides.{nat_tests}
 use Rattle.std.specs.Option.{unwrap_or}
 use Rattle.std.specs.FinMap.{get, insert, contains_key}
@@ -8,13 +8,14 @@ use Rattle.b2_vars.specs.declared.name.Var.{Var}
 use Rattle.b2_vars.specs.declared.shape.Shape.{Shape}
 use Rattle.b2_vars.specs.Answers.{code_if, first_of}
 use Rattle.b2_vars.specs.Shapes.{scalar_shape, has_cell, is_subscript, cell_at, cells}
-use Rattle.b2_vars.specs.Variables.{VariableState, fresh}
-use Rattle.b2_vars.specs.Tables.{Table, VarsState, IsVariable, IsSound, count_of, shape_at}
+use Rattle.b2_dec.specs.Number.{zero_number}
+use Rattle.b2_vars.specs.Variables.{VariableState, fresh, number_at}
+use Rattle.b2_vars.specs.Tables.{Table, VarsState, IsVariable, IsSound, count_of, shape_at, variable_at}
 use Rattle.b2_vars.specs.Calls.{made, with_new, with_scalar, no_part, get_code, full, IsCell, IsPart}
 use Rattle.b2_vars.proofs.EntriesAsMap.{get_put}
-use Rattle.b2_vars.proofs.Cells.{variable_at-Some, cell-lt}
+use Rattle.b2_vars.proofs.Cells.{variable_at-Some, cell-lt, number-room}
 use Rattle.b2_vars.proofs.Costs.{no_dimensions}
-use Rattle.b2_vars.proofs.Soundness.{found-put, room-old}
+use Rattle.b2_vars.proofs.Soundness.{found-put, found-variable, room-old}
 
 pub found-new : (t : Table) (v : Var) (s : Shape) (common : Bool) → IsSome (get (with_new v s common t) v)
 found-new t v s common = by (get t v) refl
@@ -72,6 +73,24 @@ some-found place t v there some = sym there ∙ positive
   where
     positive : nat_lt 0 place ≡ true
     positive = grind (arith, nat_tests)
+
+-- a scalar of numbers has one, which is its first
+pub scalar-room : (t : Table) (v : Var) → IfSome (get t v) (IsVariable v) → IsSome (get t v) → v.alpha ≡ false → v.array ≡ false → 0 < length (variable_at v t).numbers
+scalar-room t v sound found number array =
+    omega (arith, number-room t v 0 0 (found-variable t v sound found) number (scalar_has v (get t v) array sound))
+
+first-cell : (s : Shape) → cell_at s 0 0 ≡ 0
+first-cell s = omega arith
+
+pub scalar-number : (t : Table) (v : Var) → IsSome (get t v) → get_or (variable_at v t).numbers 0 zero_number ≡ number_at (cell_at (shape_at v t) 0 0) (get t v)
+scalar-number t v found = by (get t v) refl found
+  where
+    by : (o : Option VariableState) → get t v ≡ o → IsSome o → get_or (variable_at v t).numbers 0 zero_number ≡ number_at (cell_at (shape_at v t) 0 0) (get t v)
+    by None e h = absurd (true≢false (sym h))
+    by (Some x) e h =
+        ap (λ (y : VariableState). get_or y.numbers 0 zero_number) (variable_at-Some t v x e)
+        ∙ ap (λ (k : ℕ). get_or x.numbers k zero_number) (sym (first-cell (shape_at v t)))
+        ∙ ap (number_at (cell_at (shape_at v t) 0 0)) (sym e)
 
 -- where it stands, nothing more is taken
 pub full-there : (area : ℕ) (t : Table) (v : Var) (s : Shape) (common : Bool) → IsSound area (count_of t) t → IsSome (get t v) → full area (with_new v s common t) ≡ None

@@ -185,6 +185,7 @@ module _ (v : Var) (x : VariableState) (front rest : Entries) (block : List ℕ)
           rest = drop (at + cost v s + costs rest) b;
           written = closed ∙ ap (λ (bs : List ℕ). bs ++ drop (at + cost v s + costs rest) b) (sym spelled_new);
           counted = omega (arith, end, gap_is, ap (λ (bs : List ℕ). length bs) spelled_new, length-append a c, a_long, rest_long);
+          short = omega (arith, long, laid.short);
           stored = stored-other v x (reshaped v s x) front rest laid.stored (record { variable = new; numbers = all-take (number_cells v s) x.numbers is.numbers });
           named = length-map places (lowered (at + 1) gap) ∙ laid.named;
           found = places-shorter v x (reshaped v s x) front rest places (at + 1) gap (omega (arith, at_is)) (omega (arith, gap_is)) (omega (arith, overhead-some v)) laid.found;

@@ -172,11 +172,13 @@ abbrev pub AllStored : Entries → Type 0
 AllStored [] = ⊤
 AllStored (e ∷ es) = IsStored e.0 e.1 × (stands_in e.0 es ≡ false) × AllStored es
 
--- A block begins with its entries, which are all the bytes in use, and the table has the place of each name.
+-- A block begins with its entries, which are all the bytes in use, and the table has the place of each name. A place takes four
+-- bytes, so a block has no more than these can count.
 pub record IsLaid (block : List ℕ) (used : ℕ) (places : List ℕ) (es : Entries) : Type 0 where
   pub rest : List ℕ
   pub written : block ≡ spelled es ++ rest
   pub counted : used ≡ length (spelled es)
+  pub short : length block ≤ 4294967295
   pub stored : AllStored es
   pub named : length places ≡ names
   pub found : (v : Var) → is_legal_name v ≡ true → get_or places (number_of v) 0 ≡ place_of v es
@@ -199,6 +201,7 @@ pub record IsKept (bytes : List ℕ) (from to used : ℕ) (places : List ℕ) (e
   pub gap : List ℕ
   pub free : List ℕ
   pub all : es ≡ done ++ left
+  pub short : length bytes ≤ 4294967295
   pub stored : AllStored es
   pub written : bytes ≡ spelled (common_entries done) ++ (gap ++ (spelled left ++ free))
   pub from_is : from ≡ to + length gap

@@ -8,12 +8,15 @@ ghost use Rattle.b2_dec.specs.Number.{zero_number};
 ghost use Rattle.b2_vars.specs.Block.{StandsAt, place_of, state_of};
 ghost use Rattle.b2_vars.specs.BlockLending.{LendsBytes};
 ghost use Rattle.b2_vars.specs.Calls.{ChangesPart, common_only, with_variable, with_change, with_bytes_of};
-ghost use Rattle.b2_vars.specs.Names.{is_legal_name};
+ghost use Rattle.b2_base.specs.Lexical.{is_letter};
+ghost use Rattle.b2_vars.specs.Names.{is_legal_name, scalar_named};
 ghost use Rattle.b2_vars.specs.Shapes.{has_dimensions, has_length, size_of, cost, cells, overhead, number_cells};
 ghost use Rattle.b2_vars.specs.Tables.{table_of, count_of, shape_at, variable_at, IsSound, IsVariable};
 ghost use Rattle.b2_vars.specs.Variables.{fresh, bytes_from, with_number, with_bytes, reshaped};
 
-use crate::entry::{common_at, item_at, number_of, part_at, read_number, shape_at};
+use crate::entry::{
+    common_at, item_at, number_of, number_of_scalar, part_at, read_number, shape_at,
+};
 use crate::keeping::keep_common;
 use crate::name::Var;
 use crate::shape::{Shape, alpha_bytes, cost, number_cells, overhead, size_of};
@@ -26,6 +29,9 @@ use b2_dec::Dec;
 use std::alloc::Global;
 use std::marker::Model;
 
+/// The most bytes that a block has: a place in it takes four bytes.
+const MOST_AREA: usize = 4_294_967_295;
+
 /// Variables in one block of bytes that is taken at the start, each an entry of its name, its shape and its values, and
 /// beside it the place of each name. Contracts see the area and the entries in their order.
 #[derive(Drop)]
@@ -35,7 +41,7 @@ pub struct Block {
     /// How many bytes the entries take.
     used: usize,
     /// The place of each name's entry counted from 1, and 0 where it has none.
-    places: Vec<usize>,
+    places: Vec<u32>,
 }
 
 impl Model for Block {
@@ -52,10 +58,13 @@ impl Model for Block {
 }
 
 impl Block {
-    /// No entries, in an area of `area` bytes.
+    /// No entries, in an area of `area` bytes. Want of memory is the answer where the area is above 4,294,967,295 too.
     pub fn new(alloc: Global, area: usize) -> Result<Block, NoMemory>
         ensures { IfOk result (λ b. b ≡ record { area = area; entries = [] }) }
     {
+        if area > MOST_AREA {
+            return Err(NoMemory);
+        }
         Ok(Block {
             bytes: vec![in alloc; 0; area]?,
             used: 0,
@@ -88,6 +97,27 @@ impl Block {
         ensures whole { IsSound self.now.area (count_of (table_of self.now.entries)) (table_of self.now.entries) }
     {
         item_at(&self.places, number_of(v))
+    }
+
+    /// The place of the entry of a numeric scalar, by its letter and its digit counted from 1, 0 where it has none.
+    pub fn scalar_place(&self, letter: u8, digit: u8) -> usize
+        requires letter { is_letter letter ≡ true }
+        requires digit { digit ≤ 10 }
+        ensures place { result ≡ place_of (scalar_named letter digit) self.now.entries }
+        ensures there { nat_lt 0 result ≡ map.contains_key (table_of self.now.entries) (scalar_named letter digit) }
+        ensures sound { IfSome (map.get (table_of self.now.entries) (scalar_named letter digit)) (IsVariable (scalar_named letter digit)) }
+        ensures whole { IsSound self.now.area (count_of (table_of self.now.entries)) (table_of self.now.entries) }
+    {
+        item_at(&self.places, number_of_scalar(letter, digit))
+    }
+
+    /// The number of the numeric scalar at a place, whose name this is.
+    pub fn scalar(&self, letter: u8, digit: u8, place: usize) -> Dec
+        requires at { StandsAt (scalar_named letter digit) place self.now.entries }
+        requires room { 0 < length (variable_at (scalar_named letter digit) (table_of self.now.entries)).numbers }
+        ensures { result ≡ get_or (variable_at (scalar_named letter digit) (table_of self.now.entries)).numbers 0 zero_number }
+    {
+        read_number(&self.bytes, place + 3)
     }
 
     /// The place of a name under which a variable stands.
@@ -154,6 +184,16 @@ impl Block {
     {
         let _legal = n.is_zero();
         write_number(&mut self.bytes, place - 1 + overhead(v) + cell * 8, n);
+    }
+
+    /// Puts a number in its place in the numeric scalar at a place, whose name this is.
+    pub fn set_scalar(&mut self, letter: u8, digit: u8, place: usize, n: Dec)
+        requires at { StandsAt (scalar_named letter digit) place self.old.entries }
+        requires room { 0 < length (variable_at (scalar_named letter digit) (table_of self.old.entries)).numbers }
+        ensures { state_of self.new ≡ with_change (scalar_named letter digit) (with_number 0 n) (state_of self.old) }
+    {
+        let _legal = n.is_zero();
+        write_number(&mut self.bytes, place + 3, n);
     }
 
     /// Overwrites the bytes after the first `from` of the variable at a place.

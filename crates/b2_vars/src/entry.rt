@@ -1,10 +1,10 @@
 // A variable as bytes: names by their numbers, and what an entry begins with.
 ghost use Rattle.std.specs.Prelude.{◌≡◌, ◌≤◌, ◌<◌, ◌+◌, ◌*◌, ◌^◌, ℕ, true, length, take, drop, get_or};
 ghost use Rattle.std.specs.Option.{option_map_or};
-ghost use Rattle.b2_base.specs.Lexical.{is_digit};
+ghost use Rattle.b2_base.specs.Lexical.{is_digit, is_letter};
 ghost use Rattle.b2_dec.specs.Number.{Number, IsNumber};
 ghost use Rattle.b2_dec.specs.Packing.{IsPacked, packed};
-ghost use Rattle.b2_vars.specs.Names.{is_legal_name};
+ghost use Rattle.b2_vars.specs.Names.{is_legal_name, scalar_named};
 ghost use Rattle.b2_vars.specs.Shapes.{overhead};
 ghost use Rattle.b2_vars.specs.Block.{names, number_of, digit_number, kind_of, name_bytes, two_bytes, read_name, read_digit, read_common, read_shape, read_two, read_dimension};
 
@@ -22,6 +22,16 @@ pub fn number_of(v: Var) -> usize
     ensures below { result < names }
 {
     (usize::from(v.letter - b'A') * 11 + digit_number(v.digit)) * 4 + usize::from(kind_of(v))
+}
+
+/// The number of the name of a numeric scalar, by its letter and its digit counted from 1, 0 where there is none.
+pub fn number_of_scalar(letter: u8, digit: u8) -> usize
+    requires letter { is_letter letter ≡ true }
+    requires digit { digit ≤ 10 }
+    ensures number { result ≡ number_of (scalar_named letter digit) }
+    ensures below { result < names }
+{
+    (usize::from(letter - b'A') * 11 + usize::from(digit)) * 4
 }
 
 /// A digit counted from 1, and 0 where there is none.
@@ -175,9 +185,9 @@ fn eight(bytes: &[u8], at: usize) -> &[u8; 8]
 }
 
 /// What a table has at a place.
-pub fn item_at(places: &Vec<usize>, n: usize) -> usize
+pub fn item_at(places: &Vec<u32>, n: usize) -> usize
     requires { n < length places.now.items }
     ensures { result ≡ get_or places.now.items n 0 }
 {
-    places[n]
+    places[n] as usize
 }

@@ -11,7 +11,7 @@ use crate::writing::{close_up, set_place};
 /// goes. Gives the place after the entry, and the one after all that are kept.
 fn keep_next(
     bytes: &mut Vec<u8>,
-    places: &mut Vec<usize>,
+    places: &mut Vec<u32>,
     from: usize,
     to: usize,
     used: usize,
@@ -37,7 +37,7 @@ fn keep_next(
 
 /// Moves the entries of common variables to the front, with their places, and drops those of the others. Gives how many
 /// bytes are left in use.
-pub fn keep_common(bytes: &mut Vec<u8>, places: &mut Vec<usize>, used: usize) -> usize
+pub fn keep_common(bytes: &mut Vec<u8>, places: &mut Vec<u32>, used: usize) -> usize
     requires { (es : Entries) × IsLaid bytes.old.items used places.old.items es }
     ensures laid { (es : Entries) → IsLaid bytes.old.items used places.old.items es → IsLaid bytes.new.items result places.new.items (common_entries es) }
     ensures size { length bytes.new.items ≡ length bytes.old.items }

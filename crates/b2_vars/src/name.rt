@@ -1,6 +1,7 @@
 // The names of variables.
-ghost use Rattle.std.specs.Prelude.{◌≡◌};
-ghost use Rattle.b2_vars.specs.Names.{is_legal_name};
+ghost use Rattle.std.specs.Prelude.{◌≡◌, ◌≤◌, true};
+ghost use Rattle.b2_base.specs.Lexical.{is_letter};
+ghost use Rattle.b2_vars.specs.Names.{is_legal_name, scalar_named};
 
 use b2_base::lexical::{is_digit, is_letter};
 
@@ -25,5 +26,21 @@ impl Var {
                 Some(digit) => is_digit(digit),
                 None => true,
             }
+    }
+}
+
+/// The numeric scalar of a letter and of a digit counted from 1, 0 where it has none.
+#[tactic(auto, using(crate::proofs::NameNumbers::scalar_legal))]
+pub fn scalar_named(letter: u8, digit: u8) -> Var
+    requires letter { is_letter letter ≡ true }
+    requires digit { digit ≤ 10 }
+    ensures named { result ≡ scalar_named letter digit }
+    ensures legal { is_legal_name result ≡ true }
+{
+    Var {
+        letter,
+        digit: if digit == 0 { None } else { Some(digit + 47) },
+        alpha: false,
+        array: false,
     }
 }

@@ -1,12 +1,13 @@
 // A partition's variables.
-ghost use Rattle.std.specs.Prelude.{◌≡◌, ◌≤◌, ◌<◌, ◌+◌, ◌*◌, ◌^◌, true, false, length, IsSome, IfSome, IfOk, OnOk, OnErr, Some, None, Ok};
+ghost use Rattle.std.specs.Prelude.{◌≡◌, ◌≤◌, ◌<◌, ◌+◌, ◌*◌, ◌^◌, true, false, not, is_some, length, IsSome, IfSome, IfOk, OnOk, OnErr, Some, None, Ok};
 ghost use Rattle.std.specs.Borrow.{sem};
 ghost use Rattle.std.specs.FinMap as map;
 ghost use Rattle.std.specs.Fn.{FnOnceReturnsAtMut};
 ghost use Rattle.std.specs.Option.{option_map};
 ghost use Rattle.b2_vars.specs.Answers.{Answers};
 ghost use Rattle.b2_vars.specs.Calls.{ChangesPart, IsPart, IsCell, full, no_array, get_code, set_code, part_code, dim_code, com_code, redim_code, missing_code, with_new, with_scalar, with_change, with_bytes_of, part_place, common_only};
-ghost use Rattle.b2_vars.specs.Names.{is_legal_name};
+ghost use Rattle.b2_base.specs.Lexical.{is_letter};
+ghost use Rattle.b2_vars.specs.Names.{is_legal_name, scalar_named};
 ghost use Rattle.b2_vars.specs.Shapes.{has_dimensions, has_length, cell_at, size_of, alpha_bytes};
 ghost use Rattle.b2_vars.specs.Tables.{count_of, shape_at, variable_at, IsVariable};
 ghost use Rattle.b2_vars.specs.Variables.{VariableState, fresh, value_at, number_at, alpha_at, is_alpha, bytes_from, with_number, with_alpha, with_value, reshaped};
@@ -14,7 +15,7 @@ ghost use Rattle.b2_vars.specs.VarsLending.{LendsPart, LendsAll};
 
 use crate::block::Block;
 use crate::checks;
-use crate::name::Var;
+use crate::name::{Var, scalar_named};
 use crate::shape::{Shape, alpha_bytes, cell_at, cost, scalar_shape};
 use b2_base::codes::{A02_DATA_AREA, P59_NO_ARRAY};
 use b2_base::{Code, NoMemory};
@@ -43,7 +44,8 @@ impl Model for Vars {
 }
 
 impl Vars {
-    /// No variables, in an area of `area` bytes. It takes all the memory that they ever use.
+    /// No variables, in an area of `area` bytes. It takes all the memory that they ever use, and answers want of it where the
+    /// area is above 4,294,967,295 too.
     pub fn new(alloc: Global, area: usize) -> Result<Vars, NoMemory>
         ensures { IfOk result (λ v. v ≡ record { area = area; table = map.empty }) }
     {
@@ -104,6 +106,20 @@ impl Vars {
         Ok(self.block.number(v, place, cell))
     }
 
+    /// The number of a numeric scalar, by its letter and its digit counted from 1, 0 where it has none.
+    pub fn scalar(&self, letter: u8, digit: u8) -> Dec
+        requires letter { is_letter letter ≡ true }
+        requires digit { digit ≤ 10 }
+        ensures value { result ≡ number_at (cell_at (shape_at (scalar_named letter digit) self.now.table) 0 0) (map.get self.now.table (scalar_named letter digit)) }
+        ensures there { get_code (scalar_named letter digit) 0 0 self.now.table ≡ None }
+    {
+        let place = self.block.scalar_place(letter, digit);
+        if place == 0 {
+            return Dec::zero();
+        }
+        self.block.scalar(letter, digit, place)
+    }
+
     /// The bytes of an alpha value, as `get`.
     pub fn alpha(&self, v: Var, r: u16, c: u16) -> Result<&[u8], Code>
         requires named { is_legal_name v ≡ true }
@@ -153,6 +169,23 @@ impl Vars {
         let cell = checks::cell_in(&self.block, v, place, r, c)?;
         self.block.set_number(v, place, cell, n);
         Ok(())
+    }
+
+    /// Assigns a number to a numeric scalar, by its letter and its digit counted from 1, 0 where it has none. A scalar that
+    /// isn't there is made first. Whether there was room for that; else all is as before.
+    pub fn set_scalar(&mut self, letter: u8, digit: u8, n: Dec) -> bool
+        requires letter { is_letter letter ≡ true }
+        requires digit { digit ≤ 10 }
+        ensures set { result ≡ true → self.new ≡ with_change (scalar_named letter digit) (with_number (cell_at (shape_at (scalar_named letter digit) self.old.table) 0 0) n) (with_scalar (scalar_named letter digit) self.old) }
+        ensures room { result ≡ not (is_some (set_code (scalar_named letter digit) 0 0 self.old)) }
+        ensures unchanged { result ≡ false → self.new ≡ self.old }
+    {
+        let place = self.block.scalar_place(letter, digit);
+        if place == 0 {
+            return self.set_new_scalar(letter, digit, n);
+        }
+        self.block.set_scalar(letter, digit, place, n);
+        true
     }
 
     /// Reaches a value, as `get`, and doesn't read it.
@@ -372,6 +405,20 @@ impl Vars {
         let cell = self.reach(v, r, c)?;
         self.put_number(v, cell, n);
         Ok(())
+    }
+
+    /// Assigns a number to a numeric scalar that may not be there.
+    fn set_new_scalar(&mut self, letter: u8, digit: u8, n: Dec) -> bool
+        requires letter { is_letter letter ≡ true }
+        requires digit { digit ≤ 10 }
+        ensures set { result ≡ true → self.new ≡ with_change (scalar_named letter digit) (with_number (cell_at (shape_at (scalar_named letter digit) self.old.table) 0 0) n) (with_scalar (scalar_named letter digit) self.old) }
+        ensures room { result ≡ not (is_some (set_code (scalar_named letter digit) 0 0 self.old)) }
+        ensures unchanged { result ≡ false → self.new ≡ self.old }
+    {
+        match self.set_new_number(scalar_named(letter, digit), 0, 0, n) {
+            Ok(()) => true,
+            Err(_) => false,
+        }
     }
 
     /// Puts a number in its place.

@@ -170,7 +170,7 @@ fn turn_in(all: &mut [u8], at: usize, n: usize, end: usize)
 
 /// Lowers each place past another.
 #[tactic(auto, using(std::proofs::lemmas::List::Edits::map_over_more))]
-pub fn lower(places: &mut Vec<usize>, past: usize, by: usize)
+pub fn lower(places: &mut Vec<u32>, past: usize, by: usize)
     ensures { places.new.items ≡ map (lowered past by) places.old.items }
 {
     for i in 0..places.len() {
@@ -179,33 +179,35 @@ pub fn lower(places: &mut Vec<usize>, past: usize, by: usize)
 }
 
 /// A place past another, lower by as many bytes.
-fn lowered(past: usize, by: usize, place: usize) -> usize
+fn lowered(past: usize, by: usize, place: u32) -> u32
     ensures { result ≡ lowered past by place }
 {
-    if place > past {
-        place.saturating_sub(by)
+    let at = place as usize;
+    if at > past {
+        at.saturating_sub(by) as u32
     } else {
         place
     }
 }
 
 /// Puts a place under a number.
-pub fn set_place(places: &mut Vec<usize>, n: usize, place: usize)
-    requires { n < length places.old.items }
+pub fn set_place(places: &mut Vec<u32>, n: usize, place: usize)
+    requires named { n < length places.old.items }
+    requires small { place ≤ 4294967295 }
     ensures { places.new.items ≡ slice_set places.old.items n place }
 {
-    places[n] = place;
+    places[n] = place as u32;
 }
 
 /// The places of names that stand nowhere.
-pub fn no_places(alloc: Global) -> Result<Vec<usize>, NoMemory>
+pub fn no_places(alloc: Global) -> Result<Vec<u32>, NoMemory>
     ensures { IfOk result (λ places. places.items ≡ replicate names 0) }
 {
     Ok(vec![in alloc; 0; NAMES]?)
 }
 
 /// No name stands anywhere any more.
-pub fn forget(places: &mut Vec<usize>)
+pub fn forget(places: &mut Vec<u32>)
     ensures { places.new.items ≡ replicate (length places.old.items) 0 }
 {
     places.fill(0);

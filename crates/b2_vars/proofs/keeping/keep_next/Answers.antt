@@ -30,6 +30,11 @@ number_of-requires c = legal-next c.args.bytes.now.items c.args.from c.args.to c
 pub number_of-requires-else-common_at : goal.number_of-requires-else-common_at
 number_of-requires-else-common_at c = legal-next c.args.bytes.now.items c.args.from c.args.to c.args.used c.args.places.now.items _ c.requires.kept.1 c.requires.more c.name_at-v.result c.deref.result.now c.deref.ensures.value c.name_at-v.ensures
 
+pub set_place-requires-clause-small : goal.set_place-requires-clause-small
+set_place-requires-clause-small c =
+    let h = c.requires.kept.1 in
+    omega (arith, h.from_is, c.requires.more, used-low c.args.bytes.now.items c.args.from c.args.to c.args.used c.args.places.now.items _ h c.requires.more, h.short)
+
 pub close_up-requires-clause-order : goal.close_up-requires-clause-order
 close_up-requires-clause-order c = let h = c.requires.kept.1 in omega (arith, h.from_is)
 

@@ -4,6 +4,7 @@ use Rattle.b2_vars.specs.Shapes.{cost}
 use Rattle.b2_vars.specs.Variables.{fresh, overwritten}
 use Rattle.b2_vars.specs.Block.{head_bytes, entry_bytes, number_of, state_of}
 use Rattle.b2_vars.specs.Calls.{with_variable}
+use Rattle.b2_vars.proofs.Heads.{overhead-some}
 use Rattle.b2_vars.proofs.Overwriting.{length-overwritten}
 use Rattle.b2_vars.proofs.ReadEntries.{length-entry, sizes}
 use Rattle.b2_vars.proofs.Laying.{Shows, shows-laid, shows-state}
@@ -46,8 +47,19 @@ fill-requires-2 c =
       length-overwritten (c.self.inside.used + c.overhead.result) (replicate {A = ℕ} (c.number_cells-numbers.result * 8) 0) c.write_head.new.all.items,
     )
 
-pub set_place-requires : goal.set_place-requires
-set_place-requires c = omega (arith, c.number_of.ensures.below, c.self.invariant.named)
+pub set_place-requires-clause-named : goal.set_place-requires-clause-named
+set_place-requires-clause-named c = omega (arith, c.number_of.ensures.below, c.self.invariant.named)
+
+pub set_place-requires-clause-small : goal.set_place-requires-clause-small
+set_place-requires-clause-small c =
+    omega (
+      arith,
+      c.requires.room,
+      overhead-some c.args.v,
+      count-is c.self.inside.bytes.items c.self.inside.used c.self.inside.places.items c.self.invariant c.args.self.now c.self.view_is,
+      same-area c.self.inside.bytes.items c.self.inside.used c.self.inside.places.items c.self.invariant c.args.self.now c.self.view_is,
+      c.self.invariant.short,
+    )
 
 pub invariant_of-self : goal.invariant_of-self
 invariant_of-self c =

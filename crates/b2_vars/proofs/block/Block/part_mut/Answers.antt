@@ -2,6 +2,7 @@ use Rattle.std.proofs.Common.{◌-◌, ◌+◌, ◌∙◌, ap, ℕ, List, length
 use Rattle.std.proofs.lemmas.List.{length-map}
 use Rattle.b2_vars.specs.Shapes.{cost}
 use Rattle.b2_vars.specs.Block.{lowered}
+use Rattle.b2_vars.proofs.Heads.{overhead-some}
 use Rattle.b2_vars.proofs.Steps.{head-room, cost-room, used-room, shape-read, stored-there}
 use Rattle.b2_vars.proofs.Lending.{IsTurned, alpha-is, bytes-low, length-turned, part-is, lent-invariant, lent-view}
 use Rattle.b2_vars.proofs.block.Block.part_mut.Goals as goal
@@ -18,8 +19,20 @@ turn-requires-clause-room c = used-room c.self.inside.bytes.items c.self.inside.
 pub number_of-requires : goal.number_of-requires
 number_of-requires c = let h = stored-there c.self.inside.bytes.items c.self.inside.used c.self.inside.places.items c.self.invariant c.args.self.now c.self.view_is c.args.v c.args.place c.requires.at in h.variable.named
 
-pub set_place-requires : goal.set_place-requires
-set_place-requires c = omega (arith, c.number_of.ensures.below, ap (λ (p : List ℕ). length p) c.lower.ensures, length-map c.self.inside.places.items (lowered c.args.place c.cost-size.result), c.self.invariant.named)
+pub set_place-requires-clause-named : goal.set_place-requires-clause-named
+set_place-requires-clause-named c = omega (arith, c.number_of.ensures.below, ap (λ (p : List ℕ). length p) c.lower.ensures, length-map c.self.inside.places.items (lowered c.args.place c.cost-size.result), c.self.invariant.named)
+
+pub set_place-requires-clause-small : goal.set_place-requires-clause-small
+set_place-requires-clause-small c =
+    omega (
+      arith,
+      c.cost-size.ensures.cost,
+      overhead-some c.args.v,
+      ap (cost c.args.v) (shape-read c.self.inside.bytes.items c.self.inside.used c.self.inside.places.items c.self.invariant c.args.self.now c.self.view_is c.args.v c.args.place c.requires.at c.shape_at-shape.result c.deref.result.now c.deref.ensures.value c.shape_at-shape.ensures),
+      cost-room c.self.inside.bytes.items c.self.inside.used c.self.inside.places.items c.self.invariant c.args.self.now c.self.view_is c.args.v c.args.place c.requires.at,
+      used-room c.self.inside.bytes.items c.self.inside.used c.self.inside.places.items c.self.invariant c.args.self.now c.self.view_is,
+      c.self.invariant.short,
+    )
 
 pub overflow_sub-self-inside : goal.overflow_sub-self-inside
 overflow_sub-self-inside c = omega (arith, c.cost-size.ensures.cost, ap (cost c.args.v) (shape-read c.self.inside.bytes.items c.self.inside.used c.self.inside.places.items c.self.invariant c.args.self.now c.self.view_is c.args.v c.args.place c.requires.at c.shape_at-shape.result c.deref.result.now c.deref.ensures.value c.shape_at-shape.ensures), cost-room c.self.inside.bytes.items c.self.inside.used c.self.inside.places.items c.self.invariant c.args.self.now c.self.view_is c.args.v c.args.place c.requires.at)
