@@ -6,3 +6,4 @@ pub mod Longest
 pub mod ReadBack
 pub mod ShownBack
 pub mod Spaced
+pub mod Halves

@@ -14,24 +14,35 @@ fn digit_byte(n: u64, unit: u64) -> u8
     b'0' + (n / unit % 10) as u8
 }
 
-/// The thirteen digits of a number.
+/// The same of a number of 32 bits.
+#[inline(always)]
+fn short_digit(n: u32, unit: u32) -> u8
+    requires { 0 < unit }
+    ensures { result ≡ byte.digit_0 + n / unit % 10 }
+{
+    b'0' + (n / unit % 10) as u8
+}
+
+/// The thirteen digits of a number: seven from a million on, and the six below it.
 fn thirteen(coef: u64) -> [u8; 13]
     ensures { result ≡ digit_bytes 13 coef }
 {
+    let front = (coef / 1_000_000 % 10_000_000) as u32;
+    let back = (coef % 1_000_000) as u32;
     [
-        digit_byte(coef, 1_000_000_000_000),
-        digit_byte(coef, 100_000_000_000),
-        digit_byte(coef, 10_000_000_000),
-        digit_byte(coef, 1_000_000_000),
-        digit_byte(coef, 100_000_000),
-        digit_byte(coef, 10_000_000),
-        digit_byte(coef, 1_000_000),
-        digit_byte(coef, 100_000),
-        digit_byte(coef, 10_000),
-        digit_byte(coef, 1_000),
-        digit_byte(coef, 100),
-        digit_byte(coef, 10),
-        digit_byte(coef, 1),
+        short_digit(front, 1_000_000),
+        short_digit(front, 100_000),
+        short_digit(front, 10_000),
+        short_digit(front, 1_000),
+        short_digit(front, 100),
+        short_digit(front, 10),
+        short_digit(front, 1),
+        short_digit(back, 100_000),
+        short_digit(back, 10_000),
+        short_digit(back, 1_000),
+        short_digit(back, 100),
+        short_digit(back, 10),
+        short_digit(back, 1),
     ]
 }
 

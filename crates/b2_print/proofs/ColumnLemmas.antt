@@ -85,7 +85,7 @@ pub items-go_on : (width column : ℕ) (items more : List Item) →
     × (items_column width column (items ++ more) ≡ items_column width (items_column width column items) more)
 items-go_on width column items more = (layout-append width column items more, fold-append (item_column width) column items more)
 
-blanks-column : (n column : ℕ) → column + n ≤ 65535 → column_after column (replicate n 32) ≡ column + n
+pub blanks-column : (n column : ℕ) → column + n ≤ 65535 → column_after column (replicate n 32) ≡ column + n
 blanks-column zero column h = omega arith
 blanks-column (suc n) column h =
     let next : min (column + 1) 65535 ≡ column + 1 = omega arith in

@@ -5,3 +5,5 @@ pub mod LineLemmas
 pub mod ColumnLemmas
 pub mod ReadingLemmas
 pub mod SpellingLemmas
+pub mod PlainLemmas
+pub mod ItemLemmas

@@ -1,13 +1,10 @@
 -- What a screen reads in the bytes of a layout.
-use Rattle.std.proofs.Common.{◌≡◌, ℕ, zero, suc, ◌+◌, ◌-◌, ◌/◌, ◌%◌, ◌≤◌, replicate, ◌==◌, ◌&&◌, ◌||◌, nat_lt, nat_le, Bool, true, false, not, if◌then◌else◌, List, [], ◌∷◌, ◌++◌, take, drop, refl, sym, ap, ◌∙◌, arith, ne_eqb}
+use Rattle.std.proofs.Common.{◌≡◌, ℕ, zero, suc, ◌+◌, ◌-◌, ◌≤◌, replicate, ◌==◌, ◌&&◌, ◌||◌, nat_lt, nat_le, Bool, true, false, not, if◌then◌else◌, List, [], ◌∷◌, ◌++◌, refl, sym, ap, ◌∙◌, arith, ne_eqb}
 use Rattle.std.specs.List.{list_all, flat_map}
 use Rattle.std.proofs.lemmas.Bool.{le-ltb, leb-true, ltb-false}
-use Rattle.std.proofs.lemmas.List.Folds.{list_all-append}
 use Rattle.std.proofs.lemmas.List.Sums.{fold-append}
-use Rattle.b2_base.specs.Lexical.{hex_digit, hex_pair}
-use Rattle.b2_dec.specs.Number.{Number}
-use Rattle.b2_dectext.specs.Digits.{digit_byte, digit_bytes, without_last_zeros}
-use Rattle.b2_dectext.specs.Printed.{printed, shown_size, with_point, after_point, nine_digits, exponent_shown, sign_shown, is_fixed}
+use Rattle.b2_base.specs.Lexical.{hex_pair}
+use Rattle.b2_dectext.specs.Printed.{printed}
 use Rattle.b2_print.specs.Columns.{next_column, column_after, passes, placed}
 use Rattle.b2_print.specs.Screen.{placing_bytes, outline_bytes}
 use Rattle.b2_print.specs.Reading.{ColumnReading, between, begun, column_of, read_byte, read_on, reads_past, is_other_byte, begins_none}
@@ -15,95 +12,29 @@ use Rattle.b2_print.specs.declared.layout.Item.{Item}
 use Rattle.b2_print.specs.declared.layout.Item.TheVariants as item
 use Rattle.b2_print.specs.Layout.{next_zone, item_text, stands_on_line, item_placed, item_column, layout, items_column, is_on_screen, are_on_screen, fits_line}
 use Rattle.b2_print.proofs.ColumnLemmas.{or_assoc, both, none-passes, placed-fits, line-column}
+use Rattle.b2_print.proofs.PlainLemmas.{is_plain, plain-blanks, plain-hex, plain-printed}
 
 -- texts without the byte that begins a sequence
-other-append : (xs ys : List ℕ) → list_all is_other_byte xs ≡ true → list_all is_other_byte ys ≡ true → list_all is_other_byte (xs ++ ys) ≡ true
-other-append xs ys h k = list_all-append is_other_byte xs ys ∙ ap (λ t. t && list_all is_other_byte ys) h ∙ k
-
-other-byte : (b : ℕ) → 32 ≤ b → is_other_byte b ≡ true
-other-byte b h = ap not (ne_eqb b 2 (λ e. absurd (omega (arith, e, h))))
-
-other-cons : (b : ℕ) (bs : List ℕ) → 32 ≤ b → list_all is_other_byte bs ≡ true → list_all is_other_byte (b ∷ bs) ≡ true
-other-cons b bs h k = ap (λ t. t && list_all is_other_byte bs) (other-byte b h) ∙ k
+other-plain : (xs : List ℕ) → list_all is_plain xs ≡ true → list_all is_other_byte xs ≡ true
+other-plain [] h = refl
+other-plain (b ∷ bs) h =
+    let parts = both (is_plain b) (list_all is_plain bs) h in
+    let shown : 32 ≤ b = leb-true 32 b parts.0 in
+    ap (λ t. t && list_all is_other_byte bs) (ap not (ne_eqb b 2 (λ e. absurd (omega (arith, e, shown))))) ∙ other-plain bs parts.1
 
 other-blanks : (n : ℕ) → list_all is_other_byte (replicate n 32) ≡ true
-other-blanks zero = refl
-other-blanks (suc n) = other-blanks n
-
-other-take : (n : ℕ) (xs : List ℕ) → list_all is_other_byte xs ≡ true → list_all is_other_byte (take n xs) ≡ true
-other-take zero xs h = refl
-other-take (suc n) [] h = refl
-other-take (suc n) (x ∷ xs) h =
-    let parts = both (is_other_byte x) (list_all is_other_byte xs) h in
-    ap (λ t. t && list_all is_other_byte (take n xs)) parts.0 ∙ other-take n xs parts.1
-
-other-drop : (n : ℕ) (xs : List ℕ) → list_all is_other_byte xs ≡ true → list_all is_other_byte (drop n xs) ≡ true
-other-drop zero xs h = h
-other-drop (suc n) [] h = refl
-other-drop (suc n) (x ∷ xs) h = other-drop n xs (both (is_other_byte x) (list_all is_other_byte xs) h).1
-
--- the printed form of a number
-other-digits : (k n : ℕ) → list_all is_other_byte (digit_bytes k n) ≡ true
-unfolding digit_bytes
-other-digits zero n = refl
-other-digits (suc k) n = other-cons (digit_byte k n) (digit_bytes k n) (omega arith) (other-digits k n)
-
-other-after_point : (ds : List ℕ) → list_all is_other_byte ds ≡ true → list_all is_other_byte (after_point ds) ≡ true
-other-after_point [] h = refl
-other-after_point (d ∷ ds) h = h
-
-other-with_point : (n : ℕ) (ds : List ℕ) → list_all is_other_byte ds ≡ true → list_all is_other_byte (with_point n ds) ≡ true
-unfolding with_point
-other-with_point n ds h =
-    other-append (take n ds) (after_point (without_last_zeros (drop n ds))) (other-take n ds h)
-    (other-after_point (without_last_zeros (drop n ds)) (other-take _ (drop n ds) (other-drop n ds h)))
-
-other-nine : (ds : List ℕ) → list_all is_other_byte ds ≡ true → list_all is_other_byte (nine_digits ds) ≡ true
-unfolding nine_digits
-other-nine ds h = other-append (take 1 ds) (46 ∷ take 8 (drop 1 ds)) (other-take 1 ds h) (other-take 8 (drop 1 ds) (other-drop 1 ds h))
+other-blanks n = other-plain (replicate n 32) (plain-blanks n)
 
 other-if : (b : Bool) (xs ys : List ℕ) → list_all is_other_byte xs ≡ true → list_all is_other_byte ys ≡ true → list_all is_other_byte (if b then xs else ys) ≡ true
 other-if true xs ys h k = h
 other-if false xs ys h k = k
 
-other-exponent : (place : ℕ) → list_all is_other_byte (exponent_shown place) ≡ true
-unfolding exponent_shown
-other-exponent place = other-if (nat_lt place 99) (69 ∷ 45 ∷ digit_bytes 2 (99 - place)) (69 ∷ 43 ∷ digit_bytes 2 (place - 99)) (other-digits 2 (99 - place)) (other-digits 2 (place - 99))
-
-other-size : (x : Number) → list_all is_other_byte (shown_size x) ≡ true
-unfolding shown_size
-other-size x =
-    let digits = other-digits 13 x.coef in
-    other-if (x.coef == 0) (48 ∷ []) _ refl
-    (other-if (is_fixed x.place) (with_point (x.place - 98) (digit_bytes 13 x.coef)) (nine_digits (digit_bytes 13 x.coef) ++ exponent_shown x.place)
-    (other-with_point (x.place - 98) (digit_bytes 13 x.coef) digits)
-    (other-append (nine_digits (digit_bytes 13 x.coef)) (exponent_shown x.place) (other-nine (digit_bytes 13 x.coef) digits) (other-exponent x.place)))
-
-other-sign : (neg : Bool) → list_all is_other_byte (sign_shown neg ∷ []) ≡ true
-other-sign true = refl
-other-sign false = refl
-
-other-printed : (x : Number) → list_all is_other_byte (printed x) ≡ true
-unfolding printed
-other-printed x = other-append (sign_shown x.neg ∷ []) (shown_size x ++ 32 ∷ []) (other-sign x.neg) (other-append (shown_size x) (32 ∷ []) (other-size x) refl)
-
--- hexadecimal digits
-other-hex_digit : (t : Bool) (n : ℕ) → 32 ≤ (if t then 48 + n else 65 + (n - 10))
-other-hex_digit true n = omega arith
-other-hex_digit false n = omega arith
-
-other-hex : (bytes : List ℕ) → list_all is_other_byte (flat_map hex_pair bytes) ≡ true
-other-hex [] = refl
-other-hex (b ∷ bs) =
-    other-cons (hex_digit (b / 16)) (hex_digit (b % 16) ∷ flat_map hex_pair bs) (other-hex_digit (nat_lt (b / 16) 10) (b / 16))
-    (other-cons (hex_digit (b % 16)) (flat_map hex_pair bs) (other-hex_digit (nat_lt (b % 16) 10) (b % 16)) (other-hex bs))
-
 -- an item on the line
 other-item : (width column : ℕ) (it : Item) → stands_on_line it ≡ true → begins_none it ≡ true → list_all is_other_byte (item_text width column it) ≡ true
-other-item width column (item.Number x) s h = other-printed x
+other-item width column (item.Number x) s h = other-plain (printed x) (plain-printed x)
 other-item width column (item.Alpha bytes) s h = h
 other-item width column (item.Tab n) s h = other-blanks (n - column)
-other-item width column (item.Hex bytes) s h = other-hex bytes.now
+other-item width column (item.Hex bytes) s h = other-plain (flat_map hex_pair bytes.now) (plain-hex bytes.now)
 other-item width column item.Zone s h = other-if (nat_lt (next_zone column) width) (replicate (next_zone column - column) 32) (10 ∷ []) (other-blanks (next_zone column - column)) refl
 other-item width column item.Line s h = refl
 other-item width column (item.At row to erase) s h = absurd (cc)
@@ -162,7 +93,7 @@ erased-read false column row to erase =
     ∙ ap (λ r. read_on r (placing_bytes row to)) (read-other to (replicate erase 32) (other-blanks erase))
     ∙ placing-read (column_after to (replicate erase 32)) row to []
 
-blanks-within : (width n column : ℕ) → column + n ≤ width → (passes width column (replicate n 32) ≡ false) × (column_after column (replicate n 32) ≤ width)
+pub blanks-within : (width n column : ℕ) → column + n ≤ width → (passes width column (replicate n 32) ≡ false) × (column_after column (replicate n 32) ≤ width)
 blanks-within width zero column h = (refl, omega (arith, h))
 blanks-within width (suc n) column h =
     let next : next_column column 32 ≤ column + 1 = omega arith in

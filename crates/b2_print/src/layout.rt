@@ -1,11 +1,13 @@
 // The items of PRINT, on lines of a width.
-ghost use Rattle.b2_dectext.specs.Printed.{printed};
-ghost use Rattle.std.specs.Prelude.{◌≡◌, ◌<◌, ◌++◌, true, OnOk, OnErr, IfOk, replicate};
+ghost use Rattle.std.specs.Prelude.{◌≡◌, ◌<◌, ◌==◌, ◌&&◌, ◌++◌, ◌∷◌, ℕ, true, not, nat_lt, if◌then◌else◌, OnOk, OnErr, IfOk, replicate};
 ghost use Rattle.std.specs.List.{flat_map};
 ghost use Rattle.b2_base.specs.Byte as byte;
 ghost use Rattle.b2_base.specs.Lexical.{hex_pair};
 ghost use Rattle.b2_print.specs.Screen as screen;
+ghost use Rattle.b2_print.specs.Columns as spec_column;
+ghost use Rattle.b2_print.specs.Columns.{placed};
 ghost use Rattle.b2_print.specs.Layout as spec;
+ghost use Rattle.b2_print.specs.declared.layout.Item.TheVariants as item;
 
 use crate::columns::{column_after, passes};
 use crate::screen::{SCREEN_COLUMNS, SCREEN_ROWS, outline_bytes, placing_bytes};
@@ -72,97 +74,197 @@ fn hex(alloc: Global, bytes: &[u8]) -> Result<Vec<u8>, NoMemory>
     Ok(text)
 }
 
-/// A number of blanks.
-fn blanks(alloc: Global, count: u16) -> Result<Vec<u8>, NoMemory>
-    ensures { IfOk result (λ text. text.items ≡ replicate count byte.blank) }
+/// Appends bytes, on a new line where that is wanted. Where memory fails, `into` is as before.
+fn append(line: bool, bytes: &[u8], into: &mut Vec<u8>) -> Result<(), NoMemory>
+    ensures text { OnOk result (into.new.items ≡ into.old.items ++ (if line then byte.newline ∷ bytes.now else bytes.now)) }
+    ensures err { OnErr result (into.new.items ≡ into.old.items) }
 {
-    Ok(vec![in alloc; b' '; count as usize]?)
-}
-
-/// The printed form of a number.
-fn printed(alloc: Global, x: Dec) -> Result<Vec<u8>, NoMemory>
-    ensures { IfOk result (λ text. text.items ≡ printed x) }
-{
-    let mut digits = [0; 24];
-    let count = write(x, &mut digits);
-    Ok(Vec::from_slice(alloc, &digits[..count])?)
-}
-
-/// What leads to the next zone.
-fn zone(alloc: Global, width: u16, column: u16) -> Result<Vec<u8>, NoMemory>
-    ensures { IfOk result (λ text. text.items ≡ spec.zone_text width column) }
-{
-    let next = (column as u32 / 16 + 1) * 16;
-    if next < width as u32 {
-        blanks(alloc, (next - column as u32) as u16)
-    } else {
-        Ok(vec![in alloc; b'\n']?)
+    let before = into.len();
+    if line {
+        into.push(b'\n')?;
     }
-}
-
-/// The cursor at a place of the screen, and back there after cells are erased.
-fn place_text(alloc: Global, row: u8, column: u8, erase: u8) -> Result<Vec<u8>, NoMemory>
-    requires row { row < screen.screen_rows }
-    requires column { column < screen.screen_columns }
-    ensures { IfOk result (λ text. text.items ≡ screen.place_text row column erase) }
-{
-    let place = placing_bytes(row, column);
-    let mut text = Vec::from_slice(alloc, &place)?;
-    if erase != 0 {
-        text.extend_from_slice(&blanks(alloc, erase as u16)?)?;
-        text.extend_from_slice(&place)?;
-    }
-    Ok(text)
-}
-
-/// What an item shows at a column.
-fn item_text(alloc: Global, width: u16, column: u16, item: &Item<'_>) -> Result<Vec<u8>, NoMemory>
-    requires on_screen { spec.is_on_screen item.now ≡ true }
-    ensures { IfOk result (λ text. text.items ≡ spec.item_text width column item.now) }
-{
-    match item {
-        Item::Number(x) => printed(alloc, *x),
-        Item::Alpha(bytes) => Ok(Vec::from_slice(alloc, bytes)?),
-        Item::Tab(to) => blanks(alloc, (*to as u16).saturating_sub(column)),
-        Item::Hex(bytes) => hex(alloc, bytes),
-        Item::Zone => zone(alloc, width, column),
-        Item::Line => Ok(vec![in alloc; b'\n']?),
-        Item::At { row, column, erase } => place_text(alloc, *row, *column, *erase),
-        Item::Outline { rows, columns } => {
-            Ok(Vec::from_slice(alloc, &outline_bytes(*rows, *columns))?)
+    match into.extend_from_slice(bytes) {
+        Ok(()) => Ok(()),
+        Err(_) => {
+            into.truncate(before);
+            Err(NoMemory)
         }
     }
 }
 
-/// Whether an item stands on the line, as all do but those for the screen as a whole.
-fn stands_on_line(item: &Item<'_>) -> bool
-    ensures { result ≡ spec.stands_on_line item.now }
+/// Appends a number of blanks, on a new line where that is wanted. Where memory fails, `into` is as before.
+fn append_blanks(line: bool, count: u16, into: &mut Vec<u8>) -> Result<(), NoMemory>
+    ensures text { OnOk result (into.new.items ≡ into.old.items ++ (if line then byte.newline ∷ replicate count byte.blank else replicate count byte.blank)) }
+    ensures err { OnErr result (into.new.items ≡ into.old.items) }
 {
-    !matches!(item, Item::At { .. } | Item::Outline { .. })
-}
-
-/// An item at the column where it goes: on a new line where it stands on the line and would pass the width.
-fn item_placed(alloc: Global, width: u16, column: u16, item: &Item<'_>) -> Result<Vec<u8>, NoMemory>
-    requires on_screen { spec.is_on_screen item.now ≡ true }
-    ensures { IfOk result (λ text. text.items ≡ spec.item_placed width column item.now) }
-{
-    let text = item_text(alloc, width, column, item)?;
-    if !stands_on_line(item) || column == 0 || !passes(width, column, &text) {
-        return Ok(text);
+    let before = into.len();
+    if line {
+        into.push(b'\n')?;
     }
-    let mut on_new_line = vec![in alloc; b'\n']?;
-    on_new_line.extend_from_slice(&item_text(alloc, width, 0, item)?)?;
-    Ok(on_new_line)
+    match into.resize(into.len() + count as usize, b' ') {
+        Ok(()) => Ok(()),
+        Err(_) => {
+            into.truncate(before);
+            Err(NoMemory)
+        }
+    }
 }
 
-/// The column after an item that shows a text at a column.
-fn column_past(column: u16, item: &Item<'_>, text: &[u8]) -> u16
-    ensures { result ≡ spec.column_past column item.now text.now }
+/// Whether a text without control codes has to go on a new line, by the column after it: where that is above the width,
+/// and the text doesn't stand at the beginning of its line.
+#[inline(always)]
+fn goes_on_new_line(width: u16, column: u16, after: u16) -> bool
+    ensures { result ≡ (not (column == 0) && nat_lt width after) }
+{
+    column != 0 && after > width
+}
+
+/// Appends a number in its printed form, placed at a column of lines of a width, and gives the column after it.
+///
+/// Where memory fails, `into` is as before. So it is after the other calls that append one item.
+pub fn lay_number(x: Dec, width: u16, column: u16, into: &mut Vec<u8>) -> Result<u16, NoMemory>
+    ensures text { OnOk result (into.new.items ≡ into.old.items ++ spec.item_placed width column (item.Number x)) }
+    ensures column { IfOk result (λ after. after ≡ spec.item_column width column (item.Number x)) }
+    ensures err { OnErr result (into.new.items ≡ into.old.items) }
+{
+    let mut digits = [0; 24];
+    let count = write(x, &mut digits);
+    let after = column.saturating_add(count as u16);
+    let line = goes_on_new_line(width, column, after);
+    append(line, &digits[..count], into)?;
+    Ok(if line { count as u16 } else { after })
+}
+
+/// Appends bytes, such as those of an alpha value, placed at a column, and gives the column after them.
+pub fn lay_bytes(bytes: &[u8], width: u16, column: u16, into: &mut Vec<u8>) -> Result<u16, NoMemory>
+    ensures text { OnOk result (into.new.items ≡ into.old.items ++ placed width column (λ c. bytes.now)) }
+    ensures column { IfOk result (λ after. after ≡ spec_column.column_after column (placed width column (λ c. bytes.now))) }
+    ensures err { OnErr result (into.new.items ≡ into.old.items) }
+{
+    if column != 0 && passes(width, column, bytes) {
+        append(true, bytes, into)?;
+        return Ok(column_after(0, bytes));
+    }
+    append(false, bytes, into)?;
+    Ok(column_after(column, bytes))
+}
+
+/// Appends each byte as two upper hexadecimal digits, placed at a column, and gives the column after them.
+pub fn lay_hex(
+    alloc: Global,
+    bytes: &[u8],
+    width: u16,
+    column: u16,
+    into: &mut Vec<u8>,
+) -> Result<u16, NoMemory>
+    ensures text { OnOk result (into.new.items ≡ into.old.items ++ placed width column (λ c. flat_map hex_pair bytes.now)) }
+    ensures column { IfOk result (λ after. after ≡ spec_column.column_after column (placed width column (λ c. flat_map hex_pair bytes.now))) }
+    ensures err { OnErr result (into.new.items ≡ into.old.items) }
+{
+    let text = hex(alloc, bytes)?;
+    lay_bytes(&text, width, column, into)
+}
+
+/// Appends blanks up to a column, and gives the column after them.
+pub fn lay_tab(to: u8, width: u16, column: u16, into: &mut Vec<u8>) -> Result<u16, NoMemory>
+    ensures text { OnOk result (into.new.items ≡ into.old.items ++ spec.item_placed width column (item.Tab to)) }
+    ensures column { IfOk result (λ after. after ≡ spec.item_column width column (item.Tab to)) }
+    ensures err { OnErr result (into.new.items ≡ into.old.items) }
+{
+    let to = to as u16;
+    if to <= column {
+        return Ok(column);
+    }
+    let line = goes_on_new_line(width, column, to);
+    if line {
+        append_blanks(true, to, into)?;
+        return Ok(to);
+    }
+    append_blanks(false, to - column, into)?;
+    Ok(to)
+}
+
+/// Appends a newline, and gives the column after it.
+pub fn lay_line(width: u16, column: u16, into: &mut Vec<u8>) -> Result<u16, NoMemory>
+    ensures text { OnOk result (into.new.items ≡ into.old.items ++ spec.item_placed width column item.Line) }
+    ensures column { IfOk result (λ after. after ≡ spec.item_column width column item.Line) }
+    ensures err { OnErr result (into.new.items ≡ into.old.items) }
+{
+    into.push(b'\n')?;
+    Ok(0)
+}
+
+/// Appends what leads to the next zone from a column on, and gives the column after it.
+pub fn lay_zone(width: u16, column: u16, into: &mut Vec<u8>) -> Result<u16, NoMemory>
+    ensures text { OnOk result (into.new.items ≡ into.old.items ++ spec.item_placed width column item.Zone) }
+    ensures column { IfOk result (λ after. after ≡ spec.item_column width column item.Zone) }
+    ensures err { OnErr result (into.new.items ≡ into.old.items) }
+{
+    let next = (column as u32 / 16 + 1) * 16;
+    if next < width as u32 {
+        append_blanks(false, next as u16 - column, into)?;
+        Ok(next as u16)
+    } else {
+        append(true, &[], into)?;
+        Ok(0)
+    }
+}
+
+/// Appends the cursor at a place of the screen, and back there after cells are erased.
+fn lay_place(
+    alloc: Global,
+    row: u8,
+    column: u8,
+    erase: u8,
+    into: &mut Vec<u8>,
+) -> Result<(), NoMemory>
+    requires row { row < screen.screen_rows }
+    requires column { column < screen.screen_columns }
+    ensures text { OnOk result (into.new.items ≡ into.old.items ++ screen.place_text row column erase) }
+    ensures err { OnErr result (into.new.items ≡ into.old.items) }
+{
+    let place = placing_bytes(row, column);
+    let mut text = Vec::from_slice(alloc, &place)?;
+    if erase != 0 {
+        append_blanks(false, erase as u16, &mut text)?;
+        text.extend_from_slice(&place)?;
+    }
+    into.extend_from_slice(&text)?;
+    Ok(())
+}
+
+/// Appends an item, placed at a column, and gives the column after it.
+fn lay_item(
+    alloc: Global,
+    item: &Item<'_>,
+    width: u16,
+    column: u16,
+    into: &mut Vec<u8>,
+) -> Result<u16, NoMemory>
+    requires on_screen { spec.is_on_screen item.now ≡ true }
+    ensures text { OnOk result (into.new.items ≡ into.old.items ++ spec.item_placed width column item.now) }
+    ensures column { IfOk result (λ after. after ≡ spec.item_column width column item.now) }
+    ensures err { OnErr result (into.new.items ≡ into.old.items) }
 {
     match item {
-        Item::At { column: own, .. } => *own as u16,
-        Item::Outline { .. } => column,
-        _ => column_after(column, text),
+        Item::Number(x) => lay_number(*x, width, column, into),
+        Item::Alpha(bytes) => lay_bytes(bytes, width, column, into),
+        Item::Tab(to) => lay_tab(*to, width, column, into),
+        Item::Hex(bytes) => lay_hex(alloc, bytes, width, column, into),
+        Item::Zone => lay_zone(width, column, into),
+        Item::Line => lay_line(width, column, into),
+        Item::At {
+            row,
+            column: own,
+            erase,
+        } => {
+            lay_place(alloc, *row, *own, *erase, into)?;
+            Ok(*own as u16)
+        }
+        Item::Outline { rows, columns } => {
+            into.extend_from_slice(&outline_bytes(*rows, *columns))?;
+            Ok(column)
+        }
     }
 }
 
@@ -185,13 +287,16 @@ pub fn lay(
     ensures column { IfOk result (λ after. after ≡ spec.items_column width column items.now) }
     ensures err { OnErr result (into.new.items ≡ into.old.items) }
 {
-    let mut shown = Vec::new(alloc);
+    let before = into.len();
     let mut at = column;
     for item in items {
-        let text = item_placed(alloc, width, at, item)?;
-        at = column_past(at, item, &text);
-        shown.extend_from_slice(&text)?;
+        match lay_item(alloc, item, width, at, into) {
+            Ok(after) => at = after,
+            Err(no_memory) => {
+                into.truncate(before);
+                return Err(no_memory);
+            }
+        }
     }
-    into.extend_from_slice(&shown)?;
     Ok(at)
 }

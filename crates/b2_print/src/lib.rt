@@ -1,6 +1,7 @@
 //! What PRINT, PRINTUSING and CONVERT show.
 //!
 //! `lay` puts the items of PRINT into columns and zones, and begins a new line before an item that would pass the width.
+//! `lay_number` and its like do the same for one item. All append straight to the text that they are lent.
 //! Two items are for the screen as a whole: the cursor at a place, and a box. They show sequences of bytes that begin
 //! with 02, and the width doesn't act on them.
 //! `using` puts values into the fields of an image, and `convert` one number. Each of them shows exactly what its
@@ -31,4 +32,6 @@ pub use laws::{
     law_column_is_read, law_fields_keep_their_width, law_items_go_on, law_lines_fit,
     law_pieces_are_the_image, law_screen_stays_within, law_zones_end,
 };
-pub use layout::{Item, are_on_screen, lay};
+pub use layout::{
+    Item, are_on_screen, lay, lay_bytes, lay_hex, lay_line, lay_number, lay_tab, lay_zone,
+};

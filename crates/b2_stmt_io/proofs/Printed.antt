@@ -4,6 +4,9 @@ use Rattle.std.specs.Prelude.{is_some}
 use Rattle.std.specs.declared.option.Option.{Option}
 use Rattle.b2_base.specs.Byte as byte
 use Rattle.b2_base.specs.Lexical.{first}
+use Rattle.b2_base.specs.Refusals.{IsRefused}
+use Rattle.b2_base.specs.declared.codes.Fault.{Fault}
+use Rattle.b2_base.specs.declared.codes.Fault.TheVariants as fault
 use Rattle.b2_base.specs.declared.codes.TheConstants.{S13_SEPARATOR}
 use Rattle.b2_atom.specs.Words.{Text}
 use Rattle.b2_atom.specs.Tree.{Trees, also}
@@ -73,6 +76,12 @@ append_nil : (xs : List ℕ) → xs ++ [] ≡ xs
 append_nil [] = refl
 append_nil (x ∷ xs) = ap (λ (l : List ℕ). x ∷ l) (append_nil xs)
 
+pub one_laid : (width column : ℕ) (old new : List ℕ) (it : Shown) → new ≡ old ++ item_placed width column it → new ≡ old ++ layout width column (it ∷ [])
+one_laid width column old new it is = is ∙ ap (λ (l : List ℕ). old ++ l) (sym (append_nil (item_placed width column it)))
+
+pub none_laid : (old : List ℕ) → old ≡ old ++ []
+none_laid old = sym (append_nil old)
+
 one_text : (width : ℕ) (old new : List ℕ) (column : ℕ) (it : Result Shown ℕ) → (it >>= (λ x. Ok (old ++ item_placed width column x))) ≡ Ok new
     → ((it >>= (λ x. Ok (Some x))) >>= (λ o. Ok (old ++ layout width column (items_of o)))) ≡ Ok new
 one_text width old new column (Ok x) is = ap (λ (l : List ℕ). Ok (old ++ l)) (append_nil (item_placed width column x)) ∙ is
@@ -106,8 +115,12 @@ pub one_some : (width : ℕ) (s : Context) (t : Text) (column after : ℕ) → s
     → (item_there s t >>= (λ o. Ok (is_some o))) ≡ Ok true
 one_some width s t column after is at = ap (λ (r : Result (Option Shown) ℕ). r >>= (λ o. Ok (is_some o))) (one_there s t is) ∙ one_is width column after (item_of s (tree_at row.PRINT_ITEM t)) at
 
-pub one_refused : (s : Context) (t : Text) (code : ℕ) → starts Atoms start.PrintItem t ≡ true → item_of s (tree_at row.PRINT_ITEM t) ≡ Err code → item_there s t ≡ Err code
+one_refused : (s : Context) (t : Text) (code : ℕ) → starts Atoms start.PrintItem t ≡ true → item_of s (tree_at row.PRINT_ITEM t) ≡ Err code → item_there s t ≡ Err code
 one_refused s t code is unassigned = one_there s t is ∙ one_code code (item_of s (tree_at row.PRINT_ITEM t)) unassigned
+
+pub one_fault : (s : Context) (t : Text) (f : Fault) → starts Atoms start.PrintItem t ≡ true → IsRefused (item_of s (tree_at row.PRINT_ITEM t)) f → IsRefused (item_there s t) f
+one_fault s t (fault.Code code) is refused = one_refused s t code is refused
+one_fault s t fault.NoMemory is refused = tt
 
 pub none_shown : (width : ℕ) (s : Context) (t : Text) (old : List ℕ) (column : ℕ) → starts Atoms start.PrintItem t ≡ false
     → (item_there s t >>= (λ o. Ok (old ++ layout width column (items_of o)))) ≡ Ok old
@@ -282,8 +295,12 @@ refused_then : (code : ℕ) (r : Result (Option Shown) ℕ) (f : Option Shown �
 refused_then code (Ok o) f is = cc
 refused_then code (Err c) f is = cc
 
-pub first_refused : (s : Context) (t : Text) (code : ℕ) → is_part row.PRINT t ≡ true → item_there s (drop 1 t) ≡ Err code → shown_items s (tree_at row.PRINT t) ≡ Err code
+first_refused : (s : Context) (t : Text) (code : ℕ) → is_part row.PRINT t ≡ true → item_there s (drop 1 t) ≡ Err code → shown_items s (tree_at row.PRINT t) ≡ Err code
 first_refused s t code ok is = print_is s t ok ∙ refused_then code (item_there s (drop 1 t)) (λ x. then_further s true [] x (further_at (after_item (drop 1 t)))) is
+
+pub first_fault : (s : Context) (t : Text) (f : Fault) → is_part row.PRINT t ≡ true → IsRefused (item_there s (drop 1 t)) f → IsRefused (shown_items s (tree_at row.PRINT t)) f
+first_fault s t (fault.Code code) ok refused = first_refused s t code ok refused
+first_fault s t fault.NoMemory ok refused = tt
 
 next_then : (width : ℕ) (s : Context) (line : Bool) (t : Text) (old new : List ℕ) (column after : ℕ) (is : Bool) → is_list separators row.FURTHER_ITEM t ≡ true → starts Atoms separators t ≡ true
     → (item_there s (drop 1 t) >>= (λ o. Ok ((old ++ layout width column (zone_where (first t == byte.comma))) ++ layout width (items_column width column (zone_where (first t == byte.comma))) (items_of o)))) ≡ Ok new
@@ -307,11 +324,16 @@ next_shown width s line t old between new column middle after is ok sep zone_tex
     (subst (λ (n : ℕ). (item_there s (drop 1 t) >>= (λ o. Ok (items_column width n (items_of o)))) ≡ Ok after) zone_at at)
     some
 
-pub next_refused : (width : ℕ) (s : Context) (line : Bool) (t : Text) (code : ℕ) (old : List ℕ) (column before : ℕ) (whole : Result (List Shown) ℕ) (first_text : List ℕ) → is_list separators row.FURTHER_ITEM t ≡ true → starts Atoms separators t ≡ true
+next_refused : (width : ℕ) (s : Context) (line : Bool) (t : Text) (code : ℕ) (old : List ℕ) (column before : ℕ) (whole : Result (List Shown) ℕ) (first_text : List ℕ) → is_list separators row.FURTHER_ITEM t ≡ true → starts Atoms separators t ≡ true
     → item_there s (drop 1 t) ≡ Err code → laid_after width old column (further_in s line (further_at t)) ≡ laid_after width first_text before whole → whole ≡ Err code
 next_refused width s line t code old column before whole first_text ok sep found same =
     not_laid width first_text before code whole (sym same ∙ ap (laid_after width old column) (Follows.zone (follows t ok sep) s line
     ∙ refused_then code (item_there s (drop 1 t)) (λ x. then_further s (is_some x) (zone_where (first t == byte.comma)) x (further_at (after_item (drop 1 t)))) found))
+
+pub next_fault : (width : ℕ) (s : Context) (line : Bool) (t : Text) (f : Fault) (old : List ℕ) (column before : ℕ) (whole : Result (List Shown) ℕ) (first_text : List ℕ) → is_list separators row.FURTHER_ITEM t ≡ true → starts Atoms separators t ≡ true
+    → IsRefused (item_there s (drop 1 t)) f → laid_after width old column (further_in s line (further_at t)) ≡ laid_after width first_text before whole → IsRefused whole f
+next_fault width s line t (fault.Code code) old column before whole first_text ok sep refused same = next_refused width s line t code old column before whole first_text ok sep refused same
+next_fault width s line t fault.NoMemory old column before whole first_text ok sep refused same = tt
 
 pub all_shown : (width : ℕ) (s : Context) (line : Bool) (t : Text) (old new : List ℕ) (column after : ℕ) → starts Atoms separators t ≡ false
     → new ≡ old ++ layout width column (newline_where line) → after ≡ items_column width column (newline_where line)

@@ -15,6 +15,7 @@ use Rattle.b2_expr.specs.Functions.{whole_between}
 use Rattle.b2_expr.specs.Scope.{Context}
 use Rattle.b2_expr.specs.Value.{branch_of, text, value}
 use Rattle.b2_expr.specs.declared.operators.Level.TheVariants as level
+use Rattle.b2_stmt_io.specs.declared.printing.Shown.{Shown}
 
 -- TAB: blanks up to a column from 0 to 255
 abbrev pub tab_in : Context → Trees → Result Item ℕ
@@ -100,14 +101,19 @@ laid_after width before column (Err code) = Err code
 abbrev pub prints : Context → ℕ → ℕ → Trees → Result (List ℕ × ℕ) ℕ
 prints s width column t = laid_after width [] column (shown_items s t)
 
--- an item that is shown after a text, the column after it and what stands after it; or its code, where memory doesn't fail
-abbrev pub ShowsItem : Result Item ℕ → Text → ℕ → ℕ → List ℕ → List ℕ → Result (ℕ × Bor Text) Fault → Type 0
-ShowsItem it rest width column old new (Ok p) = ((it >>= (λ x. Ok (old ++ item_placed width column x))) ≡ Ok new) × (((it >>= (λ x. Ok (item_column width column x))) ≡ Ok p.0) × (p.1.now ≡ rest))
-ShowsItem it rest width column old new (Err f) = IsRefused it f
+-- An item that is shown after a text, with the column after it, and what is left of the unit; or its code, where memory
+-- doesn't fail.
+pub record ShowsItem (it : Result Item ℕ) (rest : Text) (width column : ℕ) (old new : List ℕ) (left : Text) (fault : Fault) (shown : Shown) : Type 0 where
+  pub text : shown.refused ≡ false → (it >>= (λ x. Ok (old ++ item_placed width column x))) ≡ Ok new
+  pub at : shown.refused ≡ false → (it >>= (λ x. Ok (item_column width column x))) ≡ Ok shown.column
+  pub is : shown.refused ≡ false → shown.is_item ≡ true
+  pub past : shown.refused ≡ false → left ≡ rest
+  pub code : shown.refused ≡ true → IsRefused it fault
 
 -- the same of an item or none
-abbrev pub ShowsMaybe : Result (Option Item) ℕ → Text → ℕ → ℕ → List ℕ → List ℕ → Result (ℕ × Bool × Bor Text) Fault → Type 0
-ShowsMaybe it rest width column old new (Ok p) =
-    ((it >>= (λ x. Ok (old ++ layout width column (items_of x)))) ≡ Ok new)
-    × (((it >>= (λ x. Ok (items_column width column (items_of x)))) ≡ Ok p.0) × (((it >>= (λ x. Ok (is_some x))) ≡ Ok p.1) × (p.2.now ≡ rest)))
-ShowsMaybe it rest width column old new (Err f) = IsRefused it f
+pub record ShowsMaybe (it : Result (Option Item) ℕ) (rest : Text) (width column : ℕ) (old new : List ℕ) (left : Text) (fault : Fault) (shown : Shown) : Type 0 where
+  pub text : shown.refused ≡ false → (it >>= (λ x. Ok (old ++ layout width column (items_of x)))) ≡ Ok new
+  pub at : shown.refused ≡ false → (it >>= (λ x. Ok (items_column width column (items_of x)))) ≡ Ok shown.column
+  pub is : shown.refused ≡ false → (it >>= (λ x. Ok (is_some x))) ≡ Ok shown.is_item
+  pub past : shown.refused ≡ false → left ≡ rest
+  pub code : shown.refused ≡ true → IsRefused it fault

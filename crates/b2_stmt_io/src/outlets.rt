@@ -24,6 +24,7 @@ pub enum Outlet {
 
 impl Outlet {
     /// How wide its lines are.
+    #[inline(always)]
     pub fn width(&self) -> u16
         ensures { result ≡ spec.width_of self.now }
     {
@@ -34,6 +35,7 @@ impl Outlet {
     }
 
     /// The column there.
+    #[inline(always)]
     pub fn column(&self) -> u16
         ensures { result ≡ spec.column_of self.now }
     {
@@ -44,6 +46,7 @@ impl Outlet {
     }
 
     /// What shows bytes there that lead to a column.
+    #[inline(always)]
     pub fn show_to(&self, bytes: ByteList, after: u16) -> Access
         ensures { result ≡ spec.shows_to self.now bytes after }
     {

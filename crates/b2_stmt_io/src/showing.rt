@@ -8,11 +8,14 @@ ghost use Rattle.b2_stmt_io.specs.Showing as spec;
 
 use crate::imaging::shown_using;
 use crate::outlets::Outlet;
-use crate::printing::shown_by_print;
+use crate::printing::show_items;
 use b2_access::{Planned, failing};
-use b2_base::NoMemory;
+use b2_base::{ByteList, NoMemory};
 use b2_expr::Env;
 use std::alloc::Global;
+
+/// For how many bytes there is room at once in what PRINT shows, as most statements show fewer.
+const LINE: usize = 64;
 
 /// What PRINT asks for: its items are evaluated, and then they are shown.
 #[tactic(auto, using(crate::proofs::Refusals::layout_refused))]
@@ -25,8 +28,9 @@ pub fn ask_print(
     requires part { is_part row.PRINT unit.now ≡ true }
     ensures { IfOk result (λ p. p ≡ spec.asks_to_print (tree_at row.PRINT unit.now) (in_statement (surroundings e.now)) outlet.now) }
 {
-    match shown_by_print(alloc, e, outlet.width(), outlet.column(), unit) {
-        Ok((bytes, after)) => Ok(Planned::Ask(outlet.show_to(bytes, after))),
+    let mut out = Vec::with_capacity(alloc, LINE)?;
+    match show_items(alloc, e, outlet.width(), outlet.column(), unit, &mut out) {
+        Ok(after) => Ok(Planned::Ask(outlet.show_to(ByteList::new(out), after))),
         Err(fault) => Ok(Planned::Done(failing(fault)?)),
     }
 }
