@@ -1,5 +1,5 @@
 -- What a partition is lent, as its statements see it.
-use Rattle.std.specs.Prelude.{Option, Some, None, if◌then◌else◌}
+use Rattle.std.specs.Prelude.{Some, None, if◌then◌else◌}
 use Rattle.b2_text.specs.Program.{TextState}
 use Rattle.b2_vars.specs.Globals.{Globals}
 use Rattle.b2_access.specs.declared.lending.Lent.{Lent}

@@ -31,6 +31,8 @@ pub mod Going
 pub mod Placed
 pub mod Courses
 pub mod Found
+pub mod Lead
+pub mod Passing
 pub mod Marks
 pub mod Homes
 pub mod Leading

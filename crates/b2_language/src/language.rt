@@ -5,9 +5,13 @@ ghost use Rattle.b2_access.specs.declared.devices.Device.{Device};
 ghost use Rattle.b2_access.specs.Answering.{can_answer};
 ghost use Rattle.b2_access.specs.Found.{IsFound, seen_found};
 ghost use Rattle.b2_access.specs.Lending.{globals_lent, seen_lent};
+ghost use Rattle.b2_access.specs.Lead.{lead_seen};
+ghost use Rattle.b2_access.specs.Passing.{Passes};
+ghost use Rattle.b2_vars.specs.Globals.{unreached};
+ghost use Rattle.b2_language.specs.AtOnce.{IsFoundAtOnce};
 ghost use Rattle.b2_language.specs.Languages.{AreLawful, AskForListed, KeepOpenFiles, Ways};
 
-use b2_access::{Access, Answer, DeviceTable, Found, Lent, Outcome, Planned, Private};
+use b2_access::{Access, Answer, DeviceTable, Found, Lead, Lent, Outcome, Planned, Private};
 use b2_base::NoMemory;
 use std::alloc::Global;
 
@@ -70,6 +74,13 @@ pub trait Language {
         ensures planned { (devices : List Device) → IfOk result (λ o. record { me = me.new; globals = globals_lent lent.new; planned = option_map_or Planned.Ask access.new (Planned.Done o) } ≡ (ways devices).plan found.now.unit.now.row me.old (seen_found found.now (globals_lent lent.old))) }
         ensures same_texts { (lent.new.own ≡ lent.old.own) × (lent.new.home ≡ lent.old.home) }
         ensures same_reference { lent.new.globals.ghost_name ≡ lent.old.globals.ghost_name }
+        ensures part { me.new.part ≡ me.old.part };
+
+    /// Does such a statement in passing, which names no `@` variables: all that it does is done, and where it leads is told. Where the
+    /// language can't, or it is for a fault or an access, nothing has changed.
+    fn pass(me: &mut Private, found: &Found<'_>) -> Lead
+        requires at_once { IsFoundAtOnce at_once found.now me.old }
+        ensures passes { (devices : List Device) → Passes (lead_seen result) found.now me.old me.new ((ways devices).plan found.now.unit.now.row me.old (seen_found found.now (unreached None))) }
         ensures part { me.new.part ≡ me.old.part };
 
     /// What `plan` says of any statement that was found so; where the language has no shorter way it is looked up again.

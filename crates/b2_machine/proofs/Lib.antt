@@ -23,5 +23,6 @@ pub mod Counted
 pub mod Unchanged
 pub mod StepOpenFiles
 pub mod Passing
+pub mod Passed
 pub mod Runs
 pub mod Advances

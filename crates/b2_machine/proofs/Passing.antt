@@ -1,16 +1,13 @@
 -- Statements one after another: what a run of them has come to so far, and how it ends.
-use Rattle.std.proofs.Common.{◌≡◌, ℕ, suc, ◌+◌, ◌<◌, ◌≤◌, true, false, true≢false, refl, sym, ap, subst, ◌∙◌, arith, Option, Some, None, is_some, option_map, unwrap_or}
+use Rattle.std.proofs.Common.{◌≡◌, ℕ, suc, ◌+◌, ◌<◌, ◌≤◌, false, true≢false, refl, sym, ap, subst, ◌∙◌, arith, Option, Some, None, is_some}
 use Rattle.b2_flow.specs.declared.frame.Place.{Place}
 use Rattle.b2_access.specs.Lending.{SeenLent}
 use Rattle.b2_access.specs.declared.accesses.Access.{Access}
-use Rattle.b2_access.specs.declared.lending.At.TheVariants as at
 use Rattle.b2_access.specs.declared.private.Private.{Private}
 use Rattle.b2_language.specs.Languages.{Ways}
 use Rattle.b2_language.specs.Wanted.{wanted_at}
 use Rattle.b2_machine.specs.Running.{AllLead, EndsRun, Leads, RunsOn, begins_next, led, place_in, place_or_none}
 use Rattle.b2_machine.specs.Statements.{Begun, Opens, begins}
-use Rattle.b2_machine.specs.declared.running.Opened.{Opened}
-use Rattle.b2_machine.specs.declared.running.Ran.{Ran}
 use Rattle.b2_machine.specs.declared.statements.Opening.{Opening}
 use Rattle.b2_machine.specs.declared.statements.Opening.TheVariants as opening
 

@@ -108,6 +108,11 @@ Opens ways p me after s a (opening.Ends e) = (wanted_at p me s.home.lines ≡ at
 Opens ways p me after s a (opening.Asks b w) = (wanted_at p me s.home.lines ≡ at.None) × (option_map (asked_beside b w after) a ≡ Some (begins ways p me s))
 Opens ways p me after s a (opening.Wants whose) = (wanted_at p me s.home.lines ≡ whose) × (wants whose ≡ true) × (after ≡ me)
 
+-- it was done in passing, or nothing has changed
+abbrev pub HasPassed : Bool → Ways → Place → Private → Private → SeenLent → Type 0
+HasPassed true ways p me after s = Opens ways p me after s None opening.Leads
+HasPassed false ways p me after s = after ≡ me
+
 -- how it was opened by what became of it as it began, and what it asks for
 abbrev pub opening_of : Progress → Opening
 opening_of (progress.Ended e) = opening.Ends e

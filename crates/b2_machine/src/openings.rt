@@ -1,5 +1,5 @@
 // How the statement at a place is opened over texts alone. In a line of the program it is found by one look-up.
-ghost use Rattle.std.specs.Prelude.{◌≡◌, false, List, Some, None, IfOk};
+ghost use Rattle.std.specs.Prelude.{◌≡◌, false, List, Some, None, IfOk, if◌then◌else◌};
 ghost use Rattle.b2_atom.specs.Tree.{uses_in};
 ghost use Rattle.b2_access.specs.declared.devices.Device.{Device};
 ghost use Rattle.b2_access.specs.Found.{IsFound, statement_found};
@@ -15,7 +15,7 @@ use b2_access::{
 };
 use b2_base::NoMemory;
 use b2_flow::Place;
-use b2_language::{Language, globals_wanted, names_globals};
+use b2_language::{Language, globals_wanted, move_to, names_globals};
 use b2_text::Text;
 use b2_vars::Vars;
 use std::alloc::Global;
@@ -146,6 +146,20 @@ fn open_planned<L: Language>(
     }
 }
 
+/// A statement that was found in a line of the program is done in passing, where the language can; whether it was.
+fn pass_found<L: Language>(me: &mut Private, found: &Found<'_>) -> bool
+    requires found { IsFoundAtOnce L.at_once found.now me.old }
+    ensures passed { (devices : List Device) → spec.HasPassed result (L.ways devices) found.now.place me.old me.new (spec.texts_seen found.now.own.now found.now.home.now) }
+    ensures part { me.new.part ≡ me.old.part }
+{
+    let lead = L::pass(me, found);
+    if !lead.is_done() {
+        return false;
+    }
+    move_to(me, lead.place(found.place.home));
+    true
+}
+
 /// A statement that was found in a line of the program is opened.
 fn open_found<L: Language>(
     alloc: Global,
@@ -171,6 +185,91 @@ fn open_found<L: Language>(
     open_planned::<L>(alloc, me, spare, devices, found, access)
 }
 
+/// A statement that was found in a line of the program is done in passing, where it wants no `@` variables and the language can;
+/// whether it was.
+fn pass_where_it_may<L: Language>(me: &mut Private, found: &Found<'_>) -> bool
+    requires found { IsFound found.now found.now.home.now.lines me.old }
+    requires uses { found.now.unit.now.uses ≡ uses_in (statement_found found.now).tree }
+    ensures passed { (devices : List Device) → spec.HasPassed result (L.ways devices) found.now.place me.old me.new (spec.texts_seen found.now.own.now found.now.home.now) }
+    ensures part { me.new.part ≡ me.old.part }
+{
+    if names_globals(found.unit) || !L::is_at_once(found.unit.row) {
+        return false;
+    }
+    pass_found::<L>(me, found)
+}
+
+/// A statement that was found in a line of the program is done in passing, or opened; whether the turn goes on after it. Where it
+/// doesn't, how it was opened goes to the caller.
+fn pass_or_open<L: Language>(
+    alloc: Global,
+    me: &mut Private,
+    spare: &mut Vars,
+    devices: &DeviceTable,
+    found: &Found<'_>,
+    access: &mut Option<Access>,
+    opening: &mut Opening,
+) -> Result<bool, NoMemory>
+    requires found { IsFound found.now found.now.home.now.lines me.old }
+    requires uses { found.now.unit.now.uses ≡ uses_in (statement_found found.now).tree }
+    requires empty { access.old ≡ None }
+    ensures opened { IfOk result (λ led. spec.Opens (L.ways devices.now) found.now.place me.old me.new (spec.texts_seen found.now.own.now found.now.home.now) access.new (if led then Opening.Leads else opening.new)) }
+    ensures part { me.new.part ≡ me.old.part }
+{
+    if pass_where_it_may::<L>(me, found) {
+        return Ok(true);
+    }
+    let opened = open_found::<L>(alloc, me, spare, devices, found, access)?;
+    match opened {
+        Opening::Leads => Ok(true),
+        opened => {
+            *opening = opened;
+            Ok(false)
+        }
+    }
+}
+
+/// The statement at a place in the program of a home is done in passing, or opened over texts alone; whether the turn goes on after it.
+/// Where it doesn't, how it was opened goes to the caller, and so does what it asks for.
+pub fn open_in_program<L: Language>(
+    alloc: Global,
+    me: &mut Private,
+    own: &Text,
+    home: &Text,
+    spare: &mut Vars,
+    devices: &DeviceTable,
+    place: &Place,
+    n: u16,
+    access: &mut Option<Access>,
+    opening: &mut Opening,
+) -> Result<bool, NoMemory>
+    requires stands { me.old.place ≡ Some place.now }
+    requires line { place.now.line ≡ Some n }
+    requires empty { access.old ≡ None }
+    ensures opened { IfOk result (λ led. spec.Opens (L.ways devices.now) place.now me.old me.new (spec.texts_seen own.now home.now) access.new (if led then Opening.Leads else opening.new)) }
+    ensures part { me.new.part ≡ me.old.part }
+{
+    let Some(line) = home.line(n) else {
+        let end = become_ready_quietly(alloc, me)?;
+        *opening = Opening::Ends(end);
+        return Ok(false);
+    };
+    let line = line.lend();
+    let Some(unit) = statement_on(&line, usize::from(place.unit)) else {
+        let end = become_ready_quietly(alloc, me)?;
+        *opening = Opening::Ends(end);
+        return Ok(false);
+    };
+    let found = Found {
+        own,
+        home,
+        line: &line,
+        unit: &unit,
+        place: *place,
+    };
+    pass_or_open::<L>(alloc, me, spare, devices, &found, access, opening)
+}
+
 /// The statement at a place of a partition is opened over texts alone: it begins where it wants no `@` variables, and what it asks for
 /// goes to the caller.
 pub fn open_over<L: Language>(
@@ -191,21 +290,21 @@ pub fn open_over<L: Language>(
     let Some(n) = place.line else {
         return open_immediate::<L>(alloc, me, own, home, spare, devices, *place, access);
     };
-    let Some(line) = home.line(n) else {
-        let end = become_ready_quietly(alloc, me)?;
-        return Ok(Opening::Ends(end));
-    };
-    let line = line.lend();
-    let Some(unit) = statement_on(&line, usize::from(place.unit)) else {
-        let end = become_ready_quietly(alloc, me)?;
-        return Ok(Opening::Ends(end));
-    };
-    let found = Found {
+    let mut opening = Opening::Leads;
+    let led = open_in_program::<L>(
+        alloc,
+        me,
         own,
         home,
-        line: &line,
-        unit: &unit,
-        place: *place,
-    };
-    open_found::<L>(alloc, me, spare, devices, &found, access)
+        spare,
+        devices,
+        place,
+        n,
+        access,
+        &mut opening,
+    )?;
+    if led {
+        return Ok(Opening::Leads);
+    }
+    Ok(opening)
 }

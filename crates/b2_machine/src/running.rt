@@ -3,7 +3,7 @@ ghost use Rattle.std.specs.Prelude.{◌≡◌, None, IfOk};
 ghost use Rattle.b2_machine.specs.Running as spec;
 ghost use Rattle.b2_machine.specs.Statements.{texts_seen};
 
-use crate::openings::open_over;
+use crate::openings::open_in_program;
 use crate::statements::Opening;
 use b2_access::{Access, DeviceTable, Private};
 use b2_base::{NoMemory, Part};
@@ -87,18 +87,31 @@ pub fn run_on<L: Language>(
     ensures part { me.new.part ≡ me.old.part }
 {
     let mut steps = 0;
+    let mut opening = Opening::Leads;
     for _ in 0..left {
         let Some(place) = place_in(home, me) else {
             return Ok(Ran { steps, last: None });
         };
-        let opening = open_over::<L>(alloc, me, own, text, spare, devices, &place, access)?;
-        match opening {
-            Opening::Leads => steps += 1,
-            opening => {
-                let last = Some(Opened { place, opening });
-                return Ok(Ran { steps, last });
-            }
+        let Some(n) = place.line else {
+            return Ok(Ran { steps, last: None });
+        };
+        let led = open_in_program::<L>(
+            alloc,
+            me,
+            own,
+            text,
+            spare,
+            devices,
+            &place,
+            n,
+            access,
+            &mut opening,
+        )?;
+        if !led {
+            let last = Some(Opened { place, opening });
+            return Ok(Ran { steps, last });
         }
+        steps += 1;
     }
     Ok(Ran { steps, last: None })
 }

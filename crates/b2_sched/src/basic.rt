@@ -2,7 +2,8 @@
 ghost use Rattle.std.specs.Prelude.{◌≡◌};
 
 use crate::choice::{Family, family_of};
-use b2_access::{Access, Answer, DeviceTable, Found, Lent, Outcome, Planned, Private};
+use b2_access::{Access, Answer, DeviceTable, Found, Lead, Lent, Outcome, Planned, Private};
+use b2_atom::rows;
 use b2_base::NoMemory;
 use b2_language::Language;
 use std::alloc::Global;
@@ -88,6 +89,17 @@ impl Language for Basic {
         } else {
             b2_stmt::execute(alloc, me, lent, found, access)
         }
+    }
+
+    fn pass(me: &mut Private, found: &Found<'_>) -> Lead {
+        let row = found.unit.row;
+        if row == rows::ASSIGNMENT {
+            return b2_stmt_var::pass(me, found);
+        }
+        if b2_stmt_var::is_built(row) {
+            return Lead::none();
+        }
+        b2_stmt::pass(me, found)
     }
 
     fn plan_found(

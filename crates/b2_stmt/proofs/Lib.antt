@@ -8,6 +8,8 @@
 -- these in one record. AskedSo: why an access is asked for. Standing: how many calls entered each text, and where it stands in
 -- those of others, as it plans and as it finishes; and that it enters only those of others. Crates above cite its `plans_standing`,
 -- `finishes_standing` and `enters_others`.
+-- Of what is done in passing: Led: where it leads. Tops: the frame on top. Counters: the variable of a loop. Steered: what RETURN and FOR
+-- change. Passed: what is planned, row by row.
 pub mod GoalUnits
 pub mod Framed
 pub mod BranchRows
@@ -30,3 +32,8 @@ pub mod KeptPlaces
 pub mod Waits
 pub mod Reached
 pub mod LeftAlone
+pub mod Led
+pub mod Tops
+pub mod Passed
+pub mod Steered
+pub mod Counters

@@ -12,3 +12,4 @@ pub mod Marked
 pub mod Parts
 pub mod Clearing
 pub mod Plan
+pub mod Passing

@@ -39,7 +39,7 @@ pub fn passed_goal(line: &LentAtoms<'_>, k: usize) -> Goal
 
 /// Where a false IF leads that is the k-th unit.
 #[tactic(auto, using(crate::proofs::GoalUnits::false_unit))]
-fn false_goal(line: &LentAtoms<'_>, k: usize) -> Goal
+pub fn false_goal(line: &LentAtoms<'_>, k: usize) -> Goal
     ensures goal { result ≡ after_false k (tree_units line.now) }
     ensures unit { IsUnit result }
 {

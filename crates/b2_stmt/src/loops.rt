@@ -3,6 +3,7 @@ ghost use Rattle.std.specs.Prelude.{◌≡◌, true, IfOk, Ok};
 ghost use Rattle.b2_atom.specs.declared.rows.TheConstants as row;
 ghost use Rattle.b2_rows.specs.Rows.{is_part, tree_at};
 ghost use Rattle.b2_vars.specs.Names.{is_legal_name};
+ghost use Rattle.b2_flow.specs.declared.frame.Frame.TheVariants.{For};
 ghost use Rattle.b2_expr.specs.Named.{number_there};
 ghost use Rattle.b2_expr.specs.Scope.{surroundings};
 ghost use Rattle.b2_expr.specs.Value.{in_statement};
@@ -44,7 +45,7 @@ fn counter(name: Name) -> Var2
 }
 
 /// The variable that a loop counts.
-fn scalar_of(v: Var2) -> Var
+pub fn scalar_of(v: Var2) -> Var
     ensures { result ≡ spec.scalar_of v }
 {
     Var {
@@ -118,12 +119,25 @@ pub fn loop_at(e: &Env<'_>, unit: &[u8]) -> Result<Loop, Code>
 }
 
 /// Drops an old loop of a variable, and the loops above it.
-fn drop_loop(stack: &mut Stack, v: Var2)
+pub fn drop_loop(stack: &mut Stack, v: Var2)
     ensures { stack.new ≡ spec.without_loop v stack.old }
 {
     match stack.loop_of(v) {
         Ok(_) => stack.end_loop(),
         Err(_) => {}
+    }
+}
+
+/// The frame of a loop whose body stands at a place.
+#[inline(always)]
+pub fn frame_of(l: Loop, body: Place) -> Frame
+    ensures { result ≡ For l.var l.limit l.step body }
+{
+    Frame::For {
+        var: l.var,
+        limit: l.limit,
+        step: l.step,
+        body,
     }
 }
 
@@ -138,17 +152,11 @@ pub fn begin_loop(me: &mut Private, l: Loop, body: Place) -> Result<Outcome, NoM
         Err(fault) => return failing(fault),
     }
     drop_loop(&mut me.stack, l.var);
-    let frame = Frame::For {
-        var: l.var,
-        limit: l.limit,
-        step: l.step,
-        body,
-    };
-    Ok(put_frame(me, frame, Outcome::Next))
+    Ok(put_frame(me, frame_of(l, body), Outcome::Next))
 }
 
 /// Whether a loop is over: its variable is past the limit in the direction of its step.
-fn is_over(x: Dec, limit: Dec, step: Dec) -> bool
+pub fn is_over(x: Dec, limit: Dec, step: Dec) -> bool
     ensures { result ≡ spec.is_over x limit step }
 {
     let order = cmp(x, limit);

@@ -4,7 +4,8 @@
 -- time. Assigned: receivers one after the other. BufferRows, TurnRows, LoneRows and EntryRows: the rows of INIT, of ROTATE, and
 -- of DIM and COM. LengthRows: a length is read as a sum is.
 -- ReadingOrder: READ takes the literals of DATA in their order. HomesKept, KeptPlaces and Waits: what every statement leaves;
--- LeftAlone: all of it in one record.
+-- LeftAlone: all of it in one record. PlainAssignment: an assignment of a number to one scalar, by its bytes; PassedOn: what it
+-- leaves and where it leads, done in passing.
 pub mod NumberRows
 pub mod SideRows
 pub mod Assigned
@@ -22,3 +23,5 @@ pub mod KeptPlaces
 pub mod Waits
 pub mod LeftAlone
 pub mod Reached
+pub mod PlainAssignment
+pub mod PassedOn

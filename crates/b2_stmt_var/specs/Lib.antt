@@ -8,3 +8,4 @@ pub mod Reading
 pub mod ReadingOrder
 pub mod Restoring
 pub mod Plan
+pub mod InPassing

@@ -1,0 +1,11 @@
+-- Where a statement leads that was done in passing, as it stands in words.
+use Rattle.std.specs.Prelude.{ℕ, nat_lt, Bool, Option, Some, None, if◌then◌else◌}
+use Rattle.b2_access.specs.declared.passing.Lead.{Lead}
+
+-- whether it was done
+abbrev pub is_done : Lead → Bool
+is_done l = nat_lt l.line 65536
+
+-- the number of a line and the place of a unit in it, none where it wasn't done
+abbrev pub lead_seen : Lead → Option (ℕ × ℕ)
+lead_seen l = if is_done l then Some (l.line, l.unit) else None

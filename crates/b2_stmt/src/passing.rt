@@ -1,0 +1,462 @@
+// Statements of control that are done in passing.
+ghost use Rattle.std.specs.Prelude.{◌≡◌, ◌<◌, ◌≤◌, ◌+◌, ◌∷◌, true, false, IfOk, None, Some, is_some, get_or, length, if◌then◌else◌};
+ghost use Rattle.std.specs.List.{slice_get};
+ghost use Rattle.std.specs.Option.{option_map_or};
+ghost use Rattle.b2_atom.specs.Grammar.{starts};
+ghost use Rattle.b2_atom.specs.declared.forms.Leaf.TheVariants as leaf;
+ghost use Rattle.b2_atom.specs.declared.forms.Start.TheVariants as start;
+ghost use Rattle.b2_atom.specs.declared.rows.TheConstants as row;
+ghost use Rattle.b2_atom.specs.declared.words.Origin.TheVariants.{Atoms};
+ghost use Rattle.b2_rows.specs.Following.{after_false, past_colon, tree_units};
+ghost use Rattle.b2_rows.specs.Leaves.{is_leaf};
+ghost use Rattle.b2_rows.specs.Rows.{is_part, tree_at};
+ghost use Rattle.b2_rows.specs.Values.{line_of};
+ghost use Rattle.b2_text.specs.Program.{line_at as line_there};
+ghost use Rattle.b2_vars.specs.Globals.{unreached};
+ghost use Rattle.b2_vars.specs.Names.{is_legal_name};
+ghost use Rattle.b2_flow.specs.Stacks.{entered_last, most_frames, without_top_loop};
+ghost use Rattle.b2_flow.specs.Frames.{is_loop_of};
+ghost use Rattle.b2_expr.specs.Named.{number_there};
+ghost use Rattle.b2_expr.specs.Scope.{surroundings};
+ghost use Rattle.b2_expr.specs.Workspace.{surroundings_of as around};
+ghost use Rattle.b2_receiver.specs.Assigning.{assigned_number};
+ghost use Rattle.b2_access.specs.Found.{IsRead, here_found};
+ghost use Rattle.b2_access.specs.Going.{to_found, to_goal, to_line};
+ghost use Rattle.b2_access.specs.Lead.{lead_seen};
+ghost use Rattle.b2_access.specs.Passing.{Passes, place_following};
+ghost use Rattle.b2_access.specs.Places.{IsUnit, line_start};
+ghost use Rattle.b2_access.specs.declared.planned.Outcome.TheVariants as outcome;
+ghost use Rattle.b2_stmt.specs.Asked.{asks_loop, body_place, carried};
+ghost use Rattle.b2_stmt.specs.Branches.{goto_goal, if_goal, passed_function};
+ghost use Rattle.b2_stmt.specs.Calls.{called_where, goes_back, line_called as called_line};
+ghost use Rattle.b2_stmt.specs.Loops as loops;
+ghost use Rattle.b2_stmt.specs.Parts.{declared_by};
+ghost use Rattle.b2_stmt.specs.Passing as spec;
+
+use crate::branches::{false_goal, passed_goal};
+use crate::calls::line_called;
+use crate::loops::{Loop, counter_at, drop_loop, frame_of, is_over, loop_at};
+use b2_access::{Found, Lead, Private, lead_on, lead_to_goal, setting_of};
+use b2_atom::words::GLOBAL_PART;
+use b2_atom::{Cursor, rows};
+use b2_base::lexical::rest_after;
+use b2_base::{Code, Part};
+use b2_dec::{Dec, Mode, NumberOrCode, sum_or_code};
+use b2_expr::{Env, condition};
+use b2_flow::{Frame, Place, Stack, Var2};
+use b2_rows::{Goal, is_at, is_line_at, line_at};
+use b2_text::Text;
+use b2_vars::{Setting, Vars};
+
+/// To the first unit of a line, where it is there.
+#[inline(always)]
+fn lead_to_line(found: &Found<'_>, n: u16) -> Lead
+    ensures { spec.LeadsBy (lead_seen result) found.now (to_line found.now.home.now.lines found.now.place n) }
+{
+    if found.home.line(n).is_none() {
+        return Lead::none();
+    }
+    Lead::to(n, 0)
+}
+
+/// To a goal on the line of a statement, where it is there.
+#[tactic(auto, using(crate::proofs::Led::unit_led, crate::proofs::Led::next_line_led))]
+fn lead_there(found: &Found<'_>, goal: Goal) -> Lead
+    requires unit { IsUnit goal }
+    ensures { spec.LeadsBy (lead_seen result) found.now (to_goal found.now.home.now.lines found.now.place goal) }
+{
+    match goal {
+        Goal::Line(n) => lead_to_line(found, n),
+        Goal::Unit(_) => lead_to_goal(found, goal),
+        Goal::NextLine => lead_to_goal(found, goal),
+    }
+}
+
+/// To a place in the program at a home.
+#[inline(always)]
+#[tactic(auto, using(crate::proofs::Led::place_in_line))]
+fn lead_into(home: Part, place: Place) -> Lead
+    ensures { spec.IsPlaceLed (lead_seen result) home place }
+{
+    if place.home != home {
+        return Lead::none();
+    }
+    match place.line {
+        Some(n) => Lead::to(n, place.unit),
+        None => Lead::none(),
+    }
+}
+
+/// GOTO.
+#[tactic(auto, using(crate::proofs::BranchRows::goto_line, crate::proofs::BranchRows::goto_is))]
+fn pass_goto(found: &Found<'_>) -> Lead
+    requires part { is_part row.GOTO found.now.unit.now.bytes.now ≡ true }
+    ensures { spec.LeadsBy (lead_seen result) found.now (to_found found.now.home.now.lines found.now.place (goto_goal (tree_at row.GOTO found.now.unit.now.bytes.now))) }
+{
+    lead_to_line(found, line_at(rest_after(found.unit.bytes, 1)))
+}
+
+/// To the line that is named at a text, or to the next unit.
+#[inline(always)]
+fn lead_to_named(found: &Found<'_>, text: &[u8]) -> Lead
+    requires line { starts Atoms start.Line text.now ≡ true → is_leaf leaf.LineNumber text.now ≡ true }
+    requires few { found.now.place.unit < 255 }
+    ensures { spec.LeadsBy (lead_seen result) found.now (to_goal found.now.home.now.lines found.now.place (if starts Atoms start.Line text.now then Goal.Line (line_of (get_or text.now 1 0) (get_or text.now 2 0)) else Goal.Unit (found.now.place.unit + 1))) }
+{
+    if is_line_at(text) {
+        return lead_to_line(found, line_at(text));
+    }
+    lead_there(found, Goal::Unit(usize::from(found.place.unit) + 1))
+}
+
+/// Where a false IF leads.
+fn lead_past(found: &Found<'_>) -> Lead
+    ensures { spec.LeadsBy (lead_seen result) found.now (to_goal found.now.home.now.lines found.now.place (after_false found.now.place.unit (tree_units found.now.line.now))) }
+{
+    lead_there(found, false_goal(found.line, usize::from(found.place.unit)))
+}
+
+/// What the expressions of a statement look at, where no `@` variables are lent.
+#[inline(always)]
+fn surroundings_here<'a>(own: &'a Vars, home: &'a Text, setting: Setting) -> Env<'a>
+    ensures { surroundings result ≡ around (record { own = own.now; globals = unreached None; setting = setting; home = home.now }) }
+{
+    Env {
+        own,
+        globals: None,
+        home,
+        mode: setting.mode,
+        err: setting.last,
+        part: setting.part,
+        term: setting.term,
+    }
+}
+
+/// IF.
+#[tactic(auto, using(crate::proofs::BranchRows::if_condition, crate::proofs::BranchRows::if_named, crate::proofs::BranchRows::if_is))]
+fn pass_if(me: &mut Private, found: &Found<'_>) -> Lead
+    requires part { is_part row.IF found.now.unit.now.bytes.now ≡ true }
+    requires few { found.now.place.unit < 255 }
+    ensures leads { spec.LeadsBy (lead_seen result) found.now (to_found found.now.home.now.lines found.now.place (if_goal (spec.around_passing found.now me.old) found.now.place.unit (tree_units found.now.line.now) (tree_at row.IF found.now.unit.now.bytes.now))) }
+    ensures me { me.new ≡ me.old }
+{
+    let e = surroundings_here(&me.vars, found.home, setting_of(me));
+    let mut c = Cursor::over(rest_after(found.unit.bytes, 1));
+    match condition(&mut c, &e) {
+        Ok(true) => lead_to_named(found, rest_after(c.rest(), 1)),
+        Ok(false) => lead_past(found),
+        Err(_) => Lead::none(),
+    }
+}
+
+/// ELSE that is reached in order.
+fn pass_else(found: &Found<'_>) -> Lead
+    ensures { spec.LeadsBy (lead_seen result) found.now (to_goal found.now.home.now.lines found.now.place (past_colon found.now.place.unit (tree_units found.now.line.now))) }
+{
+    lead_there(
+        found,
+        passed_goal(found.line, usize::from(found.place.unit)),
+    )
+}
+
+/// Where a statement leads that does nothing.
+#[inline(always)]
+#[tactic(auto, using(crate::proofs::Led::next_led))]
+fn lead_next(found: &Found<'_>) -> Lead
+    requires few { found.now.place.unit < 255 }
+    ensures { spec.LeadsBy (lead_seen result) found.now outcome.Next }
+{
+    lead_on(found)
+}
+
+/// DEFFN that is reached in order and declares no name.
+#[tactic(auto, using(crate::proofs::PartRows::function_is, crate::proofs::BranchRows::passed_is))]
+fn pass_function(found: &Found<'_>) -> Lead
+    requires part { is_part row.DEFFN found.now.unit.now.bytes.now ≡ true }
+    requires few { found.now.place.unit < 255 }
+    ensures leads { spec.LeadsBy (lead_seen result) found.now (passed_function (tree_at row.DEFFN found.now.unit.now.bytes.now)) }
+    ensures declares { is_some (lead_seen result) ≡ true → declared_by (tree_at row.DEFFN found.now.unit.now.bytes.now) ≡ None }
+{
+    if is_at(GLOBAL_PART, rest_after(found.unit.bytes, 1)) {
+        return Lead::none();
+    }
+    lead_next(found)
+}
+
+/// The frame on top.
+#[inline(always)]
+#[tactic(auto, using(crate::proofs::Tops::top_is, crate::proofs::Tops::top_of_none))]
+fn top(stack: &Stack) -> Option<Frame>
+    ensures { result ≡ slice_get stack.now 0 }
+{
+    let height = stack.len();
+    if height == 0 {
+        return None;
+    }
+    stack.frame(height - 1)
+}
+
+/// GOSUB.
+fn pass_gosub(me: &mut Private, found: &Found<'_>) -> Lead
+    requires part { is_part row.GOSUB found.now.unit.now.bytes.now ≡ true }
+    requires few { found.now.place.unit < 255 }
+    ensures passes { spec.Steers (lead_seen result) found.now me.old me.new (called_where (line_there (called_line (tree_at row.GOSUB found.now.unit.now.bytes.now)) found.now.home.now.lines) (line_start found.now.place (called_line (tree_at row.GOSUB found.now.unit.now.bytes.now))) (place_following found.now) me.old) }
+    ensures undisturbed { me.new ≡ record me.old { vars = me.new.vars; stack = me.new.stack } }
+{
+    let on = lead_on(found);
+    let to = lead_to_line(found, line_called(found.unit.bytes));
+    if !on.is_done() {
+        return Lead::none();
+    }
+    if !to.is_done() {
+        return Lead::none();
+    }
+    let frame = Frame::Call {
+        back: Some(on.place(found.place.home)),
+        entered: None,
+    };
+    match me.stack.push(frame) {
+        Ok(()) => to,
+        Err(_) => Lead::none(),
+    }
+}
+
+/// Where the call on top leads back to.
+fn lead_back(stack: &Stack, home: Part) -> Lead
+    ensures { spec.LeadsBack (lead_seen result) home (slice_get stack.now 0) }
+{
+    match top(stack) {
+        Some(
+            Frame::Call {
+                back: Some(back),
+                entered: None,
+            },
+        ) => lead_into(home, back),
+        _ => Lead::none(),
+    }
+}
+
+/// RETURN from a call that stands on top and entered no text.
+fn pass_return(me: &mut Private, found: &Found<'_>) -> Lead
+    ensures passes { spec.Steers (lead_seen result) found.now me.old me.new (goes_back me.old) }
+    ensures entered { is_some (lead_seen result) ≡ true → entered_last me.old.stack ≡ None }
+    ensures undisturbed { me.new ≡ record me.old { vars = me.new.vars; stack = me.new.stack } }
+{
+    let to = lead_back(&me.stack, found.place.home);
+    if !to.is_done() {
+        return Lead::none();
+    }
+    match me.stack.pop_call() {
+        Ok(_) => to,
+        Err(_) => Lead::none(),
+    }
+}
+
+/// The digit of the variable of a loop counted from 1, 0 where it has none.
+#[inline(always)]
+#[tactic(auto, using(crate::proofs::Counters::digit_low, crate::proofs::Counters::few_digits))]
+fn digit_counted(v: Var2) -> u8
+    requires named { is_legal_name (loops.scalar_of v) ≡ true }
+    ensures value { result ≡ spec.digit_counted v.digit }
+    ensures few { result ≤ 10 }
+{
+    match v.digit {
+        Some(digit) => digit - 47,
+        None => 0,
+    }
+}
+
+/// Gives the variable of a loop a value, where there is room for it.
+#[inline(always)]
+#[tactic(auto, using(crate::proofs::Counters::lettered, crate::proofs::Counters::counter_set))]
+fn set_counter(vars: &mut Vars, v: Var2, x: Dec) -> bool
+    requires named { is_legal_name (loops.scalar_of v) ≡ true }
+    ensures { spec.MadeOrNot (assigned_number (loops.loop_element v) x vars.old) vars.old vars.new result }
+{
+    vars.set_scalar(v.letter, digit_counted(v), x)
+}
+
+/// The value of the variable of a loop, and its step.
+#[inline(always)]
+#[tactic(auto, using(crate::proofs::Counters::lettered, crate::proofs::Counters::counted_is))]
+fn next_number(vars: &Vars, mode: Mode, v: Var2, step: Dec) -> NumberOrCode
+    requires named { is_legal_name (loops.scalar_of v) ≡ true }
+    ensures { result ≡ loops.next_value mode (number_there (record { vars = vars.now; element = loops.loop_element v })) step }
+{
+    let x = vars.scalar(v.letter, digit_counted(v));
+    sum_or_code(x, step, mode)
+}
+
+/// Where NEXT leads: on where the loop is over, and else to its body.
+#[inline(always)]
+#[tactic(auto, using(crate::proofs::Led::body_led))]
+fn lead_round(found: &Found<'_>, over: bool, body: Place) -> Lead
+    requires few { found.now.place.unit < 255 }
+    ensures { spec.LeadsBy (lead_seen result) found.now (if over then outcome.Next else outcome.Jump body) }
+{
+    if over {
+        lead_next(found)
+    } else {
+        lead_into(found.place.home, body)
+    }
+}
+
+/// Drops the loop on top where it is over.
+#[inline(always)]
+fn end_loop_if(stack: &mut Stack, over: bool)
+    ensures { stack.new ≡ (if over then without_top_loop stack.old else stack.old) }
+{
+    if over {
+        stack.end_loop();
+    }
+}
+
+/// Gives the variable of the loop on top its next value, and tests it.
+fn pass_round(
+    me: &mut Private,
+    found: &Found<'_>,
+    v: Var2,
+    limit: Dec,
+    step: Dec,
+    body: Place,
+) -> Lead
+    requires few { found.now.place.unit < 255 }
+    requires named { is_legal_name (loops.scalar_of v) ≡ true }
+    ensures passes { spec.Steers (lead_seen result) found.now me.old me.new (loops.goes_round (Some (limit, step, body)) v me.old) }
+    ensures undisturbed { me.new ≡ record me.old { vars = me.new.vars; stack = me.new.stack } }
+{
+    let counted = next_number(&me.vars, me.mode, v, step);
+    if counted.is_code() {
+        return Lead::none();
+    }
+    let x = counted.get();
+    let over = is_over(x, limit, step);
+    let to = lead_round(found, over, body);
+    if !to.is_done() {
+        return Lead::none();
+    }
+    if !set_counter(&mut me.vars, v, x) {
+        return Lead::none();
+    }
+    end_loop_if(&mut me.stack, over);
+    to
+}
+
+/// Whether the loop of a variable stands on top.
+#[inline(always)]
+fn is_on_top(stack: &Stack, v: Var2) -> bool
+    ensures { result ≡ option_map_or (is_loop_of v) (slice_get stack.now 0) false }
+{
+    match top(stack) {
+        Some(Frame::For { var, .. }) => var == v,
+        _ => false,
+    }
+}
+
+/// NEXT of the loop on top.
+fn pass_next(me: &mut Private, found: &Found<'_>) -> Lead
+    requires read { IsRead found.now }
+    requires program { is_some found.now.place.line ≡ true }
+    requires next { found.now.unit.now.row ≡ row.NEXT }
+    ensures passes { Passes (lead_seen result) found.now me.old me.new (spec.planned_passing found.now me.old) }
+    ensures undisturbed { me.new ≡ record me.old { vars = me.new.vars; stack = me.new.stack } }
+{
+    let v = counter_at(found.unit.bytes);
+    if !is_on_top(&me.stack, v) {
+        return Lead::none();
+    }
+    match me.stack.loop_of(v) {
+        Ok((limit, step, body)) => pass_round(me, found, v, limit, step, body),
+        Err(_) => Lead::none(),
+    }
+}
+
+/// What FOR writes.
+fn loop_written(me: &mut Private, found: &Found<'_>) -> Result<Loop, Code>
+    requires part { is_part row.FOR found.now.unit.now.bytes.now ≡ true }
+    ensures written { result ≡ loops.loop_in (spec.around_passing found.now me.old) (tree_at row.FOR found.now.unit.now.bytes.now) }
+    ensures me { me.new ≡ me.old }
+    ensures named { IfOk result (λ l. is_legal_name (loops.scalar_of l.var) ≡ true) }
+{
+    let e = surroundings_here(&me.vars, found.home, setting_of(me));
+    loop_at(&e, found.unit.bytes)
+}
+
+/// Puts a frame on top, where there is room.
+#[inline(always)]
+fn put_with_room(stack: &mut Stack, frame: Frame)
+    requires { length stack.old < most_frames }
+    ensures { stack.new ≡ frame ∷ stack.old }
+{
+    match stack.push(frame) {
+        Ok(()) => {}
+        Err(_) => unreachable!(),
+    }
+}
+
+/// Begins a loop, where there is room for its variable.
+fn begin_with_room(me: &mut Private, l: Loop, body: Place) -> bool
+    requires room { length me.old.stack < most_frames }
+    requires named { is_legal_name (loops.scalar_of l.var) ≡ true }
+    ensures passes { spec.BeginsOrNot l body me.old me.new result }
+    ensures undisturbed { me.new ≡ record me.old { vars = me.new.vars; stack = me.new.stack } }
+{
+    if !set_counter(&mut me.vars, l.var, l.from) {
+        return false;
+    }
+    drop_loop(&mut me.stack, l.var);
+    put_with_room(&mut me.stack, frame_of(l, body));
+    true
+}
+
+/// FOR.
+fn pass_for(me: &mut Private, found: &Found<'_>) -> Lead
+    requires part { is_part row.FOR found.now.unit.now.bytes.now ≡ true }
+    requires few { found.now.place.unit < 255 }
+    ensures passes { spec.Steers (lead_seen result) found.now me.old me.new (carried (asks_loop (loops.loop_in (spec.around_passing found.now me.old) (tree_at row.FOR found.now.unit.now.bytes.now)) (body_place (here_found found.now) found.now.home.now.lines)) found.now.place me.old found.now.own.now.lines found.now.home.now.lines) }
+    ensures undisturbed { me.new ≡ record me.old { vars = me.new.vars; stack = me.new.stack } }
+{
+    let on = lead_on(found);
+    if !on.is_done() {
+        return Lead::none();
+    }
+    if !me.stack.has_room() {
+        return Lead::none();
+    }
+    match loop_written(me, found) {
+        Ok(l) => {
+            if begin_with_room(me, l, on.place(found.place.home)) {
+                on
+            } else {
+                Lead::none()
+            }
+        }
+        Err(_) => Lead::none(),
+    }
+}
+
+/// Does a statement of control in passing, where it stands in a line of the program. Where it can't, as with any code, nothing has changed.
+#[tactic(auto, using(crate::proofs::Passed::goto_passes, crate::proofs::Passed::if_passes, crate::proofs::Passed::gosub_passes, crate::proofs::Passed::return_passes, crate::proofs::Passed::for_passes, crate::proofs::Passed::else_passes, crate::proofs::Passed::error_passes, crate::proofs::Passed::remark_passes, crate::proofs::Passed::image_passes, crate::proofs::Passed::data_passes, crate::proofs::Passed::function_passes))]
+pub fn pass(me: &mut Private, found: &Found<'_>) -> Lead
+    requires read { IsRead found.now }
+    requires program { is_some found.now.place.line ≡ true }
+    ensures passes { Passes (lead_seen result) found.now me.old me.new (spec.planned_passing found.now me.old) }
+    ensures undisturbed { me.new ≡ record me.old { vars = me.new.vars; stack = me.new.stack } }
+    ensures part { me.new.part ≡ me.old.part }
+{
+    match found.unit.row {
+        rows::NEXT => pass_next(me, found),
+        rows::IF => pass_if(me, found),
+        rows::GOTO => pass_goto(found),
+        rows::GOSUB => pass_gosub(me, found),
+        rows::RETURN => pass_return(me, found),
+        rows::FOR => pass_for(me, found),
+        rows::ELSE => pass_else(found),
+        rows::REMARK => lead_next(found),
+        rows::IMAGE_LINE => lead_next(found),
+        rows::DATA => lead_next(found),
+        rows::ERROR => lead_there(found, Goal::NextLine),
+        rows::DEFFN => pass_function(found),
+        _ => Lead::none(),
+    }
+}

@@ -1,0 +1,16 @@
+-- An assignment of a number that is done in passing, among a partition's own variables.
+use Rattle.std.specs.Prelude.{None}
+use Rattle.b2_text.specs.Program.{TextState}
+use Rattle.b2_vars.specs.Globals.{unreached}
+use Rattle.b2_vars.specs.Tables.{VarsState}
+use Rattle.b2_expr.specs.Workspace.{WorkState, WorkLeft, work_in}
+use Rattle.b2_access.specs.Partition.{setting_of}
+use Rattle.b2_access.specs.declared.private.Private.{Private}
+
+-- what a statement of a partition works in where no `@` variables are lent
+abbrev pub own_work : Private → TextState → WorkState
+own_work me home = work_in (setting_of me) home me.vars (unreached None)
+
+-- it ends without a code, and leaves these own variables
+abbrev pub assigned : WorkState → VarsState → WorkLeft
+assigned w vars = record { work = record w { own = vars }; code = None }
