@@ -6,7 +6,7 @@ ghost use Rattle.b2_boot.specs.Rows.{is_between};
 ghost use Rattle.b2_boot.specs.Logs as spec;
 
 use crate::boot::{Boot, BootPartition, BootTerminal};
-use crate::log_lines::{Asked, LineRead, asked_by_line, first_line};
+use crate::log_lines::{Asked, LineRead, Typed, asked_by_line, first_line};
 use b2_base::{NoMemory, Part, Term};
 use b2_term::KeyItem;
 use std::alloc::Global;
@@ -66,7 +66,7 @@ fn is_partition(n: u32) -> bool
 }
 
 /// 4: each number is in range.
-fn is_in_range(asked: &Asked) -> bool
+fn is_in_range(asked: &Asked<'_>) -> bool
     ensures { result ≡ spec.is_in_range asked.now }
 {
     match asked {
@@ -98,7 +98,7 @@ fn has_partition(terminal: u32, number: u32, partitions: &[BootPartition]) -> bo
 }
 
 /// 5: the terminal stands in the boot, and the front is a partition of it.
-fn is_in_boot(boot: &Boot, asked: &Asked) -> bool
+fn is_in_boot(boot: &Boot, asked: &Asked<'_>) -> bool
     ensures { result ≡ spec.is_in_boot boot.now asked.now }
 {
     match asked {
@@ -119,7 +119,7 @@ fn steps_of_round(boot: &Boot) -> u64
 }
 
 /// The steps that are asked for, up to the most that are counted.
-fn steps_asked(boot: &Boot, asked: &Asked) -> u64
+fn steps_asked(boot: &Boot, asked: &Asked<'_>) -> u64
     ensures { result ≡ min (spec.steps_asked boot.now asked.now) (2 ^ 64 - 1) }
 {
     match asked {
@@ -130,7 +130,7 @@ fn steps_asked(boot: &Boot, asked: &Asked) -> u64
 }
 
 /// The first check that what is asked fails, from 4, None where it passes them all.
-fn check_of_asked(boot: &Boot, granted: u64, asked: &Asked) -> Option<u8>
+fn check_of_asked(boot: &Boot, granted: u64, asked: &Asked<'_>) -> Option<u8>
     requires { granted ≤ 5000000 }
     ensures { result ≡ first_failed (spec.checks_of_asked boot.now granted asked.now) }
 {
@@ -147,43 +147,50 @@ fn check_of_asked(boot: &Boot, granted: u64, asked: &Asked) -> Option<u8>
 }
 
 /// What a line says, where `granted` steps were granted before it.
-fn read_log_line(
-    alloc: Global,
-    boot: &Boot,
-    granted: u64,
-    line: &[u8],
-) -> Result<LineRead, NoMemory>
+fn read_log_line<'a>(boot: &Boot, granted: u64, line: &'a [u8]) -> LineRead<'a>
     requires { granted ≤ 5000000 }
-    ensures value { IfOk result (λ read. read ≡ spec.log_line boot.now granted line.now) }
-    ensures passes { IfOk result (λ read. spec.Passes boot.now granted read) }
+    ensures value { result ≡ spec.log_line boot.now granted line.now }
+    ensures passes { spec.Passes boot.now granted result }
 {
-    match asked_by_line(alloc, line)? {
-        LineRead::Nothing => Ok(LineRead::Nothing),
-        LineRead::Fails(check) => Ok(LineRead::Fails(check)),
+    match asked_by_line(line) {
+        LineRead::Nothing => LineRead::Nothing,
+        LineRead::Fails(check) => LineRead::Fails(check),
         LineRead::Asks(asked) => match check_of_asked(boot, granted, &asked) {
-            Some(check) => Ok(LineRead::Fails(check)),
-            None => Ok(LineRead::Asks(asked)),
+            Some(check) => LineRead::Fails(check),
+            None => LineRead::Asks(asked),
         },
     }
 }
 
-/// Adds an event for each key.
-fn push_keys(events: &mut Vec<Event>, terminal: Term, keys: &[u8]) -> Result<(), NoMemory>
-    ensures { OnOk result (events.new.items ≡ events.old.items ++ spec.key_events terminal keys.now) }
+/// Adds an event for each key of a text.
+fn push_text(events: &mut Vec<Event>, terminal: Term, text: &[u8]) -> Result<(), NoMemory>
+    ensures { OnOk result (events.new.items ≡ events.old.items ++ spec.key_events terminal text.now) }
 {
-    for key in keys {
+    for key in text {
         events.push(Event::Key(terminal, KeyItem::Byte(*key)))?;
     }
     Ok(())
 }
 
+/// Adds an event for each key.
+fn push_keys(events: &mut Vec<Event>, terminal: Term, keys: &Typed<'_>) -> Result<(), NoMemory>
+    ensures { OnOk result (events.new.items ≡ events.old.items ++ spec.key_events terminal keys.now) }
+{
+    let (text, end) = keys.parts();
+    push_text(events, terminal, text)?;
+    if let Some(key) = end {
+        events.push(Event::Key(terminal, KeyItem::Byte(key)))?;
+    }
+    Ok(())
+}
+
 /// Adds the events of what is asked.
-fn push_events(events: &mut Vec<Event>, asked: &Asked) -> Result<(), NoMemory>
+fn push_events(events: &mut Vec<Event>, asked: &Asked<'_>) -> Result<(), NoMemory>
     requires { spec.is_in_range asked.now ≡ true }
     ensures { OnOk result (events.new.items ≡ events.old.items ++ spec.events_of asked.now) }
 {
     match asked {
-        Asked::Keys(t, keys) => push_keys(events, Term::known(*t as u8), keys.bytes())?,
+        Asked::Keys(t, keys) => push_keys(events, Term::known(*t as u8), keys)?,
         Asked::Special(t, n) => {
             events.push(Event::Key(Term::known(*t as u8), KeyItem::Special(*n as u8)))?;
         }
@@ -216,7 +223,7 @@ pub fn log_of(alloc: Global, bytes: &[u8], boot: &Boot) -> Result<Vec<Event>, Lo
         let here = number;
         number += 1;
         left = rest;
-        match read_log_line(alloc, boot, granted, line)? {
+        match read_log_line(boot, granted, line) {
             LineRead::Nothing => continue,
             LineRead::Fails(check) => return Err(LogErr::Line(here, check)),
             LineRead::Asks(asked) => {

@@ -1,17 +1,49 @@
 // A line of a log: its words, and what they ask before any number is looked at.
-ghost use Rattle.std.specs.Prelude.{◌≡◌, ◌<◌, ◌∷◌, IfOk, IfSome, length};
+ghost use Rattle.std.specs.Prelude.{◌≡◌, ◌<◌, ◌∷◌, ◌++◌, IfSome, length, option_to_list};
 ghost use Rattle.std.specs.Option.{option_copied};
 ghost use Rattle.b2_boot.specs.LogLines as spec;
 ghost use Rattle.b2_boot.specs.declared.log_lines.Asked.TheVariants as asked;
 
+use b2_base::cut;
 use b2_base::lexical::{all_printable, capped_value, digits_width, hex_value, is_hex_digit};
-use b2_base::{ByteList, NoMemory, cut};
-use std::alloc::Global;
+use std::marker::Model;
+
+/// What a line types: a text where it lies in the log, and the key after it, if there is one. Contracts see it as the list of
+/// the keys.
+#[derive(Drop)]
+pub struct Typed<'a> {
+    text: &'a [u8],
+    end: Option<u8>,
+}
+
+impl<'a> Model for Typed<'a> {
+    ghost use Rattle.std.specs.Prelude.{ℕ, List, ◌++◌, option_to_list};
+
+    ghost Value = { List ℕ };
+
+    ghost view = { λ t. t.text.now ++ option_to_list t.end };
+}
+
+impl<'a> Typed<'a> {
+    /// A text and the key after it.
+    fn new(text: &'a [u8], end: Option<u8>) -> Typed<'a>
+        ensures { result ≡ text.now ++ option_to_list end }
+    {
+        Typed { text, end }
+    }
+
+    /// The text and the key after it.
+    pub fn parts(&self) -> (&'a [u8], Option<u8>)
+        ensures { self.now ≡ result.0.now ++ option_to_list result.1 }
+    {
+        (self.text, self.end)
+    }
+}
 
 /// What a line asks. A million stands for each number above it: it is out of each range.
 #[derive(Drop)]
-pub enum Asked {
-    Keys(u32, ByteList),
+pub enum Asked<'a> {
+    Keys(u32, Typed<'a>),
     Special(u32, u32),
     Front(u32, u32),
     Halt(u32),
@@ -22,9 +54,9 @@ pub enum Asked {
 
 /// What a line says: nothing, what it asks, or the first check that it fails.
 #[derive(Drop)]
-pub enum LineRead {
+pub enum LineRead<'a> {
     Nothing,
-    Asks(Asked),
+    Asks(Asked<'a>),
     Fails(u8),
 }
 
@@ -110,42 +142,39 @@ fn byte_in(word: Option<&[u8]>) -> Option<u8>
     }
 }
 
-/// A terminal and a text, with what is typed after it.
-fn text_asked(alloc: Global, args: Option<&[u8]>, end: &[u8]) -> Result<Option<Asked>, NoMemory>
-    ensures { IfOk result (λ found. found ≡ spec.text_asked end.now (option_copied args.entry)) }
+/// A terminal and a text, with the key that is typed after it.
+fn text_asked(args: Option<&[u8]>, end: Option<u8>) -> Option<Asked<'_>>
+    ensures { result ≡ spec.text_asked (option_to_list end) (option_copied args.entry) }
 {
     let Some(args) = args else {
-        return Ok(None);
+        return None;
     };
     let (word, text) = cut(args, b' ');
     let Some(terminal) = plain_number(word) else {
-        return Ok(None);
+        return None;
     };
-    let mut keys = Vec::from_slice(alloc, text.unwrap_or(b""))?;
-    keys.extend_from_slice(end)?;
-    Ok(Some(Asked::Keys(terminal, ByteList::new(keys))))
+    Some(Asked::Keys(terminal, Typed::new(text.unwrap_or(b""), end)))
 }
 
 /// A terminal and a byte.
-fn key_asked(alloc: Global, args: Option<&[u8]>) -> Result<Option<Asked>, NoMemory>
-    ensures { IfOk result (λ found. found ≡ spec.key_asked (option_copied args.entry)) }
+fn key_asked(args: Option<&[u8]>) -> Option<Asked<'_>>
+    ensures { result ≡ spec.key_asked (option_copied args.entry) }
 {
     let Some(args) = args else {
-        return Ok(None);
+        return None;
     };
     let (word, digits) = cut(args, b' ');
     let Some(terminal) = plain_number(word) else {
-        return Ok(None);
+        return None;
     };
     let Some(byte) = byte_in(digits) else {
-        return Ok(None);
+        return None;
     };
-    let keys = Vec::from_slice(alloc, &[byte])?;
-    Ok(Some(Asked::Keys(terminal, ByteList::new(keys))))
+    Some(Asked::Keys(terminal, Typed::new(b"", Some(byte))))
 }
 
 /// A terminal and the number of a special function key.
-fn special_asked(args: Option<&[u8]>) -> Option<Asked>
+fn special_asked(args: Option<&[u8]>) -> Option<Asked<'_>>
     ensures { result ≡ spec.asked_by_pair asked.Special (option_copied args.entry) }
 {
     match pair_in(args) {
@@ -155,7 +184,7 @@ fn special_asked(args: Option<&[u8]>) -> Option<Asked>
 }
 
 /// A terminal and the partition that is put in front.
-fn front_asked(args: Option<&[u8]>) -> Option<Asked>
+fn front_asked(args: Option<&[u8]>) -> Option<Asked<'_>>
     ensures { result ≡ spec.asked_by_pair asked.Front (option_copied args.entry) }
 {
     match pair_in(args) {
@@ -165,7 +194,7 @@ fn front_asked(args: Option<&[u8]>) -> Option<Asked>
 }
 
 /// A partition and the quota of its turn.
-fn turn_asked(args: Option<&[u8]>) -> Option<Asked>
+fn turn_asked(args: Option<&[u8]>) -> Option<Asked<'_>>
     ensures { result ≡ spec.asked_by_pair asked.Turn (option_copied args.entry) }
 {
     match pair_in(args) {
@@ -175,7 +204,7 @@ fn turn_asked(args: Option<&[u8]>) -> Option<Asked>
 }
 
 /// The partition that is halted.
-fn halt_asked(args: Option<&[u8]>) -> Option<Asked>
+fn halt_asked(args: Option<&[u8]>) -> Option<Asked<'_>>
     ensures { result ≡ spec.asked_by_number asked.Halt (option_copied args.entry) }
 {
     match only_number(args) {
@@ -185,7 +214,7 @@ fn halt_asked(args: Option<&[u8]>) -> Option<Asked>
 }
 
 /// The partition that is reset.
-fn reset_asked(args: Option<&[u8]>) -> Option<Asked>
+fn reset_asked(args: Option<&[u8]>) -> Option<Asked<'_>>
     ensures { result ≡ spec.asked_by_number asked.Reset (option_copied args.entry) }
 {
     match only_number(args) {
@@ -195,7 +224,7 @@ fn reset_asked(args: Option<&[u8]>) -> Option<Asked>
 }
 
 /// How many rounds are asked for.
-fn rounds_asked(args: Option<&[u8]>) -> Option<Asked>
+fn rounds_asked(args: Option<&[u8]>) -> Option<Asked<'_>>
     ensures { result ≡ spec.asked_by_number asked.Rounds (option_copied args.entry) }
 {
     match only_number(args) {
@@ -205,8 +234,8 @@ fn rounds_asked(args: Option<&[u8]>) -> Option<Asked>
 }
 
 /// What is asked, unless it is misspelled.
-fn unless_misspelled(found: Option<Asked>) -> LineRead
-    ensures { result ≡ spec.unless_misspelled found }
+fn unless_misspelled(found: Option<Asked<'_>>) -> LineRead<'_>
+    ensures { result ≡ spec.unless_misspelled found.entry }
 {
     match found {
         Some(asked) => LineRead::Asks(asked),
@@ -215,7 +244,7 @@ fn unless_misspelled(found: Option<Asked>) -> LineRead
 }
 
 /// What a word and its arguments ask of partitions or of the terminals' fronts.
-fn asked_by_numbers(word: &[u8], args: Option<&[u8]>) -> LineRead
+fn asked_by_numbers<'a>(word: &[u8], args: Option<&'a [u8]>) -> LineRead<'a>
     ensures { result ≡ spec.asked_by_numbers word.now (option_copied args.entry) }
 {
     if word == b"sf".as_slice() {
@@ -240,33 +269,33 @@ fn asked_by_numbers(word: &[u8], args: Option<&[u8]>) -> LineRead
 }
 
 /// What a word and its arguments ask.
-fn asked_by_words(alloc: Global, word: &[u8], args: Option<&[u8]>) -> Result<LineRead, NoMemory>
-    ensures { IfOk result (λ read. read ≡ spec.asked_by_words word.now (option_copied args.entry)) }
+fn asked_by_words<'a>(word: &[u8], args: Option<&'a [u8]>) -> LineRead<'a>
+    ensures { result ≡ spec.asked_by_words word.now (option_copied args.entry) }
 {
     if word == b"type".as_slice() {
-        return Ok(unless_misspelled(text_asked(alloc, args, b"\r")?));
+        return unless_misspelled(text_asked(args, Some(b'\r')));
     }
     if word == b"keys".as_slice() {
-        return Ok(unless_misspelled(text_asked(alloc, args, b"")?));
+        return unless_misspelled(text_asked(args, None));
     }
     if word == b"key".as_slice() {
-        return Ok(unless_misspelled(key_asked(alloc, args)?));
+        return unless_misspelled(key_asked(args));
     }
-    Ok(asked_by_numbers(word, args))
+    asked_by_numbers(word, args)
 }
 
 /// What a line asks: checks 1 to 3.
-pub fn asked_by_line(alloc: Global, line: &[u8]) -> Result<LineRead, NoMemory>
-    ensures { IfOk result (λ read. read ≡ spec.asked_by_line line.now) }
+pub fn asked_by_line(line: &[u8]) -> LineRead<'_>
+    ensures { result ≡ spec.asked_by_line line.now }
 {
     if !all_printable(line) {
-        return Ok(LineRead::Fails(1));
+        return LineRead::Fails(1);
     }
     match line {
-        [] | [b'#', ..] => Ok(LineRead::Nothing),
+        [] | [b'#', ..] => LineRead::Nothing,
         _ => {
             let (word, args) = cut(line, b' ');
-            asked_by_words(alloc, word, args)
+            asked_by_words(word, args)
         }
     }
 }
