@@ -1,5 +1,5 @@
 -- An assignment that was done in passing: it has ended as it plans, and leads to the place after it.
-use Rattle.std.proofs.Common.{◌≡◌, ◌+◌, ℕ, true, false, Option, Some, None, option_map, if◌then◌else◌, refl, sym, ap, subst, ◌∙◌}
+use Rattle.std.proofs.Common.{◌≡◌, ◌+◌, ℕ, true, Option, Some, None, option_map, if◌then◌else◌, sym, ap, subst, ◌∙◌}
 use Rattle.b2_atom.specs.declared.rows.TheConstants as row
 use Rattle.b2_flow.specs.declared.frame.Place.{Place}
 use Rattle.b2_text.specs.Program.{Lines, number_after}

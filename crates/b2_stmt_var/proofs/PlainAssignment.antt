@@ -15,7 +15,7 @@ use Rattle.b2_vars.specs.Tables.{VarsState, shape_at}
 use Rattle.b2_vars.specs.Variables.{number_at, with_number}
 use Rattle.b2_atom.specs.Words.{Text}
 use Rattle.b2_atom.specs.Tree.{Trees}
-use Rattle.b2_atom.specs.Leaves.{name_width, is_alpha_name}
+use Rattle.b2_atom.specs.Leaves.{is_alpha_name}
 use Rattle.b2_atom.specs.Grammar.{is_among, starts}
 use Rattle.b2_atom.specs.declared.words.TheConstants as word
 use Rattle.b2_atom.specs.declared.words.Origin.TheVariants.{Atoms}
