@@ -1,6 +1,6 @@
 -- The number that the nibbles of a word spell, found in four steps.
-use Rattle.std.proofs.Common.{◌≡◌, ℕ, ◌+◌, ◌*◌, ◌/◌, ◌%◌, ◌^◌, ◌<◌, ◌≤◌, bit_and, sym, ap, ap₂, ◌∙◌, arith, lit<, lit≤, div-one, mod-eq_of_lt}
-use Rattle.std.proofs.lemmas.Nat.{and_mask, div-mul-add, mod-mul-add}
+use Rattle.std.proofs.Common.{◌≡◌, ℕ, ◌+◌, ◌-◌, ◌*◌, ◌/◌, ◌%◌, ◌^◌, ◌<◌, ◌≤◌, bit_and, sym, ap, ap₂, ◌∙◌, arith, lit<, lit≤, mod-eq_of_lt}
+use Rattle.std.proofs.lemmas.Nat.{div-mul-add}
 use Rattle.b2_dec.specs.Lanes.{rebased}
 use Rattle.b2_dec.proofs.Slots.{slots, mask, rebased-slots, slots-same, slots-sum, slots-pairs, slots-two, slots-whole, slots-shifted}
 
@@ -46,13 +46,6 @@ pairs-bytes w = slots-pairs 256 256 two 4 w
 pairs-fit : (u : ℕ) → two (u / 256) * 256 + two u < 65536
 pairs-fit u = omega (arith, two-most (u / 256), two-most u)
 
-low_bytes : (w : ℕ) → bit_and (slots 256 256 two 8 w) 71777214294589695 ≡ slots 65536 65536 two 4 w
-unfolding mask
-low_bytes w =
-    ap (λ u. bit_and u 71777214294589695) (pairs-bytes w ∙ sym (div-one _))
-    ∙ slots-shifted 0 16 8 65536 (λ u. two (u / 256) * 256 + two u) (lit≤ tt) pairs-fit 4 w
-    ∙ slots-same 65536 65536 (λ u. (two (u / 256) * 256 + two u) / 1 % 256) two (λ u. ap (λ t. t % 256) (div-one _) ∙ mod-mul-add (two (u / 256)) 256 (two u) (omega (arith, two-most u))) 4 w
-
 high_bytes : (w : ℕ) → bit_and (slots 256 256 two 8 w / 256) 71777214294589695 ≡ slots 65536 65536 (λ u. two (u / 256)) 4 w
 unfolding mask
 high_bytes w =
@@ -61,12 +54,13 @@ high_bytes w =
     ∙ slots-same 65536 65536 (λ u. (two (u / 256) * 256 + two u) / 256 % 256) (λ u. two (u / 256))
     (λ u. ap (λ t. t % 256) (div-mul-add (two (u / 256)) 256 (two u) (omega (arith, two-most u))) ∙ mod-eq_of_lt (omega (arith, two-most (u / 256)))) 4 w
 
-pub read-fours : (w : ℕ) → bit_and (slots 256 256 two 8 w) 71777214294589695 + 100 * bit_and (slots 256 256 two 8 w / 256) 71777214294589695 ≡ slots 65536 65536 four 4 w
+read-fours : (w : ℕ) → slots 65536 65536 four 4 w + 156 * bit_and (slots 256 256 two 8 w / 256) 71777214294589695 ≡ slots 256 256 two 8 w
 read-fours w =
-    ap₂ (λ s t. s + 100 * t) (low_bytes w) (high_bytes w) ∙ slots-sum 65536 65536 100 two (λ u. two (u / 256)) 4 w
-    ∙ slots-same 65536 65536 (λ u. two u + 100 * two (u / 256)) four (λ u. turned (two u) (two (u / 256))) 4 w
+    ap (λ t. slots 65536 65536 four 4 w + 156 * t) (high_bytes w) ∙ slots-sum 65536 65536 156 four (λ u. two (u / 256)) 4 w
+    ∙ slots-same 65536 65536 (λ u. four u + 156 * two (u / 256)) (λ u. two (u / 256) * 256 + two u) (λ u. turned (two u) (two (u / 256))) 4 w
+    ∙ sym (pairs-bytes w)
   where
-    turned : (a b : ℕ) → a + 100 * b ≡ b * 100 + a
+    turned : (a b : ℕ) → b * 100 + a + 156 * b ≡ b * 256 + a
     turned a b = omega arith
 
 -- ---- four bytes as one part
@@ -77,13 +71,6 @@ fours-pairs w = slots-pairs 65536 65536 four 2 w
 fours-fit : (u : ℕ) → four (u / 65536) * 65536 + four u < 4294967296
 fours-fit u = omega (arith, four-most (u / 65536), four-most u)
 
-low_pairs : (w : ℕ) → bit_and (slots 65536 65536 four 4 w) 281470681808895 ≡ slots 4294967296 4294967296 four 2 w
-unfolding mask
-low_pairs w =
-    ap (λ u. bit_and u 281470681808895) (fours-pairs w ∙ sym (div-one _))
-    ∙ slots-shifted 0 32 16 4294967296 (λ u. four (u / 65536) * 65536 + four u) (lit≤ tt) fours-fit 2 w
-    ∙ slots-same 4294967296 4294967296 (λ u. (four (u / 65536) * 65536 + four u) / 1 % 65536) four (λ u. ap (λ t. t % 65536) (div-one _) ∙ mod-mul-add (four (u / 65536)) 65536 (four u) (omega (arith, four-most u))) 2 w
-
 high_pairs : (w : ℕ) → bit_and (slots 65536 65536 four 4 w / 65536) 281470681808895 ≡ slots 4294967296 4294967296 (λ u. four (u / 65536)) 2 w
 unfolding mask
 high_pairs w =
@@ -92,12 +79,13 @@ high_pairs w =
     ∙ slots-same 4294967296 4294967296 (λ u. (four (u / 65536) * 65536 + four u) / 65536 % 65536) (λ u. four (u / 65536))
     (λ u. ap (λ t. t % 65536) (div-mul-add (four (u / 65536)) 65536 (four u) (omega (arith, four-most u))) ∙ mod-eq_of_lt (omega (arith, four-most (u / 65536)))) 2 w
 
-pub read-eights : (w : ℕ) → bit_and (slots 65536 65536 four 4 w) 281470681808895 + 10000 * bit_and (slots 65536 65536 four 4 w / 65536) 281470681808895 ≡ slots 4294967296 4294967296 eight 2 w
+read-eights : (w : ℕ) → slots 4294967296 4294967296 eight 2 w + 55536 * bit_and (slots 65536 65536 four 4 w / 65536) 281470681808895 ≡ slots 65536 65536 four 4 w
 read-eights w =
-    ap₂ (λ s t. s + 10000 * t) (low_pairs w) (high_pairs w) ∙ slots-sum 4294967296 4294967296 10000 four (λ u. four (u / 65536)) 2 w
-    ∙ slots-same 4294967296 4294967296 (λ u. four u + 10000 * four (u / 65536)) eight (λ u. turned (four u) (four (u / 65536))) 2 w
+    ap (λ t. slots 4294967296 4294967296 eight 2 w + 55536 * t) (high_pairs w) ∙ slots-sum 4294967296 4294967296 55536 eight (λ u. four (u / 65536)) 2 w
+    ∙ slots-same 4294967296 4294967296 (λ u. eight u + 55536 * four (u / 65536)) (λ u. four (u / 65536) * 65536 + four u) (λ u. turned (four u) (four (u / 65536))) 2 w
+    ∙ sym (fours-pairs w)
   where
-    turned : (a b : ℕ) → a + 10000 * b ≡ b * 10000 + a
+    turned : (a b : ℕ) → b * 10000 + a + 55536 * b ≡ b * 65536 + a
     turned a b = omega arith
 
 -- ---- the whole word
@@ -110,14 +98,24 @@ digits w =
     rebased-slots 16 10 16 w ∙ slots-pairs 10 16 (λ u. u % 16) 8 w ∙ slots-pairs 100 256 two 4 w ∙ slots-pairs 10000 65536 four 2 w
     ∙ slots-two 100000000 4294967296 eight w
 
-pub read-all : (w : ℕ) → bit_and (slots 4294967296 4294967296 eight 2 w) 4294967295 + 100000000 * (slots 4294967296 4294967296 eight 2 w / 4294967296) ≡ rebased 16 10 16 w
+read-all : (w : ℕ) → rebased 16 10 16 w + 4194967296 * (slots 4294967296 4294967296 eight 2 w / 4294967296) ≡ slots 4294967296 4294967296 eight 2 w
 read-all w =
     let h : ℕ = eight (w / 4294967296) in
     let l : ℕ = eight w in
     let few : l < 4294967296 = omega (arith, eight-most w) in
-    let low : bit_and (slots 4294967296 4294967296 eight 2 w) 4294967295 ≡ l = and_mask _ 32 ∙ ap (λ t. t % 4294967296) (halves w) ∙ mod-mul-add h 4294967296 l few in
     let high : slots 4294967296 4294967296 eight 2 w / 4294967296 ≡ h = ap (λ t. t / 4294967296) (halves w) ∙ div-mul-add h 4294967296 l few in
-    ap₂ (λ s t. s + 100000000 * t) low high ∙ turned l h ∙ sym (digits w)
+    ap₂ (λ s t. s + 4194967296 * t) (digits w) high ∙ turned l h ∙ sym (halves w)
   where
-    turned : (a b : ℕ) → a + 100000000 * b ≡ b * 100000000 + a
+    turned : (a b : ℕ) → b * 100000000 + a + 4194967296 * b ≡ b * 4294967296 + a
     turned a b = omega arith
+
+-- ---- as the code has them
+
+pub fours-left : (w : ℕ) → slots 256 256 two 8 w - 156 * bit_and (slots 256 256 two 8 w / 256) 71777214294589695 ≡ slots 65536 65536 four 4 w
+fours-left w = omega (arith, read-fours w)
+
+pub eights-left : (w : ℕ) → slots 65536 65536 four 4 w - 55536 * bit_and (slots 65536 65536 four 4 w / 65536) 281470681808895 ≡ slots 4294967296 4294967296 eight 2 w
+eights-left w = omega (arith, read-eights w)
+
+pub all-left : (w : ℕ) → slots 4294967296 4294967296 eight 2 w - 4194967296 * (slots 4294967296 4294967296 eight 2 w / 4294967296) ≡ rebased 16 10 16 w
+all-left w = omega (arith, read-all w)

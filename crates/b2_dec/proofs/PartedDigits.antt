@@ -6,14 +6,14 @@ use Rattle.b2_dec.proofs.Slots.{slots, mask, rebased-slots, slots-same, slots-su
 
 -- ---- four parts of four digits
 
-pub fours : (n : ℕ) → n < 10 ^ 16
-    → (n / 100000000 / 10000 * 281474976710656 + n / 100000000 % 10000 * 4294967296 + n % 100000000 / 10000 * 65536) + n % 100000000 % 10000 ≡ rebased 10000 65536 4 n
+pub fours : (h l : ℕ) → h < 10 ^ 8 → l < 10 ^ 8
+    → h * 4294967296 + l + 55536 * (h / 10000 * 4294967296 + l / 10000) ≡ rebased 10000 65536 4 (h * 10 ^ 8 + l)
 unfolding rebased
-fours n h =
-    let top : n / 10000 / 10000 / 10000 % 10000 ≡ n / 100000000 / 10000 = omega arith in
-    let next : n / 10000 / 10000 % 10000 ≡ n / 100000000 % 10000 = omega arith in
-    let third : n / 10000 % 10000 ≡ n % 100000000 / 10000 = omega arith in
-    let last : n % 10000 ≡ n % 100000000 % 10000 = omega arith in
+fours h l few less =
+    let top : (h * 10 ^ 8 + l) / 10000 / 10000 / 10000 % 10000 ≡ h / 10000 = omega arith in
+    let next : (h * 10 ^ 8 + l) / 10000 / 10000 % 10000 ≡ h % 10000 = omega arith in
+    let third : (h * 10 ^ 8 + l) / 10000 % 10000 ≡ l / 10000 = omega arith in
+    let last : (h * 10 ^ 8 + l) % 10000 ≡ l % 10000 = omega arith in
     rw (top, next, third, last) (omega arith)
 
 -- ---- eight parts of two digits

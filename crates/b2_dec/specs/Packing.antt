@@ -29,6 +29,10 @@ abbrev pub pairs_value : ℕ → List ℕ → ℕ
 pairs_value n [] = n
 pairs_value n (b ∷ bs) = pairs_value (n * 100 + decimal_of b) bs
 
+-- the three nibbles of the signs and of the exponent's size
+abbrev pub head : Number → ℕ
+head x = signs x * 256 + decimal_byte (exponent_size x)
+
 -- all sixteen digits as one number: that of the signs, and the others
 abbrev pub all_digits : Number → ℕ
 all_digits x = signs x * 1000000000000000 + packed_digits x

@@ -127,6 +127,7 @@ fn after_carry(neg: bool, coef: u64, place: u32) -> NumberOrCode
 }
 
 /// The whole number that `m / 10 ^ dropped` becomes.
+#[inline(always)]
 fn whole_by(mode: Mode, m: u64, dropped: u32) -> u64
     requires some { 1 ≤ dropped }
     requires few { dropped ≤ 3 }
@@ -156,6 +157,7 @@ fn wide_whole_by(mode: Mode, m: u128, dropped: u32) -> u128
 
 /// What every fraction becomes whose whole part is `m` in units of `10 ^ at`, counted from 10^-222, and has this many digits
 /// more than thirteen.
+#[inline(always)]
 fn round_by(neg: bool, m: u64, dropped: u32, at: u32, mode: Mode) -> NumberOrCode
     requires some { 1 ≤ dropped }
     requires few { dropped ≤ 3 }
@@ -195,6 +197,19 @@ pub fn round_short(neg: bool, m: u64, at: u32, mode: Mode) -> NumberOrCode
     if m >= COEFFICIENT_LIMIT {
         return round_part(neg, m, at, mode);
     }
+    if m >= 1_000_000_000_000 {
+        return in_range(neg, m, at);
+    }
+    filled(neg, m, at)
+}
+
+/// The same for fewer than thirteen digits.
+fn filled(neg: bool, m: u64, at: u32) -> NumberOrCode
+    requires fits { m < 1000000000000 }
+    requires low { 25 ≤ at }
+    requires near { at < 1000 }
+    ensures { (mode : Mode) (n d : ℕ) → 0 < d → m * (10 ^ at * d) ≡ n * 10 ^ 222 → result ≡ rnd mode neg n d }
+{
     if m == 0 {
         return NumberOrCode::number(Dec::zero());
     }

@@ -62,6 +62,7 @@ fn sum(high: Dec, low: Dec, mode: Mode) -> NumberOrCode
 }
 
 /// The sum of two numbers that are at most one place apart, in units of the lower place.
+#[inline(always)]
 fn near_sum(high: Dec, low: Dec, apart: u32, mode: Mode) -> NumberOrCode
     requires apart { high.place ≡ low.place + apart }
     requires near { apart ≤ 1 }
@@ -80,6 +81,7 @@ fn near_sum(high: Dec, low: Dec, apart: u32, mode: Mode) -> NumberOrCode
 }
 
 /// Digits in units of the same place or of the next lower one.
+#[inline(always)]
 fn lowered(coef: u64, places: u32) -> u64
     requires digits { coef < 10000000000000 }
     requires few { places ≤ 1 }
@@ -90,6 +92,7 @@ fn lowered(coef: u64, places: u32) -> u64
 }
 
 /// The sum of two numbers that are further apart: what the second one has in two more places than the first settles it.
+#[inline(always)]
 fn far_sum(high: Dec, low: Dec, apart: u32, mode: Mode) -> NumberOrCode
     requires some { 1000000000000 ≤ high.coef }
     requires other { 1000000000000 ≤ low.coef }
@@ -113,6 +116,7 @@ fn far_sum(high: Dec, low: Dec, apart: u32, mode: Mode) -> NumberOrCode
 }
 
 /// The whole units of a higher place that digits have.
+#[inline(always)]
 fn units_above(coef: u64, places: u32) -> u64
     requires { coef < 10000000000000 }
     ensures value { result ≡ coef / 10 ^ places }

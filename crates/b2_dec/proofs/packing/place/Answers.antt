@@ -1,8 +1,8 @@
 use Rattle.b2_dec.proofs.PackedWords.{place-low, place-high}
 use Rattle.b2_dec.proofs.packing.place.Goals as goal
 
-pub returns-then-digits-ge8-clause-value : goal.returns-then-digits-ge8-clause-value
-returns-then-digits-ge8-clause-value c x h e = place-low x c.args.digits h e c.if-digits-ge8.true
+pub returns-then-head-ge8-clause-value : goal.returns-then-head-ge8-clause-value
+returns-then-head-ge8-clause-value c x h e same = place-low x c.args.head c.args.size h e same c.if-head-ge8.true
 
-pub returns-else-digits-ge8-clause-value : goal.returns-else-digits-ge8-clause-value
-returns-else-digits-ge8-clause-value c x h e = place-high x c.args.digits h e c.if-digits-ge8.false
+pub returns-else-head-ge8-clause-value : goal.returns-else-head-ge8-clause-value
+returns-else-head-ge8-clause-value c x h e same = place-high x c.args.head c.args.size h e same c.if-head-ge8.false
