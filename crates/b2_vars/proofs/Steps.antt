@@ -13,6 +13,7 @@ use Rattle.b2_vars.specs.Variables.{VariableState, overwritten, bytes_from, with
 use Rattle.b2_vars.specs.Tables.{Entries, VarsState, costs, count_of, table_of, variable_at, shape_at, IsVariable, IsSound}
 use Rattle.b2_vars.specs.Calls.{with_variable, with_change, with_bytes_of}
 use Rattle.b2_vars.specs.Block.{BlockState, state_of, value_bytes, entry_bytes, packed_numbers, spelled, entries_in, read_shape, read_common, number_of, place_of, place_from, StandsAt, IsStored, AllStored, IsLaid}
+use Rattle.b2_vars.proofs.Heads.{overhead-some}
 use Rattle.b2_vars.proofs.Overwriting.{over-after, over-before}
 use Rattle.b2_vars.proofs.PackedNumbers.{length-packed, length-numbers, number-bytes, number-at, numbers-set, all-set}
 use Rattle.b2_vars.proofs.ReadEntries.{shape-here, common-here, after-head, length-values}
@@ -112,6 +113,10 @@ module _ (block : List ℕ) (used : ℕ) (places : List ℕ) (laid : IsLaid bloc
 
     pub cost-room : place - 1 + cost v (shape_at v (table_of b.entries)) ≤ used
     cost-room = omega (arith, starts-at, entry-room v (variable_at v (table_of b.entries)) found-among.front found-among.rest block used places laid-around)
+
+    -- two bytes can say it
+    pub place-small : place ≤ 4294967295
+    place-small = omega (arith, cost-room, used-room, overhead-some v, laid.short)
 
     pub head-room : place - 1 + overhead v ≤ length block
     head-room = omega (arith, cost-room, used-room)

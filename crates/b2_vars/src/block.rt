@@ -89,6 +89,7 @@ impl Block {
     }
 
     /// The place of a name's entry counted from 1, and 0 where it has none.
+    #[inline(always)]
     pub fn place(&self, v: Var) -> usize
         requires { is_legal_name v ≡ true }
         ensures place { result ≡ place_of v self.now.entries }
@@ -121,6 +122,7 @@ impl Block {
     }
 
     /// The place of a name under which a variable stands.
+    #[inline(always)]
     pub fn known_place(&self, v: Var) -> usize
         requires { IsSome (map.get (table_of self.now.entries) v) }
         ensures at { StandsAt v result self.now.entries }
@@ -248,7 +250,7 @@ impl Block {
         let shape = shape_at(v, &self.bytes, place - 1);
         let size = cost(v, shape);
         turn(&mut self.bytes, place - 1, size, self.used);
-        lower(&mut self.places, place, size);
+        lower(&mut self.places, place as u32, size as u32);
         set_place(&mut self.places, number_of(v), self.used - size + 1);
         let start = self.used - alpha_bytes(shape) + from;
         let end = start + n;
@@ -292,7 +294,7 @@ impl Block {
         let new_end = at + cost(v, shape);
         write_head(&mut self.bytes, at, v, shape, common);
         close_up(&mut self.bytes, old_end, self.used, new_end);
-        lower(&mut self.places, place, gap);
+        lower(&mut self.places, place as u32, gap as u32);
         self.used -= gap;
     }
 

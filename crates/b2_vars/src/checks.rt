@@ -20,6 +20,7 @@ use b2_base::codes::{
 };
 
 /// The shape of a name, that of a new scalar where nothing stands under it.
+#[inline(always)]
 pub fn shape_at(block: &Block, v: Var) -> Shape
     requires { is_legal_name v ≡ true }
     ensures { result ≡ shape_at v (table_of block.now.entries) }
@@ -33,6 +34,7 @@ pub fn shape_at(block: &Block, v: Var) -> Shape
 }
 
 /// P59 exactly where nothing stands under a name.
+#[inline(always)]
 pub fn require_variable(block: &Block, v: Var) -> Result<(), Code>
     requires { is_legal_name v ≡ true }
     ensures { Answers (missing_code v (table_of block.now.entries)) result }
@@ -44,6 +46,7 @@ pub fn require_variable(block: &Block, v: Var) -> Result<(), Code>
 }
 
 /// P59 exactly where a name is that of an array that wasn't made.
+#[inline(always)]
 fn require_array(block: &Block, v: Var) -> Result<(), Code>
     requires { is_legal_name v ≡ true }
     ensures { Answers (no_array v (table_of block.now.entries)) result }
@@ -55,6 +58,7 @@ fn require_array(block: &Block, v: Var) -> Result<(), Code>
 }
 
 /// P57 exactly where a shape has no value at these subscripts.
+#[inline(always)]
 fn require_cell(block: &Block, v: Var, r: u16, c: u16) -> Result<usize, Code>
     requires { is_legal_name v ≡ true }
     ensures place { IfOk result (λ cell. cell ≡ cell_at (shape_at v (table_of block.now.entries)) r c) }
@@ -69,6 +73,7 @@ fn require_cell(block: &Block, v: Var, r: u16, c: u16) -> Result<usize, Code>
 }
 
 /// The place of a value along the rows of its variable, P59 or P57 exactly where it has none.
+#[inline(always)]
 pub fn cell_of(block: &Block, v: Var, r: u16, c: u16) -> Result<usize, Code>
     requires { is_legal_name v ≡ true }
     ensures place { IfOk result (λ cell. cell ≡ cell_at (shape_at v (table_of block.now.entries)) r c) }
@@ -93,6 +98,7 @@ pub fn require_value(block: &Block, v: Var, r: u16, c: u16) -> Result<(), Code>
 }
 
 /// The place of a value along the rows of the variable at a place, P57 exactly where it has none.
+#[inline(always)]
 pub fn cell_in(block: &Block, v: Var, place: usize, r: u16, c: u16) -> Result<usize, Code>
     requires at { StandsAt v place block.now.entries }
     requires there { map.contains_key (table_of block.now.entries) v ≡ true }
@@ -108,6 +114,7 @@ pub fn cell_in(block: &Block, v: Var, place: usize, r: u16, c: u16) -> Result<us
 }
 
 /// P34 exactly where the values of a name have no such part.
+#[inline(always)]
 pub fn require_part(block: &Block, v: Var, from: usize, n: usize) -> Result<(), Code>
     requires { is_legal_name v ≡ true }
     ensures { Answers (no_part v from n (table_of block.now.entries)) result }

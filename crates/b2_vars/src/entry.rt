@@ -16,6 +16,7 @@ use b2_dec::{Dec, unpacked};
 pub const NAMES: usize = 1144;
 
 /// The number of a name.
+#[inline(always)]
 pub fn number_of(v: Var) -> usize
     requires { is_legal_name v ≡ true }
     ensures number { result ≡ number_of v }
@@ -103,14 +104,23 @@ fn read_common(bytes: &[u8]) -> bool
 }
 
 /// The shape in an entry.
+#[inline(always)]
 fn read_shape(v: Var, bytes: &[u8]) -> Shape
     requires { overhead v ≤ length bytes.now }
     ensures { result ≡ read_shape v bytes.now }
 {
+    let len = if v.alpha { bytes[4] } else { 0 };
+    if !v.array {
+        return Shape {
+            rows: 0,
+            cols: 0,
+            len,
+        };
+    }
     Shape {
         rows: read_dimension(v, bytes, 4),
         cols: read_dimension(v, bytes, 6),
-        len: if v.alpha { bytes[4] } else { 0 },
+        len,
     }
 }
 
@@ -150,6 +160,7 @@ pub fn common_at(bytes: &[u8], at: usize) -> bool
 }
 
 /// The shape in the entry at a place.
+#[inline(always)]
 pub fn shape_at(v: Var, bytes: &[u8], at: usize) -> Shape
     requires { at + overhead v ≤ length bytes.now }
     ensures { result ≡ read_shape v (drop at bytes.now) }

@@ -384,6 +384,7 @@ impl Vars {
     }
 
     /// Where a part stands among the bytes of its variable.
+    #[inline(always)]
     fn part_place(&self, v: Var, r: u16, c: u16, from: usize) -> usize
         requires { IsPart v r c from 0 self.now.table }
         ensures place { result ≡ part_place v r c from self.now.table }
@@ -454,6 +455,7 @@ impl Vars {
     }
 
     /// Makes a scalar that isn't there.
+    #[inline(always)]
     fn make_scalar(&mut self, v: Var) -> Result<(), Code>
         requires named { is_legal_name v ≡ true }
         requires array { no_array v self.old.table ≡ None }

@@ -169,9 +169,14 @@ fn turn_in(all: &mut [u8], at: usize, n: usize, end: usize)
 }
 
 /// Lowers each place past another.
-#[tactic(auto, using(std::proofs::lemmas::List::Edits::map_over_more))]
-pub fn lower(places: &mut Vec<u32>, past: usize, by: usize)
+pub fn lower(places: &mut Vec<u32>, past: u32, by: u32)
     ensures { places.new.items ≡ map (lowered past by) places.old.items }
+{
+    lower_in(places, past, by);
+}
+
+fn lower_in(places: &mut [u32], past: u32, by: u32)
+    ensures { places.new ≡ map (lowered past by) places.old }
 {
     for i in 0..places.len() {
         places[i] = lowered(past, by, places[i]);
@@ -179,12 +184,11 @@ pub fn lower(places: &mut Vec<u32>, past: usize, by: usize)
 }
 
 /// A place past another, lower by as many bytes.
-fn lowered(past: usize, by: usize, place: u32) -> u32
+fn lowered(past: u32, by: u32, place: u32) -> u32
     ensures { result ≡ lowered past by place }
 {
-    let at = place as usize;
-    if at > past {
-        at.saturating_sub(by) as u32
+    if place > past {
+        place.saturating_sub(by)
     } else {
         place
     }

@@ -3,7 +3,7 @@ use Rattle.std.proofs.lemmas.List.{length-map}
 use Rattle.b2_vars.specs.Shapes.{cost}
 use Rattle.b2_vars.specs.Block.{lowered}
 use Rattle.b2_vars.proofs.Heads.{overhead-some}
-use Rattle.b2_vars.proofs.Steps.{head-room, cost-room, used-room, shape-read, stored-there}
+use Rattle.b2_vars.proofs.Steps.{place-small, head-room, cost-room, used-room, shape-read, stored-there}
 use Rattle.b2_vars.proofs.Lending.{IsTurned, alpha-is, bytes-low, length-turned, part-is, lent-invariant, lent-view}
 use Rattle.b2_vars.proofs.block.Block.part_mut.Goals as goal
 
@@ -15,6 +15,12 @@ turn-requires-clause-span c = omega (arith, c.cost-size.ensures.cost, ap (cost c
 
 pub turn-requires-clause-room : goal.turn-requires-clause-room
 turn-requires-clause-room c = used-room c.self.inside.bytes.items c.self.inside.used c.self.inside.places.items c.self.invariant c.args.self.now c.self.view_is
+
+pub overflow_cast-place : goal.overflow_cast-place
+overflow_cast-place c = omega (arith, place-small c.self.inside.bytes.items c.self.inside.used c.self.inside.places.items c.self.invariant c.args.self.now c.self.view_is c.args.v c.args.place c.requires.at)
+
+pub overflow_cast-size : goal.overflow_cast-size
+overflow_cast-size c = omega (arith, c.cost-size.ensures.cost, ap (cost c.args.v) (shape-read c.self.inside.bytes.items c.self.inside.used c.self.inside.places.items c.self.invariant c.args.self.now c.self.view_is c.args.v c.args.place c.requires.at c.shape_at-shape.result c.deref.result.now c.deref.ensures.value c.shape_at-shape.ensures), cost-room c.self.inside.bytes.items c.self.inside.used c.self.inside.places.items c.self.invariant c.args.self.now c.self.view_is c.args.v c.args.place c.requires.at, used-room c.self.inside.bytes.items c.self.inside.used c.self.inside.places.items c.self.invariant c.args.self.now c.self.view_is, c.self.invariant.short)
 
 pub number_of-requires : goal.number_of-requires
 number_of-requires c = let h = stored-there c.self.inside.bytes.items c.self.inside.used c.self.inside.places.items c.self.invariant c.args.self.now c.self.view_is c.args.v c.args.place c.requires.at in h.variable.named

@@ -7,7 +7,7 @@ use Rattle.b2_vars.specs.Tables.{table_of, shape_at, variable_at}
 use Rattle.b2_vars.proofs.Heads.{overhead-some}
 use Rattle.b2_vars.proofs.Overwriting.{length-overwritten}
 use Rattle.b2_vars.proofs.Laying.{shows-laid, shows-state}
-use Rattle.b2_vars.proofs.Steps.{head-room, cost-room, used-room, shape-read, common-is}
+use Rattle.b2_vars.proofs.Steps.{place-small, head-room, cost-room, used-room, shape-read, common-is}
 use Rattle.b2_vars.proofs.Changes.{reshape-step}
 use Rattle.b2_vars.proofs.block.Block.reshape.Goals as goal
 
@@ -25,6 +25,12 @@ overflow_add-old_end c = omega (arith, c.cost.ensures.cost, ap (cost c.args.v) (
 
 pub overflow_add-new_end : goal.overflow_add-new_end
 overflow_add-new_end c = omega (arith, c.cost-2.ensures.cost, c.requires.room, cost-room c.self.inside.bytes.items c.self.inside.used c.self.inside.places.items c.self.invariant c.args.self.now c.self.view_is c.args.v c.args.place c.requires.at, used-room c.self.inside.bytes.items c.self.inside.used c.self.inside.places.items c.self.invariant c.args.self.now c.self.view_is, c.self.inside.bytes.small, c.self.inside.bytes.ok.0, c.self.inside.bytes.ok.1)
+
+pub overflow_cast-place : goal.overflow_cast-place
+overflow_cast-place c = omega (arith, place-small c.self.inside.bytes.items c.self.inside.used c.self.inside.places.items c.self.invariant c.args.self.now c.self.view_is c.args.v c.args.place c.requires.at)
+
+pub overflow_cast-gap : goal.overflow_cast-gap
+overflow_cast-gap c = omega (arith, c.size_of-old_size.ensures.size, ap (size_of c.args.v) (shape-read c.self.inside.bytes.items c.self.inside.used c.self.inside.places.items c.self.invariant c.args.self.now c.self.view_is c.args.v c.args.place c.requires.at c.shape_at-old.result c.deref.result.now c.deref.ensures.value c.shape_at-old.ensures), cost-room c.self.inside.bytes.items c.self.inside.used c.self.inside.places.items c.self.invariant c.args.self.now c.self.view_is c.args.v c.args.place c.requires.at, used-room c.self.inside.bytes.items c.self.inside.used c.self.inside.places.items c.self.invariant c.args.self.now c.self.view_is, c.self.invariant.short)
 
 pub write_head-requires : goal.write_head-requires
 write_head-requires c = head-room c.self.inside.bytes.items c.self.inside.used c.self.inside.places.items c.self.invariant c.args.self.now c.self.view_is c.args.v c.args.place c.requires.at
