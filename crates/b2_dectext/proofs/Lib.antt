@@ -7,3 +7,5 @@ pub mod ReadBack
 pub mod ShownBack
 pub mod Spaced
 pub mod Halves
+pub mod LastZeros
+pub mod DigitsPut

@@ -56,7 +56,7 @@ pub are_digits : (k n : ℕ) → AreDigits (digit_bytes k n)
 are_digits k n = record { each = digits_at k n }
 
 -- zeros at the end
-zeros : ℕ → List ℕ
+unfoldable pub zeros : ℕ → List ℕ
 zeros zero = []
 zeros (suc k) = 48 ∷ zeros k
 
@@ -65,12 +65,12 @@ unfolding zeros
 zeros-more zero = refl
 zeros-more (suc k) = ap (λ t. 48 ∷ t) (zeros-more k)
 
-zeros-reverse : (k : ℕ) → reverse (zeros k) ≡ zeros k
+pub zeros-reverse : (k : ℕ) → reverse (zeros k) ≡ zeros k
 unfolding zeros
 zeros-reverse zero = refl
 zeros-reverse (suc k) = reverse-append (48 ∷ []) (zeros k) ∙ ap (λ t. t ++ (48 ∷ [])) (zeros-reverse k) ∙ zeros-more k
 
-zeros-length : (k : ℕ) → length (zeros k) ≡ k
+pub zeros-length : (k : ℕ) → length (zeros k) ≡ k
 unfolding zeros
 zeros-length zero = refl
 zeros-length (suc k) = ap suc (zeros-length k)

@@ -46,6 +46,21 @@ fn thirteen(coef: u64) -> [u8; 13]
     ]
 }
 
+/// The seven digits of a number.
+fn seven(n: u32) -> [u8; 7]
+    ensures { result ≡ digit_bytes 7 n }
+{
+    [
+        short_digit(n, 1_000_000),
+        short_digit(n, 100_000),
+        short_digit(n, 10_000),
+        short_digit(n, 1_000),
+        short_digit(n, 100),
+        short_digit(n, 10),
+        short_digit(n, 1),
+    ]
+}
+
 /// Digits without the zeros at their end.
 fn without_last_zeros(digits: &[u8]) -> &[u8]
     ensures { result.now ≡ without_last_zeros digits.now }
@@ -58,6 +73,7 @@ fn without_last_zeros(digits: &[u8]) -> &[u8]
 }
 
 /// Puts bytes after the first `at` ones, and gives where they end.
+#[inline(always)]
 fn put(into: &mut [u8; 24], at: usize, bytes: &[u8]) -> usize
     requires { at + length bytes.now ≤ 24 }
     ensures { IsPut bytes.now at into.old into.new result }
@@ -78,6 +94,64 @@ fn exponent_at(place: usize) -> [u8; 4]
         let size = (place - 99) as u64;
         [b'E', b'+', digit_byte(size, 10), digit_byte(size, 1)]
     }
+}
+
+/// What `whole_of` gives for a number that is not whole, or is not below a thousand million.
+const NOT_WHOLE: u32 = u32::MAX;
+
+/// How many units of this size a number of thirteen digits is, where that is whole.
+#[inline(always)]
+fn whole_in(coef: u64, unit: u64) -> u32
+    requires some { 0 < unit }
+    requires small { coef / unit < 1000000000 }
+    ensures exact { result < 1000000000 → coef % unit ≡ 0 }
+    ensures value { result < 1000000000 → result ≡ coef / unit }
+    ensures other { 1000000000 ≤ result → result ≡ 4294967295 }
+{
+    if coef % unit != 0 {
+        return NOT_WHOLE;
+    }
+    (coef / unit) as u32
+}
+
+/// The number that thirteen digits write, the last of them at a place, where it is whole and below a thousand million.
+#[inline(always)]
+fn whole_of(coef: u64, place: usize) -> u32
+    requires { coef < 10000000000000 }
+    ensures place { result < 1000000000 → 98 < place }
+    ensures few { result < 1000000000 → place ≤ 107 }
+    ensures digits { result < 1000000000 → digit_bytes (place - 98) result ≡ with_point (place - 98) (digit_bytes 13 coef) }
+    ensures other { 1000000000 ≤ result → result ≡ 4294967295 }
+{
+    match place {
+        99 => whole_in(coef, 1_000_000_000_000),
+        100 => whole_in(coef, 100_000_000_000),
+        101 => whole_in(coef, 10_000_000_000),
+        102 => whole_in(coef, 1_000_000_000),
+        103 => whole_in(coef, 100_000_000),
+        104 => whole_in(coef, 10_000_000),
+        105 => whole_in(coef, 1_000_000),
+        106 => whole_in(coef, 100_000),
+        107 => whole_in(coef, 10_000),
+        _ => NOT_WHOLE,
+    }
+}
+
+/// Puts the last `count` digits of a number after the first `at` bytes, and gives where they end.
+fn put_digits(into: &mut [u8; 24], at: usize, n: u32, count: usize) -> usize
+    requires { at + count ≤ 24 }
+    ensures few { result ≡ at + count }
+    ensures text { IsPut (digit_bytes count n) at into.old into.new result }
+{
+    let end = at + count;
+    let mut left = n;
+    let mut place = end;
+    while place > at {
+        place -= 1;
+        into[place] = short_digit(left, 1);
+        left /= 10;
+    }
+    end
 }
 
 /// The byte of a number's sign.
@@ -116,6 +190,21 @@ fn put_with_exponent(into: &mut [u8; 24], at: usize, digits: &[u8; 13], place: u
     put(into, end, &exponent_at(place))
 }
 
+/// Adds thirteen digits with a point after the first `whole` ones, and without the last zeros after it. Where the last six
+/// are zeros after the point, they are left out at once.
+fn put_plain(into: &mut [u8; 24], at: usize, coef: u64, whole: usize) -> usize
+    requires room { at + 14 ≤ 24 }
+    requires within { whole ≤ 13 }
+    requires digits { coef < 10000000000000 }
+    ensures few { result ≤ at + 14 }
+    ensures text { IsPut (with_point whole (digit_bytes 13 coef)) at into.old into.new result }
+{
+    if whole <= 7 && coef % 1_000_000 == 0 {
+        return put_fixed(into, at, &seven((coef / 1_000_000) as u32), whole);
+    }
+    put_fixed(into, at, &thirteen(coef), whole)
+}
+
 /// Adds a number without its sign.
 fn put_size(into: &mut [u8; 24], at: usize, a: Dec) -> usize
     requires room { at + 14 ≤ 24 }
@@ -126,11 +215,15 @@ fn put_size(into: &mut [u8; 24], at: usize, a: Dec) -> usize
         return put(into, at, b"0");
     }
     let place = a.place() as usize;
-    let digits = thirteen(a.coefficient());
+    let coef = a.coefficient();
+    let whole = whole_of(coef, place);
+    if whole != NOT_WHOLE {
+        return put_digits(into, at, whole, place - 98);
+    }
     if place >= 98 && place <= 111 {
-        put_fixed(into, at, &digits, place - 98)
+        put_plain(into, at, coef, place - 98)
     } else {
-        put_with_exponent(into, at, &digits, place)
+        put_with_exponent(into, at, &thirteen(coef), place)
     }
 }
 
