@@ -1,5 +1,5 @@
 -- A chain of operators, item by item: what stands for all that was read of it, and what is still to come.
-use Rattle.std.proofs.Common.{◌≡◌, ◌<◌, ◌≤◌, ℕ, length, arith, true, false, true≢false, is_err, drop, refl, sym, ap, ◌∙◌, subst, Ok, Err}
+use Rattle.std.proofs.Common.{◌≡◌, ◌<◌, ◌≤◌, ℕ, length, arith, Bool, true, false, true≢false, is_err, drop, refl, sym, ap, ◌∙◌, subst, Ok, Err}
 use Rattle.b2_base.specs.Lexical.{first}
 use Rattle.b2_dec.specs.Number.{Number}
 use Rattle.b2_atom.specs.Words.{Text}
@@ -16,7 +16,7 @@ use Rattle.b2_expr.specs.Levels.{chain_of, is_chain, row_of_level, list_of, afte
 use Rattle.b2_expr.specs.declared.found.Found.{Found}
 use Rattle.b2_expr.specs.declared.operators.Level.{Level}
 use Rattle.b2_expr.proofs.Chains.{chain_list, chain_value, chain_rest, more_item, more_list, more_value, more_rest, no_more, no_rest, refused, more_shorter}
-use Rattle.b2_expr.proofs.Tails.{tail_by}
+use Rattle.b2_expr.proofs.Tails.{no_bytes, tail_by}
 
 -- what an expression of a level comes to
 abbrev pub Evaluates : Context → Level → Text → Found → Type 0
@@ -78,6 +78,31 @@ started e l t f x u c ok is some got is_u =
       rest = ap (after_of l) at ∙ sym (chain_rest l t c ok);
       shorter = (let a = ap length at in let b = part_no_longer (row_of_level (item_level l)) t in omega (arith, a, b));
     }
+
+-- a single item, which no operator follows
+pub alone : (e : Context) (l : Level) (t : Text) (f : Found) (u : Text) → is_chain l ≡ true → is_part (row_of_level l) t ≡ true → Evaluates e (item_level l) t f
+    → is_err f.number ≡ false → u ≡ last f.left t → is_operator l (first u) ≡ false → Evaluates e l t f
+alone e l t f u c ok is some is_u none =
+    let at : u ≡ tail_of l t = is_u ∙ tail_by (row_of_level (item_level l)) f.left t (Finds.left is some) in
+    let ends : is_operator l (first (tail_of l t)) ≡ false = subst (λ (v : Text). is_operator l (first v) ≡ false) at none in
+    record {
+      number = Finds.number is
+          ∙ sym (no_more e l (value e (item_level l) (tree_at (row_of_level (item_level l)) t)) (tail_of l t) c ends)
+          ∙ sym (chain_value e l t c ok);
+      left = λ found. Finds.left is found ∙ ap length (sym (no_rest l (tail_of l t) c ends) ∙ sym (chain_rest l t c ok));
+    }
+
+-- or after which nothing is left, with a code or without
+ended_by : (e : Context) (l : Level) (t : Text) (f : Found) (coded : Bool) → is_err f.number ≡ coded → is_chain l ≡ true → is_part (row_of_level l) t ≡ true → Evaluates e (item_level l) t f
+    → f.left ≡ 0 → is_operator l 0 ≡ false → Evaluates e l t f
+ended_by e l t f true is_coded c ok is zero none = start_refused e l t f c ok is is_coded
+ended_by e l t f false is_coded c ok is zero none =
+    alone e l t f (last f.left t) c ok is is_coded refl
+    (ap (λ (n : ℕ). is_operator l (first (last n t))) zero ∙ ap (λ (u : Text). is_operator l (first u)) (no_bytes t) ∙ none)
+
+pub ended : (e : Context) (l : Level) (t : Text) (f : Found) → is_chain l ≡ true → is_part (row_of_level l) t ≡ true → Evaluates e (item_level l) t f
+    → f.left ≡ 0 → is_operator l 0 ≡ false → Evaluates e l t f
+ended e l t f c ok is zero none = ended_by e l t f (is_err f.number) refl c ok is zero none
 
 module _ (e : Context) (l : Level) (t : Text) (x : Number) (u : Text) (on : GoesOn e l t x u) (c : is_chain l ≡ true) where
   -- where an operator stands: its item

@@ -8,9 +8,13 @@ pub mod OperandKinds
 pub mod WrittenNumbers
 pub mod Names
 pub mod PlainNames
+pub mod PlainSums
+pub mod PlainElements
 pub mod Pairs
 pub mod Texts
 pub mod Defined
 pub mod Comparisons
+pub mod Judging
+pub mod PlainTexts
 pub mod Passed
 pub mod Reached

@@ -41,11 +41,11 @@ left_of false n h = refl
 pub lettered_width : (t : Text) → is_letter (first t) ≡ true → name_width Atoms t ≡ plain_width t
 lettered_width t h = rw h refl
 
-width_is : (t : Text) → is_leaf leaf.Name t ≡ true → is_letter (first t) ≡ true → leaf_width Atoms leaf.Name t ≡ plain_width t
+pub width_is : (t : Text) → is_leaf leaf.Name t ≡ true → is_letter (first t) ≡ true → leaf_width Atoms leaf.Name t ≡ plain_width t
 width_is t ok h = left_of (is_alpha_name Atoms t) (name_width Atoms t) ok ∙ lettered_width t h
 
 -- the name
-abbrev plain_name : Text → Name
+abbrev pub plain_name : Text → Name
 plain_name t = record { letter = first t; digit = digit_in (drop 1 t); alpha = false; global = false }
 
 no_at_sign : (b : ℕ) → is_letter b ≡ true → (b == byte.at_sign) ≡ false
@@ -57,7 +57,7 @@ lettered_by w g is = ap (λ (b : Bool). lettered false b (if b then drop 1 w els
 no_digit : (w : Text) → is_digit (first w) ≡ false → None ≡ digit_in w
 no_digit w is = sym (ap (λ (b : Bool). if b then Some (first w) else None) is)
 
-first_of_rest : (t : Text) → first (drop 1 t) ≡ get_or t 1 0
+pub first_of_rest : (t : Text) → first (drop 1 t) ≡ get_or t 1 0
 first_of_rest [] = refl
 first_of_rest (a ∷ []) = refl
 first_of_rest (a ∷ b ∷ t) = refl
@@ -71,7 +71,7 @@ name_by (b ∷ c ∷ t) false h is =
     lettered_by (b ∷ []) false (no_at_sign b h)
     ∙ ap (λ (d : Option ℕ). record { letter = b; digit = d; alpha = false; global = false }) (no_digit (c ∷ t) is)
 
-name_is : (t : Text) → is_leaf leaf.Name t ≡ true → is_letter (first t) ≡ true → variable_name false (leaf_bytes leaf.Name t) ≡ plain_name t
+pub name_is : (t : Text) → is_leaf leaf.Name t ≡ true → is_letter (first t) ≡ true → variable_name false (leaf_bytes leaf.Name t) ≡ plain_name t
 name_is t ok h = ap (λ (n : ℕ). variable_name false (take n t)) (width_is t ok h) ∙ name_by t (is_digit (get_or t 1 0)) h refl
 
 -- the variable
@@ -89,7 +89,7 @@ variable_is t =
     (ap (λ (b : ℕ). if is_digit b then Some b else None) (first_of_rest t) ∙ digit_by (get_or t 1 0) (is_digit (get_or t 1 0)) refl)
 
 -- its number
-abbrev cell_number : Context → Name → Bool → Result Subscripts ℕ → Answer
+abbrev pub cell_number : Context → Name → Bool → Result Subscripts ℕ → Answer
 cell_number e name array places =
     element_number (variables_of e.around name >>= (λ vars. places >>= (λ at. Ok (record {
       vars = vars;
@@ -121,6 +121,12 @@ scalar_found e t v x u f ok h free is_u none is_v is_x there is_f =
     ∙ ap (λ (o : Option ℕ). unless o (number_at (cell_at (shape_at v e.around.own.table) 0 0) (map.get e.around.own.table v))) there
     ∙ ap Ok (sym is_x))
     (after ∙ sym (variable_rest t ok plain))
+
+-- and what stands after it
+pub scalar_rest : (t u : Text) → is_part row.VARIABLE t ≡ true → is_letter (first t) ≡ true → u ≡ drop (plain_width t) t → (first u == byte.opening) ≡ false → u ≡ after_part row.VARIABLE t
+scalar_rest t u ok h is_u none =
+    let after : u ≡ after_name name_kind.Number t = is_u ∙ ap (λ (n : ℕ). drop n t) (sym (width_is t (number_leaf t ok) h)) in
+    after ∙ sym (variable_rest t ok (subst (λ (w : Text). (first w == byte.opening) ≡ false) after none))
 
 -- as a receiver: the element that it names, and what stands after it
 abbrev cell_of : Context → Name → Bool → Result Subscripts ℕ → Result Cell ℕ
@@ -159,3 +165,7 @@ receiver_rest t ok h none = located_rest name_kind.NumberReceiver t ok ∙ no_su
 -- a letter begins a variable
 pub letter_operand : (t : Text) → is_letter (first t) ≡ true → operand_of (first t) ≡ kind.Variable
 letter_operand t h = grind (arith, nat_tests)
+
+-- and a digit a number that is written out
+pub digit_operand : (t : Text) → is_digit (first t) ≡ true → operand_of (first t) ≡ kind.Number
+digit_operand t h = grind (arith, nat_tests)

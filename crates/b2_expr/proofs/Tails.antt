@@ -16,7 +16,7 @@ none_after : (t : Text) → drop (length t) t ≡ []
 none_after [] = refl
 none_after (b ∷ t) = none_after t
 
-no_bytes : (t : Text) → last 0 t ≡ []
+pub no_bytes : (t : Text) → last 0 t ≡ []
 no_bytes t = let e : length t - 0 ≡ length t = omega arith in ap (λ (n : ℕ). drop n t) e ∙ none_after t
 
 outcome_tail : (t : Text) (o : Outcome) → Takes t o → last (length (left_after o)) t ≡ left_after o

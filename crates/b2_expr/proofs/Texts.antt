@@ -257,7 +257,7 @@ taken_again zero bytes = refl
 taken_again (suc n) [] = refl
 taken_again (suc n) (b ∷ bytes) = ap (λ (t : List ℕ). b ∷ t) (taken_again n bytes)
 
-value_taken : (bytes : List ℕ) → take (length (value_of bytes)) bytes ≡ value_of bytes
+pub value_taken : (bytes : List ℕ) → take (length (value_of bytes)) bytes ≡ value_of bytes
 value_taken bytes = taken_again _ bytes
 
 pub text_there : (e : Context) (a : Trees) (p : Cell) (bytes part old : List ℕ) (n : ℕ) → located e true a ≡ Ok p → bytes_there p ≡ Ok bytes → n ≡ length (value_of bytes) → part ≡ take n bytes

@@ -1,18 +1,25 @@
 -- A number that is written with digits and a point or none: how far it goes, and what it comes to.
-use Rattle.std.proofs.Common.{◌≡◌, ◌<◌, ◌≤◌, ℕ, zero, suc, ◌+◌, ◌-◌, ◌^◌, ◌==◌, ◌&&◌, nat_lt, true, false, List, [], ◌∷◌, ◌++◌, Option, Some, None, length, drop, take, get_or, refl, sym, ap, ap₂, ◌∙◌, subst, arith, add-zero, mul-one, eqb-true, ne_eqb, lt-ltb, inl, inr, length-drop}
+use Rattle.std.proofs.Common.{◌≡◌, ◌<◌, ◌≤◌, ℕ, zero, suc, ◌+◌, ◌-◌, ◌*◌, ◌^◌, ◌==◌, ◌&&◌, not, nat_lt, Bool, true, false, Ok, if◌then◌else◌, lit≤, List, [], ◌∷◌, ◌++◌, Option, Some, None, length, drop, take, get_or, refl, sym, ap, ap₂, ◌∙◌, subst, arith, add-zero, mul-one, eqb-true, ne_eqb, lt-ltb, inl, inr, length-drop}
 use Rattle.std.proofs.Math.Seq.{take-add}
 use Rattle.std.proofs.lemmas.Bool.{cases_Bool}
+use Rattle.std.proofs.lemmas.Bool.Decides.{nat_tests}
 use Rattle.std.proofs.lemmas.List.{append-nil, drop-drop, length-take-le}
 use Rattle.b2_base.specs.Byte as byte
 use Rattle.b2_base.specs.Lexical.{first, is_digit, digits_width}
 use Rattle.b2_dec.specs.declared.number.Mode.TheVariants.{Round}
+use Rattle.b2_dec.specs.Number.{Number, zero_number}
 use Rattle.b2_dec.specs.Rounding.{rnd}
+use Rattle.b2_dec.proofs.Exact.{whole-rnd, rnd-none}
 use Rattle.b2_atom.specs.Words.{Text}
 use Rattle.b2_atom.specs.Leaves.{number_width, number_width_by, mantissa_width, mantissa_of}
 use Rattle.b2_atom.specs.declared.words.Origin.TheVariants.{Atoms}
 use Rattle.b2_atom.specs.declared.rows.TheConstants as row
 use Rattle.b2_rows.specs.Rows.{is_part, tree_at, after_part}
+use Rattle.b2_expr.specs.Plain.{is_one_digit}
+use Rattle.b2_expr.specs.Reads.{Finds}
 use Rattle.b2_expr.specs.Value.{literal_number, literal_value}
+use Rattle.b2_expr.specs.declared.found.Found.{Found}
+use Rattle.b2_expr.proofs.Chained.{finds_with}
 use Rattle.b2_expr.proofs.Operands.{literal_is, literal_rest, literal_here}
 use Rattle.b2_dectext.specs.Digits.{AreDigits, value_after}
 use Rattle.b2_dectext.specs.NumberText.{Parts, parts_value, number_len}
@@ -23,7 +30,7 @@ use Rattle.b2_dectext.proofs.Longest.{plain, plain-read, IsReadWhole}
 use Rattle.b2_dectext.proofs.Scales.{value_of-multiplied}
 
 -- the byte at a place is the first of what is left there
-at_place : (n : ℕ) (t : List ℕ) → get_or t n 0 ≡ first (drop n t)
+pub at_place : (n : ℕ) (t : List ℕ) → get_or t n 0 ≡ first (drop n t)
 at_place zero [] = refl
 at_place zero (b ∷ bs) = refl
 at_place (suc n) [] = refl
@@ -185,3 +192,60 @@ pointed_taken t after fraction rest whole digits there value left point tail mor
     let read : digits ≡ value_after (value_after 0 (take (digits_width t) t)) (take f (drop 1 (drop (digits_width t) t))) =
     more stop ∙ ap₂ (λ m (u : Text). value_after m (take f u)) (value seen) same in
     (literal_is t there ∙ number.0 ∙ ap₂ (λ m k. rnd Round false m (10 ^ k)) (sym read) (sym places), here ∙ sym (literal_rest t there ∙ number.1))
+
+-- A single digit: it is the whole number,
+one_wide : (x : Bool) → x ≡ true → (if x then suc 0 else 0) ≡ 1
+one_wide true h = refl
+one_wide false h = cc
+
+first_wide : (x y : Bool) (n : ℕ) → x ≡ true → y ≡ false → (if x then suc (if y then suc n else 0) else 0) ≡ 1
+first_wide true false n h k = refl
+first_wide true true n h k = cc
+first_wide false y n h k = cc
+
+one_wide_text : (t : Text) → is_digit (first t) ≡ true → is_digit (get_or t 1 0) ≡ false → digits_width t ≡ 1
+one_wide_text [] h k = cc
+one_wide_text (b ∷ []) h k = one_wide (is_digit b) h
+one_wide_text (b ∷ c ∷ t) h k = first_wide (is_digit b) (is_digit c) (digits_width t) h k
+
+digit_value : (t : Text) → value_after 0 (take 1 t) ≡ first t - 48
+digit_value [] = refl
+digit_value (b ∷ t) = let e : 10 * 0 + (b - 48) ≡ b - 48 = omega arith in e
+
+begins_with_digit : (b c : ℕ) → (is_digit b && (not (is_digit c) && (not (c == byte.point) && not (c == byte.upper_e)))) ≡ true → is_digit b ≡ true
+begins_with_digit b c h = grind (arith, nat_tests)
+
+no_second_digit : (b c : ℕ) → (is_digit b && (not (is_digit c) && (not (c == byte.point) && not (c == byte.upper_e)))) ≡ true → is_digit c ≡ false
+no_second_digit b c h = grind (arith, nat_tests)
+
+no_point_after : (b c : ℕ) → (is_digit b && (not (is_digit c) && (not (c == byte.point) && not (c == byte.upper_e)))) ≡ true → (c == byte.point) ≡ false
+no_point_after b c h = grind (arith, nat_tests)
+
+no_exponent_after : (b c : ℕ) → (is_digit b && (not (is_digit c) && (not (c == byte.point) && not (c == byte.upper_e)))) ≡ true → (c == byte.upper_e) ≡ false
+no_exponent_after b c h = grind (arith, nat_tests)
+
+pub begins_digit : (t : Text) → is_one_digit t ≡ true → is_digit (first t) ≡ true
+begins_digit t h = begins_with_digit (first t) (get_or t 1 0) h
+
+digit_small : (digit value : ℕ) → is_digit digit ≡ true → value ≡ digit - 48 → value < 10
+digit_small digit value h is = grind (arith, nat_tests)
+
+pub digit_finds : (t : Text) (x : Number) (f : Found) → is_part row.NUMBER t ≡ true → is_one_digit t ≡ true → rnd Round false (first t - 48) 1 ≡ Ok x
+    → f ≡ record { number = Ok x; left = length t - 1 } → Finds (literal_number (tree_at row.NUMBER t)) (after_part row.NUMBER t) f
+digit_finds t x f there one got is_f =
+    let point : (first (drop 1 t) == byte.point) ≡ false = ap (λ b. b == byte.point) (sym (at_place 1 t)) ∙ no_point_after (first t) (get_or t 1 0) one in
+    let end : (first (drop 1 t) == byte.upper_e) ≡ false = ap (λ b. b == byte.upper_e) (sym (at_place 1 t)) ∙ no_exponent_after (first t) (get_or t 1 0) one in
+    let number = whole_number t 1 (literal_here t there) (one_wide_text t (begins_digit t one) (no_second_digit (first t) (get_or t 1 0) one)) point end in
+    finds_with _ _ (drop 1 t) x f (is_f ∙ ap (λ (n : ℕ). record { number = Ok x; left = n }) (sym (length-drop 1 t)))
+    (literal_is t there ∙ number.0 ∙ ap (λ n. rnd Round false n (10 ^ 0)) (digit_value t) ∙ got)
+    (sym (literal_rest t there ∙ number.1))
+
+-- and what it comes to
+pub zero_digit : (digit value : ℕ) (x : Number) → value ≡ digit - 48 → value ≡ 0 → x ≡ zero_number → rnd Round false (digit - 48) 1 ≡ Ok x
+zero_digit digit value x is none is_x = rnd-none Round false (digit - 48) 1 (sym is ∙ none) ∙ ap Ok (sym is_x)
+
+pub some_digit_is : (digit value : ℕ) (x : Number) → is_digit digit ≡ true → value ≡ digit - 48 → (value ≡ 0 → ⊥) → x ≡ record { neg = false; coef = value * 1000000000000; place = 99 } → rnd Round false (digit - 48) 1 ≡ Ok x
+some_digit_is digit value x h is some is_x =
+    let few : value < 10 = digit_small digit value h is in
+    let least : 1 ≤ value = omega (arith, some) in
+    ap (λ n. rnd Round false n 1) (sym is) ∙ whole-rnd Round value 0 (lit≤ tt) least few ∙ ap Ok (sym is_x)

@@ -10,3 +10,4 @@ pub mod Levels
 pub mod Further
 pub mod Reads
 pub mod Condition
+pub mod Plain

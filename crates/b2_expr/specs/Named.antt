@@ -1,5 +1,5 @@
 -- Variables by their names as they are written.
-use Rattle.std.specs.Prelude.{ℕ, ◌-◌, Bool, true, false, drop, get_or, Option, Result, Ok, if◌then◌else◌}
+use Rattle.std.specs.Prelude.{ℕ, ◌-◌, Bool, true, false, drop, get_or, Option, Some, None, Result, Ok, if◌then◌else◌}
 use Rattle.std.specs.FinMap as map
 use Rattle.b2_base.specs.Lexical.{is_digit}
 use Rattle.b2_base.specs.declared.codes.TheConstants.{X77_NO_PARTITION}
@@ -87,3 +87,7 @@ counted_digit b = if is_digit b then b - 47 else 0
 
 abbrev pub plain_width : Text → ℕ
 plain_width t = if is_digit (get_or t 1 0) then 2 else 1
+
+-- the numeric array of a plain name, by its first two bytes
+abbrev pub plain_array : ℕ → ℕ → Var
+plain_array letter b = record { letter = letter; digit = if is_digit b then Some b else None; alpha = false; array = true }

@@ -1,5 +1,5 @@
 // The values of numeric and of alpha expressions, along their bytes.
-ghost use Rattle.std.specs.Prelude.{◌≡◌, ◌≤◌, ◌++◌, ◌||◌, ◌==◌, [], Bool, true, false, None, length, MatchResult, IfOk, IfSome, Ok, Err, option_map};
+ghost use Rattle.std.specs.Prelude.{◌≡◌, ◌≤◌, ◌++◌, ◌||◌, ◌==◌, [], true, false, None, is_err, drop, length, MatchResult, IfOk, IfSome, Ok, Err, option_map};
 ghost use Rattle.b2_base.specs.Byte as byte;
 ghost use Rattle.b2_base.specs.Lexical.{is_digit, is_letter};
 ghost use Rattle.b2_base.specs.Lexical as lexical;
@@ -11,59 +11,41 @@ ghost use Rattle.b2_atom.specs.declared.forms.Start.TheVariants as start;
 ghost use Rattle.b2_rows.specs.Rows.{is_part, tree_at, after_part, is_list, list_at, after_list};
 ghost use Rattle.b2_rows.specs.Chains.{more_start};
 ghost use Rattle.b2_rows.specs.declared.chains.Chain.TheVariants as chain;
-ghost use Rattle.b2_rows.specs.Leaves.{leaf_bytes};
-ghost use Rattle.b2_rows.specs.Values.{variable_name};
-ghost use Rattle.b2_atom.specs.Leaves.{leaf_width};
-ghost use Rattle.b2_atom.specs.declared.words.Origin.TheVariants.{Atoms};
 ghost use Rattle.b2_rows.specs.Optional.{maybe_part, maybe_tree, after_maybe};
-ghost use Rattle.b2_expr.specs.Functions.{joined_number, joined_text};
 ghost use Rattle.b2_expr.specs.Further.{after_further, are_further, further_tree};
 ghost use Rattle.b2_expr.specs.Levels.{row_of_level};
-ghost use Rattle.b2_expr.specs.Named.{after_name, is_alpha_kind, name_leaf, name_row, cell_seen, variable_of, variables_of};
+ghost use Rattle.b2_expr.specs.Named.{after_name, is_alpha_kind, name_row, cell_seen, plain_width};
 ghost use Rattle.b2_expr.specs.Scope.{surroundings};
 ghost use Rattle.b2_expr.specs.Reads.{Appends, Finds, Gives};
 ghost use Rattle.b2_expr.specs.Value as meaning;
-ghost use Rattle.b2_expr.specs.Value.{element_number, called, context, extremes, further_text, hex_bytes, literal_bytes, kept_value, pairs_of, located, bytes_of_part, second, subscripts, text_row, value};
+ghost use Rattle.b2_expr.specs.Value.{element_number, called, context, extremes, further_text, kept_value, located, second, subscripts, text_row, value};
 ghost use Rattle.b2_expr.specs.declared.operators.Level.TheVariants as level_of;
 ghost use Rattle.b2_rows.specs.declared.operands.Operand.TheVariants as kind_is;
 ghost use Rattle.b2_rows.specs.declared.operands.AlphaOperand.TheVariants as alpha_kind_is;
 
+use crate::appended::{bytes_of_part, hex_at, join_number, join_text, quoted_at};
 use crate::found::{Found, after_sum, last_bytes};
 use crate::functions::{
-    binary_bytes, column_written, count_written, extreme, number_of, of_one, of_text, of_two,
-    position_of, subscript, whole_between, whole_number,
+    column_written, count_written, extreme, number_of, of_one, of_text, of_two, position_of,
+    subscript, whole_number,
 };
 use crate::literals::written_number_at;
 use crate::named::{
-    Element, Located, NameKind, Subscripts, counted_digit, plain_width, variable_of,
+    Element, Located, NameKind, Subscripts, counted_digit, element_number, name_at, plain_width,
+    variable_of,
 };
 use crate::operators::{Level, joined, under_sign};
-use crate::scope::{Env, Parameter, Scope, hidden_by, kept_number};
+use crate::scope::{Env, Parameter, Scope, hidden_by, kept_number, variables_of};
 use b2_alpha::value_len;
-use b2_atom::{Origin, literal_width, numeric_name_width, relation_width};
+use b2_atom::{Origin, numeric_name_width, relation_width};
 use b2_base::Code;
-use b2_base::codes::{A04_TOO_DEEP, P38_NO_DEFFN, X72_TOO_LONG, X77_NO_PARTITION};
-use b2_base::lexical::{at, first, first_bytes, is_letter, rest_after};
+use b2_base::codes::{A04_TOO_DEEP, P38_NO_DEFFN};
+use b2_base::lexical::{at, first, first_bytes, is_digit, is_letter, rest_after};
 use b2_dec::{Bytes, Dec, NumberOrCode};
 use b2_rows::{
-    AlphaOperand, Chain, Name, Operand, alpha_name, alpha_operand_at, goes_on, has_sign,
-    hex_byte_at, is_at, is_hex_at, numeric_name, operand_at, relation_at, row_unit, spells_a_line,
+    AlphaOperand, Chain, Operand, alpha_operand_at, goes_on, has_sign, is_at, numeric_name,
+    operand_at, relation_at, row_unit, spells_a_line,
 };
-use b2_vars::Vars;
-
-/// The variables of which a name speaks: X77 where there are no `@` variables.
-#[inline(always)]
-pub fn variables_of<'a>(env: &Env<'a>, name: Name) -> Result<&'a Vars, Code>
-    ensures { MatchResult result (λ vars. variables_of (surroundings env.now) name ≡ Ok vars.now) (λ code. variables_of (surroundings env.now) name ≡ Err code) }
-{
-    if !name.global {
-        return Ok(env.own);
-    }
-    match env.globals {
-        Some(globals) => Ok(globals),
-        None => Err(Code::known(X77_NO_PARTITION)),
-    }
-}
 
 /// The value of an expression of a level, and what stands after it.
 #[tactic(auto, using(crate::proofs::Tails::part_tail))]
@@ -92,13 +74,16 @@ fn level_at(wanted: Level, s: &Scope<'_>, text: &[u8]) -> Found
     }
 }
 
-/// A sum of products.
+/// A sum of products. One of a single product, after which nothing is left, is that product.
 #[cycle(values)]
 pub fn sum(s: &Scope<'_>, text: &[u8]) -> Found
     requires part { is_part row.SUM text.now ≡ true }
     ensures { Finds (value (context s.now) level_of.Sum (tree_at row.SUM text.now)) (after_part row.SUM text.now) result }
 {
     let start = product(s, text);
+    if start.left == 0 {
+        return start;
+    }
     if start.number.is_code() {
         return start;
     }
@@ -120,7 +105,7 @@ pub fn sum(s: &Scope<'_>, text: &[u8]) -> Found
     Found::with(number, left.len())
 }
 
-/// A product of factors.
+/// A product of factors. One of a single factor, which neither `*` nor `/` follows, is that factor.
 #[cycle(values)]
 fn product(s: &Scope<'_>, text: &[u8]) -> Found
     requires part { is_part row.PRODUCT text.now ≡ true }
@@ -130,6 +115,20 @@ fn product(s: &Scope<'_>, text: &[u8]) -> Found
     if start.number.is_code() {
         return start;
     }
+    if !goes_on(Chain::Product, last_bytes(text, start.left)) {
+        return start;
+    }
+    factors_from(s, text, start)
+}
+
+/// A product of factors, of which the first is found.
+#[cycle(values)]
+fn factors_from(s: &Scope<'_>, text: &[u8], start: Found) -> Found
+    requires part { is_part row.PRODUCT text.now ≡ true }
+    requires start { Finds (value (context s.now) level_of.Factor (tree_at row.FACTOR text.now)) (after_part row.FACTOR text.now) start }
+    requires some { is_err start.number ≡ false }
+    ensures { Finds (value (context s.now) level_of.Product (tree_at row.PRODUCT text.now)) (after_part row.PRODUCT text.now) result }
+{
     let mut number = start.number.get();
     let mut left = last_bytes(text, start.left);
     while goes_on(Chain::Product, left) {
@@ -168,7 +167,7 @@ fn factor(s: &Scope<'_>, text: &[u8]) -> Found
     }
 }
 
-/// A power of operands.
+/// A power of operands. One of a single operand, which no `^` follows, is that operand.
 #[cycle(values)]
 #[inline(always)]
 fn power(s: &Scope<'_>, text: &[u8]) -> Found
@@ -179,6 +178,20 @@ fn power(s: &Scope<'_>, text: &[u8]) -> Found
     if start.number.is_code() {
         return start;
     }
+    if !goes_on(Chain::Power, last_bytes(text, start.left)) {
+        return start;
+    }
+    powers_from(s, text, start)
+}
+
+/// A power of operands, of which the first is found.
+#[cycle(values)]
+fn powers_from(s: &Scope<'_>, text: &[u8], start: Found) -> Found
+    requires part { is_part row.POWER text.now ≡ true }
+    requires start { Finds (value (context s.now) level_of.Operand (tree_at row.OPERAND text.now)) (after_part row.OPERAND text.now) start }
+    requires some { is_err start.number ≡ false }
+    ensures { Finds (value (context s.now) level_of.Power (tree_at row.POWER text.now)) (after_part row.POWER text.now) result }
+{
     let mut number = start.number.get();
     let mut left = last_bytes(text, start.left);
     while goes_on(Chain::Power, left) {
@@ -197,16 +210,31 @@ fn power(s: &Scope<'_>, text: &[u8]) -> Found
     Found::with(number, left.len())
 }
 
-/// An operand.
+/// An operand. A variable that begins with a letter and a number that begins with a digit are told by that byte alone.
 #[cycle(values)]
-#[tactic(auto, using(b2_rows::proofs::EachOperand::number_here, b2_rows::proofs::EachOperand::parentheses_here, b2_rows::proofs::EachOperand::function_here, b2_rows::proofs::EachOperand::of_one_here, b2_rows::proofs::EachOperand::of_two_here, b2_rows::proofs::EachOperand::of_more_here, b2_rows::proofs::EachOperand::of_alpha_here, b2_rows::proofs::EachOperand::position_here, b2_rows::proofs::EachOperand::value_here, b2_rows::proofs::EachOperand::kept_number_here, b2_rows::proofs::EachOperand::variable_here, b2_rows::proofs::EachOperand::number_left, b2_rows::proofs::EachOperand::parentheses_left, b2_rows::proofs::EachOperand::function_left, b2_rows::proofs::EachOperand::of_one_left, b2_rows::proofs::EachOperand::of_two_left, b2_rows::proofs::EachOperand::of_more_left, b2_rows::proofs::EachOperand::of_alpha_left, b2_rows::proofs::EachOperand::position_left, b2_rows::proofs::EachOperand::value_left, b2_rows::proofs::EachOperand::kept_number_left, b2_rows::proofs::EachOperand::variable_left, crate::proofs::PlainNames::letter_operand, crate::proofs::OperandKinds::number_gives, crate::proofs::OperandKinds::parentheses_gives, crate::proofs::OperandKinds::function_gives, crate::proofs::OperandKinds::of_one_gives, crate::proofs::OperandKinds::of_two_gives, crate::proofs::OperandKinds::of_more_gives, crate::proofs::OperandKinds::of_alpha_gives, crate::proofs::OperandKinds::position_gives, crate::proofs::OperandKinds::value_gives, crate::proofs::OperandKinds::kept_number_gives, crate::proofs::OperandKinds::variable_gives))]
+#[tactic(auto, using(b2_rows::proofs::EachOperand::number_here, b2_rows::proofs::EachOperand::variable_here, b2_rows::proofs::EachOperand::number_left, b2_rows::proofs::EachOperand::variable_left, crate::proofs::PlainNames::letter_operand, crate::proofs::PlainNames::digit_operand, crate::proofs::OperandKinds::number_gives, crate::proofs::OperandKinds::variable_gives))]
+#[inline(always)]
 fn operand(s: &Scope<'_>, text: &[u8]) -> Found
     requires part { is_part row.OPERAND text.now ≡ true }
     ensures { Finds (value (context s.now) level_of.Operand (tree_at row.OPERAND text.now)) (after_part row.OPERAND text.now) result }
 {
-    if is_letter(first(text)) {
+    let byte = first(text);
+    if is_letter(byte) {
         return variable(s, text);
     }
+    if is_digit(byte) {
+        return written_number_at(text);
+    }
+    other_operand(s, text)
+}
+
+/// An operand of any kind.
+#[cycle(values)]
+#[tactic(auto, using(b2_rows::proofs::EachOperand::number_here, b2_rows::proofs::EachOperand::parentheses_here, b2_rows::proofs::EachOperand::function_here, b2_rows::proofs::EachOperand::of_one_here, b2_rows::proofs::EachOperand::of_two_here, b2_rows::proofs::EachOperand::of_more_here, b2_rows::proofs::EachOperand::of_alpha_here, b2_rows::proofs::EachOperand::position_here, b2_rows::proofs::EachOperand::value_here, b2_rows::proofs::EachOperand::kept_number_here, b2_rows::proofs::EachOperand::variable_here, b2_rows::proofs::EachOperand::number_left, b2_rows::proofs::EachOperand::parentheses_left, b2_rows::proofs::EachOperand::function_left, b2_rows::proofs::EachOperand::of_one_left, b2_rows::proofs::EachOperand::of_two_left, b2_rows::proofs::EachOperand::of_more_left, b2_rows::proofs::EachOperand::of_alpha_left, b2_rows::proofs::EachOperand::position_left, b2_rows::proofs::EachOperand::value_left, b2_rows::proofs::EachOperand::kept_number_left, b2_rows::proofs::EachOperand::variable_left, crate::proofs::OperandKinds::number_gives, crate::proofs::OperandKinds::parentheses_gives, crate::proofs::OperandKinds::function_gives, crate::proofs::OperandKinds::of_one_gives, crate::proofs::OperandKinds::of_two_gives, crate::proofs::OperandKinds::of_more_gives, crate::proofs::OperandKinds::of_alpha_gives, crate::proofs::OperandKinds::position_gives, crate::proofs::OperandKinds::value_gives, crate::proofs::OperandKinds::kept_number_gives, crate::proofs::OperandKinds::variable_gives))]
+fn other_operand(s: &Scope<'_>, text: &[u8]) -> Found
+    requires part { is_part row.OPERAND text.now ≡ true }
+    ensures { Finds (value (context s.now) level_of.Operand (tree_at row.OPERAND text.now)) (after_part row.OPERAND text.now) result }
+{
     match operand_at(text) {
         Operand::Number => written_number_at(text),
         Operand::Parentheses => group(s, text),
@@ -218,7 +246,7 @@ fn operand(s: &Scope<'_>, text: &[u8]) -> Found
         Operand::Position => position_at(s, text),
         Operand::Value => bytes_at(s, text),
         Operand::KeptNumber => kept_at(s.env, text),
-        Operand::Variable => variable(s, text),
+        Operand::Variable => hidden_or_there(s, text),
     }
 }
 
@@ -470,6 +498,7 @@ fn bytes_at(s: &Scope<'_>, text: &[u8]) -> Found
 /// A number after a comma, where one is written.
 #[cycle(values)]
 #[tactic(auto, using(crate::proofs::Names::second_part, crate::proofs::Names::second_is, crate::proofs::Names::second_rest, crate::proofs::Names::no_second, crate::proofs::Names::no_second_rest, crate::proofs::Names::second_shorter))]
+#[inline(always)]
 pub fn second<'a>(s: &Scope<'_>, text: &'a [u8]) -> Result<(Option<Dec>, &'a [u8]), Code>
     requires part { maybe_part (start.Code byte.comma) row.COMMA_NUMBER text.now ≡ true }
     ensures { Gives (second (context s.now) (maybe_tree (start.Code byte.comma) row.COMMA_NUMBER text.now)) (after_maybe (start.Code byte.comma) row.COMMA_NUMBER text.now) result }
@@ -544,22 +573,6 @@ pub fn located<'a, 'v>(
     Ok((Located { vars, element }, rest))
 }
 
-/// A name of a kind, and how many bytes it takes.
-#[tactic(auto, using(crate::proofs::Names::alpha_there, crate::proofs::Names::numeric_there, crate::proofs::Names::alpha_leaf_is, crate::proofs::Names::number_leaf_is, crate::proofs::Names::legal_name))]
-#[inline(always)]
-fn name_at(kind: NameKind, text: &[u8]) -> (Name, usize)
-    requires part { is_part (name_row kind) text.now ≡ true }
-    ensures name { result.0 ≡ variable_name (is_alpha_kind kind) (leaf_bytes (name_leaf kind) text.now) }
-    ensures legal { (array : Bool) → is_legal_name (variable_of result.0 array) ≡ true }
-    ensures width { result.1 ≡ leaf_width Atoms (name_leaf kind) text.now }
-{
-    if kind.is_alpha() {
-        alpha_name(text)
-    } else {
-        numeric_name(text)
-    }
-}
-
 /// The value of the parameter, where a numeric variable has its name.
 #[tactic(auto, using(crate::proofs::Names::variable_hidden, crate::proofs::Names::variable_shown, crate::proofs::Names::variable_array, crate::proofs::Names::variable_plain, crate::proofs::Names::number_leaf))]
 #[inline(always)]
@@ -579,25 +592,57 @@ fn hidden_at(s: &Scope<'_>, text: &[u8]) -> Option<Dec>
     hidden_by(s.parameter, name)
 }
 
-/// A numeric variable. A plain one outside a function is read by its letter and its digit at once.
+/// A numeric variable that begins with a letter. A plain one outside a function is read by its letter and its digit at once.
 #[cycle(values)]
 fn variable(s: &Scope<'_>, text: &[u8]) -> Found
     requires part { is_part row.VARIABLE text.now ≡ true }
+    requires letter { is_letter (lexical.first text.now) ≡ true }
     ensures { Finds (meaning.operand (context s.now) kind_is.Variable (tree_at row.VARIABLE text.now)) (after_part row.VARIABLE text.now) result }
 {
-    let letter = first(text);
-    if !is_letter(letter) {
-        return hidden_or_there(s, text);
-    }
     let None = s.parameter else {
         return hidden_or_there(s, text);
     };
     let rest = rest_after(text, plain_width(text));
     if is_at(b'(', rest) {
-        return hidden_or_there(s, text);
+        return element(s, text, rest_after(rest, 1));
     }
+    let letter = first(text);
     let digit = counted_digit(at(text, 1));
     Found::with(s.env.own.scalar(letter, digit), rest.len())
+}
+
+/// An element of the array of a plain name, inside whose parentheses its subscripts stand.
+#[cycle(values)]
+#[tactic(auto, using(crate::proofs::PlainElements::row_here, crate::proofs::PlainElements::column_here, crate::proofs::PlainElements::inside_shorter, crate::proofs::PlainElements::column_inside, crate::proofs::PlainElements::one_is, crate::proofs::PlainElements::one_rest, crate::proofs::PlainElements::two_is, crate::proofs::PlainElements::two_rest))]
+#[inline(never)]
+fn element(s: &Scope<'_>, text: &[u8], inside: &[u8]) -> Found
+    requires part { is_part row.VARIABLE text.now ≡ true }
+    requires letter { is_letter (lexical.first text.now) ≡ true }
+    requires opening { (lexical.first (drop (plain_width text.now) text.now) == byte.opening) ≡ true }
+    requires inside { inside.now ≡ drop 1 (drop (plain_width text.now) text.now) }
+    ensures { Finds (meaning.operand (context s.now) kind_is.Variable (tree_at row.VARIABLE text.now)) (after_part row.VARIABLE text.now) result }
+{
+    let row = sum(s, inside);
+    if row.number.is_code() {
+        return row;
+    }
+    let at_row = subscript(row.number.get());
+    let rest = after_sum(inside, row.left);
+    if !is_at(b',', rest) {
+        return Found {
+            number: element_number(s.env.own, first(text), at(text, 1), at_row, 0),
+            left: row.left.saturating_sub(1),
+        };
+    }
+    let column = sum(s, rest_after(rest, 1));
+    if column.number.is_code() {
+        return column;
+    }
+    let at_column = subscript(column.number.get());
+    Found {
+        number: element_number(s.env.own, first(text), at(text, 1), at_row, at_column),
+        left: column.left.saturating_sub(1),
+    }
 }
 
 /// A numeric variable: the parameter of its name, and else the number that it has.
@@ -619,17 +664,6 @@ fn hidden_or_there(s: &Scope<'_>, text: &[u8]) -> Found
         number: NumberOrCode::of(located.number()),
         left: rest.len(),
     }
-}
-
-/// Puts bytes after others, X72 where they are more than 255.
-fn join_text(bytes: &[u8], into: &mut Bytes) -> Result<(), Code>
-    ensures { MatchResult result (λ done. joined_text into.old bytes.now ≡ Ok into.new) (λ code. joined_text into.old bytes.now ≡ Err code) }
-{
-    if bytes.len() + into.len() > 255 {
-        return Err(Code::known(X72_TOO_LONG));
-    }
-    into.extend(bytes);
-    Ok(())
 }
 
 /// An alpha expression: its bytes, and what stands after it.
@@ -679,49 +713,6 @@ fn alpha_operand<'a>(s: &Scope<'_>, text: &'a [u8], into: &mut Bytes) -> Result<
     }
 }
 
-/// Bytes in quotes.
-#[tactic(auto, using(crate::proofs::Texts::quoted_here, crate::proofs::Texts::quoted_is, crate::proofs::Texts::quoted_rest))]
-fn quoted_at<'a>(text: &'a [u8], into: &mut Bytes) -> Result<&'a [u8], Code>
-    requires part { is_part row.LITERAL text.now ≡ true }
-    ensures { Appends (literal_bytes (tree_at row.LITERAL text.now)) (after_part row.LITERAL text.now) into.old into.new result }
-{
-    match join_text(b2_rows::quoted_at(text), into) {
-        Ok(()) => Ok(rest_after(text, literal_width(text))),
-        Err(code) => Err(code),
-    }
-}
-
-/// The bytes of pairs of hexadecimal digits, of which there is one at least, and what stands after them.
-#[tactic(auto, using(crate::proofs::Pairs::pairs_here, crate::proofs::Pairs::pairs_list, crate::proofs::Pairs::pairs_is, crate::proofs::Pairs::pairs_rest, crate::proofs::Pairs::pair_here, crate::proofs::Pairs::pair_list, crate::proofs::Pairs::pair_is, crate::proofs::Pairs::pair_rest, crate::proofs::Pairs::pair_shorter, crate::proofs::Pairs::none_is, crate::proofs::Pairs::none_rest, crate::proofs::Pairs::pairs_room, crate::proofs::Pairs::pair_room, crate::proofs::Pairs::one_more))]
-fn pairs_at<'a>(text: &'a [u8], into: &mut Bytes) -> &'a [u8]
-    requires part { is_part row.HEX_PAIRS text.now ≡ true }
-    requires empty { into.old ≡ [] }
-    ensures bytes { pairs_of (tree_at row.HEX_PAIRS text.now) ≡ Ok into.new }
-    ensures rest { result.now ≡ after_part row.HEX_PAIRS text.now }
-{
-    into.push(hex_byte_at(text));
-    let mut left = rest_after(text, 2);
-    while is_hex_at(left) {
-        into.push(hex_byte_at(left));
-        left = rest_after(left, 2);
-    }
-    left
-}
-
-/// HEX.
-#[tactic(auto, using(crate::proofs::Texts::hex_pairs, crate::proofs::Texts::hex_is, crate::proofs::Texts::hex_rest))]
-fn hex_at<'a>(text: &'a [u8], into: &mut Bytes) -> Result<&'a [u8], Code>
-    requires part { is_part row.HEX text.now ≡ true }
-    ensures { Appends (hex_bytes (tree_at row.HEX text.now)) (after_part row.HEX text.now) into.old into.new result }
-{
-    let mut bytes = Bytes::new();
-    let rest = pairs_at(rest_after(text, 1), &mut bytes);
-    match join_text(bytes.bytes(), into) {
-        Ok(()) => Ok(rest_after(rest, 1)),
-        Err(code) => Err(code),
-    }
-}
-
 /// STR.
 #[cycle(values)]
 #[tactic(auto, using(crate::proofs::Texts::part_variable, crate::proofs::Texts::part_from, crate::proofs::Texts::part_count, crate::proofs::Texts::part_is, crate::proofs::Texts::part_rest, crate::proofs::Texts::part_shorter, crate::proofs::Texts::from_shorter, crate::proofs::Texts::count_shorter))]
@@ -756,23 +747,6 @@ fn part_at<'a>(s: &Scope<'_>, text: &'a [u8], into: &mut Bytes) -> Result<&'a [u
     }
 }
 
-/// The bytes from one place on, and as many as are counted, or all: P34 where they aren't there.
-pub fn bytes_of_part(bytes: &[u8], from: Dec, count: Option<Dec>) -> Result<&[u8], Code>
-    requires short { length bytes.now ≤ 124 }
-    ensures { MatchResult result (λ part. bytes_of_part bytes.now from count ≡ Ok part.now) (λ code. bytes_of_part bytes.now from count ≡ Err code) }
-{
-    let length = bytes.len() as u8;
-    let from = whole_between(1, length, from)?;
-    let left = rest_after(bytes, usize::from(from) - 1);
-    match count {
-        None => Ok(left),
-        Some(count) => {
-            let count = whole_between(1, left.len() as u8, count)?;
-            Ok(first_bytes(left, usize::from(count)))
-        }
-    }
-}
-
 /// BIN.
 #[cycle(values)]
 #[tactic(auto, using(crate::proofs::Texts::binary_number, crate::proofs::Texts::binary_count, crate::proofs::Texts::binary_is, crate::proofs::Texts::binary_rest, crate::proofs::Texts::binary_shorter, crate::proofs::Texts::binary_count_shorter))]
@@ -795,19 +769,6 @@ fn binary_at<'a>(s: &Scope<'_>, text: &'a [u8], into: &mut Bytes) -> Result<&'a 
     };
     match join_number(number.number.get(), count, into) {
         Ok(()) => Ok(rest_after(rest, 1)),
-        Err(code) => Err(code),
-    }
-}
-
-/// Puts a number without its fraction after other bytes, in `count` bytes of its own.
-fn join_number(number: Dec, count: u8, into: &mut Bytes) -> Result<(), Code>
-    requires few { count ≤ 4 }
-    ensures { MatchResult result (λ done. joined_number count number into.old ≡ Ok into.new) (λ code. joined_number count number into.old ≡ Err code) }
-{
-    let mut bytes = [0; 4];
-    let part = &mut bytes[..usize::from(count)];
-    match binary_bytes(number, part) {
-        Ok(()) => join_text(part, into),
         Err(code) => Err(code),
     }
 }

@@ -6,8 +6,9 @@
 //! `specs/Functions.antt` and `specs/Operators.antt` on values alone and `specs/Named.antt` for variables by their names.
 //! `specs/Scope.antt` says what an expression looks at. The code goes along the bytes and keeps no tree: a loop each
 //! for sums, products and powers, a call for parentheses and arguments. Its functions of numbers hand on a number or a code
-//! in one word, and how many bytes are left after it (`found`); `number_or_code` gives the number or the code of an
-//! expression so.
+//! in one word, and how many bytes are left after it (`found`), those of conditions a truth or a code; `number_or_code`
+//! gives the number or the code of an expression so, and `condition_at` that of a condition. What is plain, a scalar or a
+//! number alone or two that an operator joins, is read at once (`plain`, `plain_number`), and else the long way follows.
 //!
 //! Stands on `b2_rows` for rows at the bytes of a unit, on `b2_atom` for the table, on `b2_dec`, `b2_dectext` and `b2_alpha`
 //! for values, on `b2_vars` for variables and on `b2_text` for the functions of a program.
@@ -17,6 +18,7 @@
 //! `second`.
 #![tactic(auto)]
 
+mod appended;
 mod conditions;
 mod evaluate;
 mod found;
@@ -26,16 +28,20 @@ mod literals;
 mod named;
 mod operators;
 mod passing;
+mod plain;
 mod scope;
 mod value;
 mod workspace;
 
-pub use evaluate::{alpha as alpha_at, climb, located, second, variables_of};
+pub use evaluate::{alpha as alpha_at, climb, located, second};
+pub use found::{Judged, after_condition};
 pub use functions::{fixed, whole_between};
 pub use kinds::suits;
 pub use named::{Element, Located, NameKind, counted_digit, plain_width, variable_of};
 pub use operators::Level;
 pub use passing::{past_alpha, past_name, past_part, past_sum};
-pub use scope::{Env, Scope};
-pub use value::{alpha, condition, in_statement, number, number_or_code};
+pub use scope::{Env, Scope, variables_of};
+pub use value::{
+    alpha, condition, condition_at, in_statement, number, number_or_code, plain_number,
+};
 pub use workspace::{Workspace, reached_after, surroundings_of};

@@ -1,5 +1,5 @@
 // The values of numbers that are written out.
-ghost use Rattle.std.specs.Prelude.{◌≡◌, ◌≤◌, ◌<◌, ◌^◌, ◌==◌, true, false, Ok, length, take, drop};
+ghost use Rattle.std.specs.Prelude.{◌≡◌, ◌≤◌, ◌<◌, ◌-◌, ◌^◌, ◌==◌, true, false, Ok, length, take, drop};
 ghost use Rattle.b2_base.specs.Byte as byte;
 ghost use Rattle.b2_base.specs.Lexical.{digits_width, is_digit};
 ghost use Rattle.b2_base.specs.Lexical as lexical;
@@ -8,6 +8,7 @@ ghost use Rattle.b2_dec.specs.declared.number.Mode.TheVariants as mode;
 ghost use Rattle.b2_dec.specs.Rounding.{rnd};
 ghost use Rattle.b2_dectext.specs.Digits.{value_after};
 ghost use Rattle.b2_rows.specs.Rows.{is_part, tree_at, after_part};
+ghost use Rattle.b2_expr.specs.Plain.{is_one_digit};
 ghost use Rattle.b2_expr.specs.Reads.{Finds};
 ghost use Rattle.b2_expr.specs.Value.{literal_number, literal_value};
 
@@ -15,7 +16,7 @@ use crate::found::Found;
 use b2_atom::{Origin, number_width};
 use b2_base::Code;
 use b2_base::codes::S17_NUMERIC;
-use b2_base::lexical::{first, first_bytes, is_digit, rest_after};
+use b2_base::lexical::{at, first, first_bytes, is_digit, rest_after};
 use b2_dec::{Dec, Mode, NumberOrCode, round_short};
 use b2_dectext::literal;
 
@@ -99,9 +100,45 @@ fn ended(text: &[u8], digits: u64, places: usize, rest: &[u8]) -> Found
     }
 }
 
+/// Whether a text begins with a single digit, after which neither a digit nor a point nor an exponent stands.
+#[inline(always)]
+fn is_one_digit(text: &[u8]) -> bool
+    ensures { result ≡ is_one_digit text.now }
+{
+    let next = at(text, 1);
+    is_digit(first(text)) && !is_digit(next) && next != b'.' && next != b'E'
+}
+
+/// The number of a digit.
+#[tactic(auto, using(crate::proofs::WrittenNumbers::zero_digit, crate::proofs::WrittenNumbers::some_digit_is))]
+#[inline(always)]
+fn number_of_digit(digit: u8) -> Dec
+    requires { is_digit digit ≡ true }
+    ensures { rnd mode.Round false (digit - 48) 1 ≡ Ok result }
+{
+    let value = u64::from(digit - b'0');
+    if value == 0 {
+        return Dec::zero();
+    }
+    Dec::ending_at(false, value * 1_000_000_000_000, 99)
+}
+
+/// A number that is written out: at once where it is a single digit.
+#[inline(always)]
+#[tactic(auto, using(crate::proofs::WrittenNumbers::digit_finds, crate::proofs::WrittenNumbers::begins_digit))]
+pub fn written_number_at(text: &[u8]) -> Found
+    requires part { is_part row.NUMBER text.now ≡ true }
+    ensures { Finds (literal_number (tree_at row.NUMBER text.now)) (after_part row.NUMBER text.now) result }
+{
+    if !is_one_digit(text) {
+        return longer_number_at(text);
+    }
+    Found::with(number_of_digit(first(text)), text.len() - 1)
+}
+
 /// A number that is written out: in one pass where it has no exponent and thirteen digits at most, not counting zeros at
 /// its front.
-pub fn written_number_at(text: &[u8]) -> Found
+fn longer_number_at(text: &[u8]) -> Found
     requires part { is_part row.NUMBER text.now ≡ true }
     ensures { Finds (literal_number (tree_at row.NUMBER text.now)) (after_part row.NUMBER text.now) result }
 {

@@ -1,12 +1,18 @@
 // Variables by their names as they are written.
-ghost use Rattle.std.specs.Prelude.{◌≡◌, ◌≤◌, true, false, length, MatchResult, IfOk, Ok, Err};
+ghost use Rattle.std.specs.Prelude.{◌≡◌, ◌≤◌, Bool, true, false, length, MatchResult, IfOk, Ok, Err};
+ghost use Rattle.b2_base.specs.Lexical.{is_letter};
 ghost use Rattle.b2_vars.specs.Names.{is_legal_name};
-ghost use Rattle.b2_expr.specs.Named.{bytes_there, counted_digit, element_there, is_alpha_kind, number_there, cell_seen, plain_width, variable_of};
+ghost use Rattle.b2_atom.specs.Leaves.{leaf_width};
+ghost use Rattle.b2_atom.specs.declared.words.Origin.TheVariants.{Atoms};
+ghost use Rattle.b2_rows.specs.Leaves.{leaf_bytes};
+ghost use Rattle.b2_rows.specs.Rows.{is_part};
+ghost use Rattle.b2_rows.specs.Values.{variable_name};
+ghost use Rattle.b2_expr.specs.Named.{bytes_there, counted_digit, element_there, is_alpha_kind, name_leaf, name_row, number_there, cell_seen, plain_array, plain_width, variable_of};
 
 use b2_base::Code;
 use b2_base::lexical::{at, is_digit};
-use b2_dec::Dec;
-use b2_rows::Name;
+use b2_dec::{Dec, NumberOrCode};
+use b2_rows::{Name, alpha_name, numeric_name};
 use b2_vars::{Var, Vars};
 
 /// A value of a variable: whether its name has `@`, the variable, and the row and the column, 0 where there is none.
@@ -65,6 +71,22 @@ pub fn variable_of(name: Name, array: bool) -> Var
     }
 }
 
+/// A name of a kind, and how many bytes it takes.
+#[tactic(auto, using(crate::proofs::Names::alpha_there, crate::proofs::Names::numeric_there, crate::proofs::Names::alpha_leaf_is, crate::proofs::Names::number_leaf_is, crate::proofs::Names::legal_name))]
+#[inline(always)]
+pub fn name_at(kind: NameKind, text: &[u8]) -> (Name, usize)
+    requires part { is_part (name_row kind) text.now ≡ true }
+    ensures name { result.0 ≡ variable_name (is_alpha_kind kind) (leaf_bytes (name_leaf kind) text.now) }
+    ensures legal { (array : Bool) → is_legal_name (variable_of result.0 array) ≡ true }
+    ensures width { result.1 ≡ leaf_width Atoms (name_leaf kind) text.now }
+{
+    if kind.is_alpha() {
+        alpha_name(text)
+    } else {
+        numeric_name(text)
+    }
+}
+
 /// The digit of a plain name counted from 1, 0 where a byte is none.
 #[inline(always)]
 pub fn counted_digit(byte: u8) -> u8
@@ -80,6 +102,31 @@ pub fn plain_width(text: &[u8]) -> usize
     ensures { result ≡ plain_width text.now }
 {
     if is_digit(at(text, 1)) { 2 } else { 1 }
+}
+
+/// The numeric array of a plain name, by its first two bytes.
+#[tactic(auto, using(crate::proofs::PlainElements::plain_legal))]
+#[inline(always)]
+fn plain_array(letter: u8, byte: u8) -> Var
+    requires letter { is_letter letter ≡ true }
+    ensures named { result ≡ plain_array letter byte }
+    ensures legal { is_legal_name result ≡ true }
+{
+    Var {
+        letter,
+        digit: if is_digit(byte) { Some(byte) } else { None },
+        alpha: false,
+        array: true,
+    }
+}
+
+/// The number of an element of the array of a plain name, by its first two bytes: P59 and P57 as for any.
+#[inline(always)]
+pub fn element_number(vars: &Vars, letter: u8, byte: u8, row: u16, column: u16) -> NumberOrCode
+    requires letter { is_letter letter ≡ true }
+    ensures { result ≡ number_there (record { vars = vars.now; element = record { global = false; var = plain_array letter byte; row = row; column = column } }) }
+{
+    NumberOrCode::of(vars.number(plain_array(letter, byte), row, column))
 }
 
 impl<'a> Located<'a> {

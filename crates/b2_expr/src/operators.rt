@@ -42,7 +42,7 @@ fn raised(a: Dec, b: Dec, mode: Mode) -> NumberOrCode
 }
 
 /// What two numbers come to by the operator that a byte is.
-pub fn joined(mode: Mode, operator: u8, a: Dec, b: Dec) -> NumberOrCode
+fn joined_by(mode: Mode, operator: u8, a: Dec, b: Dec) -> NumberOrCode
     ensures { result ≡ joined mode operator a b }
 {
     match operator {
@@ -52,6 +52,17 @@ pub fn joined(mode: Mode, operator: u8, a: Dec, b: Dec) -> NumberOrCode
         b'/' => quotient_or_code(a, b, mode),
         _ => raised(a, b, mode),
     }
+}
+
+/// What two numbers come to by the operator that a byte is. `+`, the commonest, is told by the caller itself.
+#[inline(always)]
+pub fn joined(mode: Mode, operator: u8, a: Dec, b: Dec) -> NumberOrCode
+    ensures { result ≡ joined mode operator a b }
+{
+    if operator == b'+' {
+        return sum_or_code(a, b, mode);
+    }
+    joined_by(mode, operator, a, b)
 }
 
 /// A number with `+` or `-` before it.

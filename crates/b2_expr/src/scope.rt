@@ -1,9 +1,11 @@
 // What expressions look at.
-ghost use Rattle.std.specs.Prelude.{◌≡◌};
+ghost use Rattle.std.specs.Prelude.{◌≡◌, MatchResult, Ok, Err};
+ghost use Rattle.b2_expr.specs.Named.{variables_of};
 ghost use Rattle.b2_expr.specs.Scope.{hidden_by, is_same_name, kept_number, same_digit, surroundings};
 
 use b2_atom::words::{ERR, HASH_PART};
-use b2_base::{Part, Term};
+use b2_base::codes::X77_NO_PARTITION;
+use b2_base::{Code, Part, Term};
 use b2_dec::{Dec, Mode};
 use b2_rows::Name;
 use b2_text::Text;
@@ -77,6 +79,20 @@ pub fn hidden_by(parameter: Option<Parameter>, name: Name) -> Option<Dec>
             }
         }
         None => None,
+    }
+}
+
+/// The variables of which a name speaks: X77 where there are no `@` variables.
+#[inline(always)]
+pub fn variables_of<'a>(env: &Env<'a>, name: Name) -> Result<&'a Vars, Code>
+    ensures { MatchResult result (λ vars. variables_of (surroundings env.now) name ≡ Ok vars.now) (λ code. variables_of (surroundings env.now) name ≡ Err code) }
+{
+    if !name.global {
+        return Ok(env.own);
+    }
+    match env.globals {
+        Some(globals) => Ok(globals),
+        None => Err(Code::known(X77_NO_PARTITION)),
     }
 }
 

@@ -1,4 +1,5 @@
-use Rattle.std.proofs.Common.{◌≡◌, ℕ, true, Ok, length, drop, get_or, refl, sym, ap, ap₂, subst, ◌∙◌, arith, ◌-◌, ◌+◌}
+use Rattle.std.proofs.Common.{◌≡◌, ℕ, ◌==◌, true, false, Ok, length, drop, get_or, refl, sym, ap, ap₂, subst, ◌∙◌, arith, ◌-◌, ◌+◌}
+use Rattle.b2_base.specs.Byte as byte
 use Rattle.b2_base.specs.Lexical.{first}
 use Rattle.b2_dec.specs.Number.{Number}
 use Rattle.b2_atom.specs.Words.{Text}
@@ -6,19 +7,21 @@ use Rattle.b2_atom.specs.declared.rows.TheConstants as row
 use Rattle.b2_rows.specs.Rows.{is_part, tree_at, after_part}
 use Rattle.b2_rows.specs.Leaves.{leaf_bytes}
 use Rattle.b2_expr.specs.Further.{further_tree}
-use Rattle.b2_expr.specs.Named.{name_leaf, cell_seen}
+use Rattle.b2_expr.specs.Answers.{Answer, ◌>>=◌}
+use Rattle.b2_expr.specs.Functions.{subscript}
+use Rattle.b2_expr.specs.Named.{name_leaf, cell_seen, number_there, plain_array}
 use Rattle.b2_expr.specs.Value.{context, extremes, value}
 use Rattle.b2_expr.specs.Operators.{joined, under_sign}
 use Rattle.b2_expr.specs.Reads.{Finds}
 use Rattle.b2_expr.specs.declared.operators.Level.TheVariants as level
 use Rattle.b2_rows.proofs.EachChain as each
-use Rattle.b2_base.specs.Lexical.{is_letter}
 use Rattle.b2_vars.specs.Names.{scalar_named}
 use Rattle.b2_expr.specs.Named.{counted_digit}
-use Rattle.b2_expr.proofs.Chained.{bound_code, bound_number, finds_code, finds_same, finds_with, off, on_code, on_part, on_refused, on_shorter, on_smaller, on_step, start_refused, started}
+use Rattle.b2_expr.proofs.Chained.{alone, bound_code, bound_number, ended, finds_code, finds_same, finds_with, off, on_code, on_part, on_refused, on_shorter, on_smaller, on_step, start_refused, started}
 use Rattle.b2_expr.proofs.Chains.{chain_item}
 use Rattle.b2_expr.proofs.Factors.{plain_value, signed_value}
 use Rattle.b2_expr.proofs.Operands.{call_is, call_rest}
+use Rattle.b2_expr.proofs.PlainElements.{inside, number_in, two_is, two_rest}
 use Rattle.b2_expr.proofs.PlainNames.{scalar_found}
 use Rattle.b2_expr.proofs.Tails.{one_less}
 use Rattle.b2_expr.proofs.Defined.{body_part, body_is, length_after}
@@ -96,6 +99,9 @@ further_numbers-returns t c =
 pub sum-product-start-requires : goal.sum-product-start-requires
 sum-product-start-requires t c = (omega (arith, c.decreases), chain_item level.Sum c.args.text.now refl c.requires.part)
 
+pub sum-returns-then-start-eq0 : goal.sum-returns-then-start-eq0
+sum-returns-then-start-eq0 t c = ended (context c.args.s.now) level.Sum c.args.text.now c.product-start.result refl c.requires.part c.product-start.ensures c.if-start-eq0.true refl
+
 pub sum-returns-then-is_code : goal.sum-returns-then-is_code
 sum-returns-then-is_code t c = start_refused (context c.args.s.now) level.Sum c.args.text.now c.product-start.result refl c.requires.part c.product-start.ensures (sym c.is_code.ensures ∙ c.if-is_code.true)
 
@@ -131,31 +137,36 @@ product-factor-start-requires t c = (omega (arith, c.decreases), chain_item leve
 pub product-returns-then-is_code : goal.product-returns-then-is_code
 product-returns-then-is_code t c = start_refused (context c.args.s.now) level.Product c.args.text.now c.factor-start.result refl c.requires.part c.factor-start.ensures (sym c.is_code.ensures ∙ c.if-is_code.true)
 
-pub product-loop-item-init : goal.product-loop-item-init
-product-loop-item-init t c =
-    started (context c.args.s.now) level.Product c.args.text.now c.factor-start.result c.get-number.result c.last_bytes-left.result.now refl c.requires.part c.factor-start.ensures
-    (sym c.is_code.ensures ∙ c.if-is_code.false) c.get-number.ensures c.last_bytes-left.ensures
+pub product-returns-then-not-goes_on : goal.product-returns-then-not-goes_on
+product-returns-then-not-goes_on t c =
+    alone (context c.args.s.now) level.Product c.args.text.now c.factor-start.result c.last_bytes.result.now refl c.requires.part c.factor-start.ensures
+    (sym c.is_code.ensures ∙ c.if-is_code.false) c.last_bytes.ensures (sym c.if-not-goes_on.ensures)
 
-pub product-factor-other-requires : goal.product-factor-other-requires
-product-factor-other-requires t c = (
+pub factors_from-loop-item-init : goal.factors_from-loop-item-init
+factors_from-loop-item-init t c =
+    started (context c.args.s.now) level.Product c.args.text.now c.args.start c.get-number.result c.last_bytes-left.result.now refl c.requires.part c.requires.start
+    c.requires.some c.get-number.ensures c.last_bytes-left.ensures
+
+pub factors_from-factor-other-requires : goal.factors_from-factor-other-requires
+factors_from-factor-other-requires t c = (
   let a = on_shorter (context c.args.s.now) level.Product c.args.text.now c.loop-item.number c.loop-item.left.now c.loop-item.invariant refl (sym c.goes_on.ensures ∙ c.loop-item-test.true) c.rest_after-item.result.now c.rest_after-item.ensures in let b = c.loop-item.invariant.shorter in omega (arith, a, b, c.decreases),
   on_part (context c.args.s.now) level.Product c.args.text.now c.loop-item.number c.loop-item.left.now c.loop-item.invariant refl (sym c.goes_on.ensures ∙ c.loop-item-test.true) c.rest_after-item.result.now c.rest_after-item.ensures,
 )
 
-pub product-returns-then-is_code-2 : goal.product-returns-then-is_code-2
-product-returns-then-is_code-2 t c = on_refused (context c.args.s.now) level.Product c.args.text.now c.loop-item.number c.loop-item.left.now c.loop-item.invariant refl (sym c.goes_on.ensures ∙ c.loop-item-test.true) c.rest_after-item.result.now c.rest_after-item.ensures c.factor-other.result c.factor-other.ensures (sym c.is_code-in-loop-item.ensures ∙ c.if-is_code-2.true)
+pub factors_from-returns-then-is_code : goal.factors_from-returns-then-is_code
+factors_from-returns-then-is_code t c = on_refused (context c.args.s.now) level.Product c.args.text.now c.loop-item.number c.loop-item.left.now c.loop-item.invariant refl (sym c.goes_on.ensures ∙ c.loop-item-test.true) c.rest_after-item.result.now c.rest_after-item.ensures c.factor-other.result c.factor-other.ensures (sym c.is_code.ensures ∙ c.if-is_code.true)
 
-pub product-returns-then-is_code-3 : goal.product-returns-then-is_code-3
-product-returns-then-is_code-3 t c = on_code (context c.args.s.now) level.Product c.args.text.now c.loop-item.number c.loop-item.left.now c.loop-item.invariant refl (sym c.goes_on.ensures ∙ c.loop-item-test.true) c.rest_after-item.result.now c.rest_after-item.ensures c.factor-other.result c.factor-other.ensures (sym c.is_code-in-loop-item.ensures ∙ c.if-is_code-2.false) c.get.result c.get.ensures c.joined-made.result (c.joined-made.ensures ∙ ap (λ (b : ℕ). joined c.args.s.now.env.now.mode b c.loop-item.number c.get.result) c.first.ensures) c.at_end.result c.at_end.ensures (sym c.is_code-in-loop-item-2.ensures ∙ c.if-is_code-3.true)
+pub factors_from-returns-then-is_code-2 : goal.factors_from-returns-then-is_code-2
+factors_from-returns-then-is_code-2 t c = on_code (context c.args.s.now) level.Product c.args.text.now c.loop-item.number c.loop-item.left.now c.loop-item.invariant refl (sym c.goes_on.ensures ∙ c.loop-item-test.true) c.rest_after-item.result.now c.rest_after-item.ensures c.factor-other.result c.factor-other.ensures (sym c.is_code.ensures ∙ c.if-is_code.false) c.get.result c.get.ensures c.joined-made.result (c.joined-made.ensures ∙ ap (λ (b : ℕ). joined c.args.s.now.env.now.mode b c.loop-item.number c.get.result) c.first.ensures) c.at_end.result c.at_end.ensures (sym c.is_code-in-loop-item.ensures ∙ c.if-is_code-2.true)
 
-pub product-loop-item-smaller : goal.product-loop-item-smaller
-product-loop-item-smaller t c = on_smaller (context c.args.s.now) level.Product c.args.text.now c.loop-item.number c.loop-item.left.now c.loop-item.invariant refl (sym c.goes_on.ensures ∙ c.loop-item-test.true) c.rest_after-item.result.now c.rest_after-item.ensures c.factor-other.result c.factor-other.ensures (sym c.is_code-in-loop-item.ensures ∙ c.if-is_code-2.false) c.get.result c.get.ensures c.joined-made.result (c.joined-made.ensures ∙ ap (λ (b : ℕ). joined c.args.s.now.env.now.mode b c.loop-item.number c.get.result) c.first.ensures) c.get-number-in-loop-item.result c.get-number-in-loop-item.ensures c.last_bytes-left-in-loop-item.result.now c.last_bytes-left-in-loop-item.ensures
+pub factors_from-loop-item-smaller : goal.factors_from-loop-item-smaller
+factors_from-loop-item-smaller t c = on_smaller (context c.args.s.now) level.Product c.args.text.now c.loop-item.number c.loop-item.left.now c.loop-item.invariant refl (sym c.goes_on.ensures ∙ c.loop-item-test.true) c.rest_after-item.result.now c.rest_after-item.ensures c.factor-other.result c.factor-other.ensures (sym c.is_code.ensures ∙ c.if-is_code.false) c.get.result c.get.ensures c.joined-made.result (c.joined-made.ensures ∙ ap (λ (b : ℕ). joined c.args.s.now.env.now.mode b c.loop-item.number c.get.result) c.first.ensures) c.get-number-in-loop-item.result c.get-number-in-loop-item.ensures c.last_bytes-left-in-loop-item.result.now c.last_bytes-left-in-loop-item.ensures
 
-pub product-loop-item-preserved : goal.product-loop-item-preserved
-product-loop-item-preserved t c = on_step (context c.args.s.now) level.Product c.args.text.now c.loop-item.number c.loop-item.left.now c.loop-item.invariant refl (sym c.goes_on.ensures ∙ c.loop-item-test.true) c.rest_after-item.result.now c.rest_after-item.ensures c.factor-other.result c.factor-other.ensures (sym c.is_code-in-loop-item.ensures ∙ c.if-is_code-2.false) c.get.result c.get.ensures c.joined-made.result (c.joined-made.ensures ∙ ap (λ (b : ℕ). joined c.args.s.now.env.now.mode b c.loop-item.number c.get.result) c.first.ensures) c.get-number-in-loop-item.result c.get-number-in-loop-item.ensures c.last_bytes-left-in-loop-item.result.now c.last_bytes-left-in-loop-item.ensures
+pub factors_from-loop-item-preserved : goal.factors_from-loop-item-preserved
+factors_from-loop-item-preserved t c = on_step (context c.args.s.now) level.Product c.args.text.now c.loop-item.number c.loop-item.left.now c.loop-item.invariant refl (sym c.goes_on.ensures ∙ c.loop-item-test.true) c.rest_after-item.result.now c.rest_after-item.ensures c.factor-other.result c.factor-other.ensures (sym c.is_code.ensures ∙ c.if-is_code.false) c.get.result c.get.ensures c.joined-made.result (c.joined-made.ensures ∙ ap (λ (b : ℕ). joined c.args.s.now.env.now.mode b c.loop-item.number c.get.result) c.first.ensures) c.get-number-in-loop-item.result c.get-number-in-loop-item.ensures c.last_bytes-left-in-loop-item.result.now c.last_bytes-left-in-loop-item.ensures
 
-pub product-returns : goal.product-returns
-product-returns t c = off (context c.args.s.now) level.Product c.args.text.now c.loop-item.number c.loop-item.left.now c.loop-item.invariant refl (sym c.goes_on.ensures ∙ c.loop-item-test.false) (length c.loop-item.left.now) refl c.with.result c.with.ensures
+pub factors_from-returns : goal.factors_from-returns
+factors_from-returns t c = off (context c.args.s.now) level.Product c.args.text.now c.loop-item.number c.loop-item.left.now c.loop-item.invariant refl (sym c.goes_on.ensures ∙ c.loop-item-test.false) (length c.loop-item.left.now) refl c.with.result c.with.ensures
 
 pub power-operand-start-requires : goal.power-operand-start-requires
 power-operand-start-requires t c = (omega (arith, c.decreases), chain_item level.Power c.args.text.now refl c.requires.part)
@@ -163,31 +174,36 @@ power-operand-start-requires t c = (omega (arith, c.decreases), chain_item level
 pub power-returns-then-is_code : goal.power-returns-then-is_code
 power-returns-then-is_code t c = start_refused (context c.args.s.now) level.Power c.args.text.now c.operand-start.result refl c.requires.part c.operand-start.ensures (sym c.is_code.ensures ∙ c.if-is_code.true)
 
-pub power-loop-item-init : goal.power-loop-item-init
-power-loop-item-init t c =
-    started (context c.args.s.now) level.Power c.args.text.now c.operand-start.result c.get-number.result c.last_bytes-left.result.now refl c.requires.part c.operand-start.ensures
-    (sym c.is_code.ensures ∙ c.if-is_code.false) c.get-number.ensures c.last_bytes-left.ensures
+pub power-returns-then-not-goes_on : goal.power-returns-then-not-goes_on
+power-returns-then-not-goes_on t c =
+    alone (context c.args.s.now) level.Power c.args.text.now c.operand-start.result c.last_bytes.result.now refl c.requires.part c.operand-start.ensures
+    (sym c.is_code.ensures ∙ c.if-is_code.false) c.last_bytes.ensures (sym c.if-not-goes_on.ensures)
 
-pub power-operand-other-requires : goal.power-operand-other-requires
-power-operand-other-requires t c = (
+pub powers_from-loop-item-init : goal.powers_from-loop-item-init
+powers_from-loop-item-init t c =
+    started (context c.args.s.now) level.Power c.args.text.now c.args.start c.get-number.result c.last_bytes-left.result.now refl c.requires.part c.requires.start
+    c.requires.some c.get-number.ensures c.last_bytes-left.ensures
+
+pub powers_from-operand-other-requires : goal.powers_from-operand-other-requires
+powers_from-operand-other-requires t c = (
   let a = on_shorter (context c.args.s.now) level.Power c.args.text.now c.loop-item.number c.loop-item.left.now c.loop-item.invariant refl (sym c.goes_on.ensures ∙ c.loop-item-test.true) c.rest_after-item.result.now c.rest_after-item.ensures in let b = c.loop-item.invariant.shorter in omega (arith, a, b, c.decreases),
   on_part (context c.args.s.now) level.Power c.args.text.now c.loop-item.number c.loop-item.left.now c.loop-item.invariant refl (sym c.goes_on.ensures ∙ c.loop-item-test.true) c.rest_after-item.result.now c.rest_after-item.ensures,
 )
 
-pub power-returns-then-is_code-2 : goal.power-returns-then-is_code-2
-power-returns-then-is_code-2 t c = on_refused (context c.args.s.now) level.Power c.args.text.now c.loop-item.number c.loop-item.left.now c.loop-item.invariant refl (sym c.goes_on.ensures ∙ c.loop-item-test.true) c.rest_after-item.result.now c.rest_after-item.ensures c.operand-other.result c.operand-other.ensures (sym c.is_code-in-loop-item.ensures ∙ c.if-is_code-2.true)
+pub powers_from-returns-then-is_code : goal.powers_from-returns-then-is_code
+powers_from-returns-then-is_code t c = on_refused (context c.args.s.now) level.Power c.args.text.now c.loop-item.number c.loop-item.left.now c.loop-item.invariant refl (sym c.goes_on.ensures ∙ c.loop-item-test.true) c.rest_after-item.result.now c.rest_after-item.ensures c.operand-other.result c.operand-other.ensures (sym c.is_code.ensures ∙ c.if-is_code.true)
 
-pub power-returns-then-is_code-3 : goal.power-returns-then-is_code-3
-power-returns-then-is_code-3 t c = on_code (context c.args.s.now) level.Power c.args.text.now c.loop-item.number c.loop-item.left.now c.loop-item.invariant refl (sym c.goes_on.ensures ∙ c.loop-item-test.true) c.rest_after-item.result.now c.rest_after-item.ensures c.operand-other.result c.operand-other.ensures (sym c.is_code-in-loop-item.ensures ∙ c.if-is_code-2.false) c.get.result c.get.ensures c.joined-made.result (c.joined-made.ensures ∙ ap (λ (b : ℕ). joined c.args.s.now.env.now.mode b c.loop-item.number c.get.result) c.first.ensures) c.at_end.result c.at_end.ensures (sym c.is_code-in-loop-item-2.ensures ∙ c.if-is_code-3.true)
+pub powers_from-returns-then-is_code-2 : goal.powers_from-returns-then-is_code-2
+powers_from-returns-then-is_code-2 t c = on_code (context c.args.s.now) level.Power c.args.text.now c.loop-item.number c.loop-item.left.now c.loop-item.invariant refl (sym c.goes_on.ensures ∙ c.loop-item-test.true) c.rest_after-item.result.now c.rest_after-item.ensures c.operand-other.result c.operand-other.ensures (sym c.is_code.ensures ∙ c.if-is_code.false) c.get.result c.get.ensures c.joined-made.result (c.joined-made.ensures ∙ ap (λ (b : ℕ). joined c.args.s.now.env.now.mode b c.loop-item.number c.get.result) c.first.ensures) c.at_end.result c.at_end.ensures (sym c.is_code-in-loop-item.ensures ∙ c.if-is_code-2.true)
 
-pub power-loop-item-smaller : goal.power-loop-item-smaller
-power-loop-item-smaller t c = on_smaller (context c.args.s.now) level.Power c.args.text.now c.loop-item.number c.loop-item.left.now c.loop-item.invariant refl (sym c.goes_on.ensures ∙ c.loop-item-test.true) c.rest_after-item.result.now c.rest_after-item.ensures c.operand-other.result c.operand-other.ensures (sym c.is_code-in-loop-item.ensures ∙ c.if-is_code-2.false) c.get.result c.get.ensures c.joined-made.result (c.joined-made.ensures ∙ ap (λ (b : ℕ). joined c.args.s.now.env.now.mode b c.loop-item.number c.get.result) c.first.ensures) c.get-number-in-loop-item.result c.get-number-in-loop-item.ensures c.last_bytes-left-in-loop-item.result.now c.last_bytes-left-in-loop-item.ensures
+pub powers_from-loop-item-smaller : goal.powers_from-loop-item-smaller
+powers_from-loop-item-smaller t c = on_smaller (context c.args.s.now) level.Power c.args.text.now c.loop-item.number c.loop-item.left.now c.loop-item.invariant refl (sym c.goes_on.ensures ∙ c.loop-item-test.true) c.rest_after-item.result.now c.rest_after-item.ensures c.operand-other.result c.operand-other.ensures (sym c.is_code.ensures ∙ c.if-is_code.false) c.get.result c.get.ensures c.joined-made.result (c.joined-made.ensures ∙ ap (λ (b : ℕ). joined c.args.s.now.env.now.mode b c.loop-item.number c.get.result) c.first.ensures) c.get-number-in-loop-item.result c.get-number-in-loop-item.ensures c.last_bytes-left-in-loop-item.result.now c.last_bytes-left-in-loop-item.ensures
 
-pub power-loop-item-preserved : goal.power-loop-item-preserved
-power-loop-item-preserved t c = on_step (context c.args.s.now) level.Power c.args.text.now c.loop-item.number c.loop-item.left.now c.loop-item.invariant refl (sym c.goes_on.ensures ∙ c.loop-item-test.true) c.rest_after-item.result.now c.rest_after-item.ensures c.operand-other.result c.operand-other.ensures (sym c.is_code-in-loop-item.ensures ∙ c.if-is_code-2.false) c.get.result c.get.ensures c.joined-made.result (c.joined-made.ensures ∙ ap (λ (b : ℕ). joined c.args.s.now.env.now.mode b c.loop-item.number c.get.result) c.first.ensures) c.get-number-in-loop-item.result c.get-number-in-loop-item.ensures c.last_bytes-left-in-loop-item.result.now c.last_bytes-left-in-loop-item.ensures
+pub powers_from-loop-item-preserved : goal.powers_from-loop-item-preserved
+powers_from-loop-item-preserved t c = on_step (context c.args.s.now) level.Power c.args.text.now c.loop-item.number c.loop-item.left.now c.loop-item.invariant refl (sym c.goes_on.ensures ∙ c.loop-item-test.true) c.rest_after-item.result.now c.rest_after-item.ensures c.operand-other.result c.operand-other.ensures (sym c.is_code.ensures ∙ c.if-is_code.false) c.get.result c.get.ensures c.joined-made.result (c.joined-made.ensures ∙ ap (λ (b : ℕ). joined c.args.s.now.env.now.mode b c.loop-item.number c.get.result) c.first.ensures) c.get-number-in-loop-item.result c.get-number-in-loop-item.ensures c.last_bytes-left-in-loop-item.result.now c.last_bytes-left-in-loop-item.ensures
 
-pub power-returns : goal.power-returns
-power-returns t c = off (context c.args.s.now) level.Power c.args.text.now c.loop-item.number c.loop-item.left.now c.loop-item.invariant refl (sym c.goes_on.ensures ∙ c.loop-item-test.false) (length c.loop-item.left.now) refl c.with.result c.with.ensures
+pub powers_from-returns : goal.powers_from-returns
+powers_from-returns t c = off (context c.args.s.now) level.Power c.args.text.now c.loop-item.number c.loop-item.left.now c.loop-item.invariant refl (sym c.goes_on.ensures ∙ c.loop-item-test.false) (length c.loop-item.left.now) refl c.with.result c.with.ensures
 
 pub factor-power-requires : goal.factor-power-requires
 factor-power-requires t c = (omega (arith, c.decreases), each.plain_part c.args.text.now c.requires.part (sym c.if-not-has_sign.ensures))
@@ -228,7 +244,25 @@ call_at-returns t c =
 pub variable-returns : goal.variable-returns
 variable-returns t c =
     scalar_found (context c.args.s.now) c.args.text.now (scalar_named c.first-letter.result c.counted_digit-digit.result) c.scalar.result c.rest_after-rest.result.now c.with.result c.requires.part
-    (ap is_letter (sym c.first-letter.ensures) ∙ sym c.if-not-is_letter.ensures) c.in-None.is
+    c.requires.letter c.in-None.is
     (c.rest_after-rest.ensures ∙ ap (λ (n : ℕ). drop n c.args.text.now) c.plain_width.ensures) (sym c.is_at.ensures ∙ c.if-is_at.false)
     (ap₂ scalar_named c.first-letter.ensures (c.counted_digit-digit.ensures.digit ∙ ap counted_digit c.at.ensures))
     c.scalar.ensures.value c.scalar.ensures.there c.with.ensures
+
+-- an element with two subscripts
+pub element-returns : goal.element-returns
+element-returns t c =
+    let e = context c.args.s.now in
+    let text = c.args.text.now in
+    let after : c.after_sum-rest.result.now ≡ after_part row.SUM (inside text) = c.after_sum-rest.ensures ∙ ap (λ (u : Text). after_part row.SUM u) c.requires.inside in
+    let item : c.rest_after.result.now ≡ drop 1 (after_part row.SUM (inside text)) = c.rest_after.ensures ∙ ap (λ (u : Text). drop 1 u) after in
+    let comma : (first (after_part row.SUM (inside text)) == byte.comma) ≡ true = ap (λ (u : Text). first u == byte.comma) (sym after) ∙ sym c.if-not-is_at.ensures in
+    let row_is : value e level.Sum (tree_at row.SUM (inside text)) ≡ Ok c.get.result = ap (λ (u : Text). value e level.Sum (tree_at row.SUM u)) (sym c.requires.inside) ∙ sym c.sum-row.ensures.number ∙ c.get.ensures in
+    bound_number (λ (y : Number). number_in e text (subscript c.get.result) (subscript y)) _ _ _ _ c.sum-column.result c.get-2.result _ c.sum-column.ensures
+    (two_is text c.requires.part c.requires.letter c.requires.opening e comma
+    ∙ ap (λ (a : Answer). a >>= (λ r. value e level.Sum (tree_at row.SUM (drop 1 (after_part row.SUM (inside text)))) >>= (λ y. number_in e text (subscript r) (subscript y)))) row_is
+    ∙ ap (λ (u : Text). value e level.Sum (tree_at row.SUM u) >>= (λ y. number_in e text (subscript c.get.result) (subscript y))) (sym item))
+    (sym c.is_code-2.ensures ∙ c.if-is_code-2.false) c.get-2.ensures
+    (c.element_number-2.ensures ∙ (λ i. number_there (record { vars = e.around.own; element = record { global = false; var = plain_array (c.first-2.ensures i) (c.at-2.ensures i); row = c.subscript-at_row.ensures i; column = c.subscript-at_column.ensures i } })))
+    (λ is. c.saturating_sub-2.ensures ∙ ap (λ (n : ℕ). n - 1) is ∙ one_less (after_part row.SUM c.rest_after.result.now)
+    ∙ ap length (ap (λ (u : Text). drop 1 (after_part row.SUM u)) item ∙ sym (two_rest text c.requires.part c.requires.letter c.requires.opening comma)))

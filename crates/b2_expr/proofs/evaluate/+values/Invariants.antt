@@ -11,49 +11,61 @@ use Rattle.b2_expr.proofs.evaluate.+values.Given as goal
 
 -- a call of a function has less room; all else a shorter text, or the same text and a lower rank
 abbrev pub decreases-sum : goal.decreases-sum
-decreases-sum l = 6000 * l.s.now.room + (20 * length l.text.now + 16)
+decreases-sum l = 6000 * l.s.now.room + (20 * length l.text.now + 18)
 
 abbrev pub decreases-product : goal.decreases-product
-decreases-product l = 6000 * l.s.now.room + (20 * length l.text.now + 15)
+decreases-product l = 6000 * l.s.now.room + (20 * length l.text.now + 17)
+
+abbrev pub decreases-factors_from : goal.decreases-factors_from
+decreases-factors_from l = 6000 * l.s.now.room + (20 * length l.text.now + 16)
 
 abbrev pub decreases-factor : goal.decreases-factor
-decreases-factor l = 6000 * l.s.now.room + (20 * length l.text.now + 14)
+decreases-factor l = 6000 * l.s.now.room + (20 * length l.text.now + 15)
 
 abbrev pub decreases-power : goal.decreases-power
-decreases-power l = 6000 * l.s.now.room + (20 * length l.text.now + 13)
+decreases-power l = 6000 * l.s.now.room + (20 * length l.text.now + 14)
+
+abbrev pub decreases-powers_from : goal.decreases-powers_from
+decreases-powers_from l = 6000 * l.s.now.room + (20 * length l.text.now + 13)
 
 abbrev pub decreases-operand : goal.decreases-operand
 decreases-operand l = 6000 * l.s.now.room + (20 * length l.text.now + 12)
 
+abbrev pub decreases-other_operand : goal.decreases-other_operand
+decreases-other_operand l = 6000 * l.s.now.room + (20 * length l.text.now + 11)
+
 abbrev pub decreases-group : goal.decreases-group
-decreases-group l = 6000 * l.s.now.room + (20 * length l.text.now + 11)
+decreases-group l = 6000 * l.s.now.room + (20 * length l.text.now + 10)
 
 abbrev pub decreases-call_at : goal.decreases-call_at
-decreases-call_at l = 6000 * l.s.now.room + (20 * length l.text.now + 11)
+decreases-call_at l = 6000 * l.s.now.room + (20 * length l.text.now + 10)
 
 abbrev pub decreases-of_one_at : goal.decreases-of_one_at
-decreases-of_one_at l = 6000 * l.s.now.room + (20 * length l.text.now + 11)
+decreases-of_one_at l = 6000 * l.s.now.room + (20 * length l.text.now + 10)
 
 abbrev pub decreases-of_two_at : goal.decreases-of_two_at
-decreases-of_two_at l = 6000 * l.s.now.room + (20 * length l.text.now + 11)
+decreases-of_two_at l = 6000 * l.s.now.room + (20 * length l.text.now + 10)
 
 abbrev pub decreases-of_more_at : goal.decreases-of_more_at
-decreases-of_more_at l = 6000 * l.s.now.room + (20 * length l.text.now + 11)
+decreases-of_more_at l = 6000 * l.s.now.room + (20 * length l.text.now + 10)
 
 abbrev pub decreases-of_alpha_at : goal.decreases-of_alpha_at
-decreases-of_alpha_at l = 6000 * l.s.now.room + (20 * length l.text.now + 11)
+decreases-of_alpha_at l = 6000 * l.s.now.room + (20 * length l.text.now + 10)
 
 abbrev pub decreases-position_at : goal.decreases-position_at
-decreases-position_at l = 6000 * l.s.now.room + (20 * length l.text.now + 11)
+decreases-position_at l = 6000 * l.s.now.room + (20 * length l.text.now + 10)
 
 abbrev pub decreases-bytes_at : goal.decreases-bytes_at
-decreases-bytes_at l = 6000 * l.s.now.room + (20 * length l.text.now + 11)
+decreases-bytes_at l = 6000 * l.s.now.room + (20 * length l.text.now + 10)
 
 abbrev pub decreases-variable : goal.decreases-variable
-decreases-variable l = 6000 * l.s.now.room + (20 * length l.text.now + 11)
+decreases-variable l = 6000 * l.s.now.room + (20 * length l.text.now + 10)
+
+abbrev pub decreases-element : goal.decreases-element
+decreases-element l = 6000 * l.s.now.room + (20 * length l.text.now + 9)
 
 abbrev pub decreases-hidden_or_there : goal.decreases-hidden_or_there
-decreases-hidden_or_there l = 6000 * l.s.now.room + (20 * length l.text.now + 10)
+decreases-hidden_or_there l = 6000 * l.s.now.room + (20 * length l.text.now + 9)
 
 abbrev pub decreases-alpha : goal.decreases-alpha
 decreases-alpha l = 6000 * l.s.now.room + (20 * length l.text.now + 10)
@@ -95,17 +107,17 @@ invariant-sum-loop-item l = GoesOn (context l.s) level.Sum l.text l.number l.lef
 abbrev pub decreases-sum-loop-item : goal.decreases-sum-loop-item
 decreases-sum-loop-item l = length l.left
 
-abbrev pub invariant-product-loop-item : goal.invariant-product-loop-item
-invariant-product-loop-item l = GoesOn (context l.s) level.Product l.text l.number l.left
+abbrev pub invariant-factors_from-loop-item : goal.invariant-factors_from-loop-item
+invariant-factors_from-loop-item l = GoesOn (context l.s) level.Product l.text l.number l.left
 
-abbrev pub decreases-product-loop-item : goal.decreases-product-loop-item
-decreases-product-loop-item l = length l.left
+abbrev pub decreases-factors_from-loop-item : goal.decreases-factors_from-loop-item
+decreases-factors_from-loop-item l = length l.left
 
-abbrev pub invariant-power-loop-item : goal.invariant-power-loop-item
-invariant-power-loop-item l = GoesOn (context l.s) level.Power l.text l.number l.left
+abbrev pub invariant-powers_from-loop-item : goal.invariant-powers_from-loop-item
+invariant-powers_from-loop-item l = GoesOn (context l.s) level.Power l.text l.number l.left
 
-abbrev pub decreases-power-loop-item : goal.decreases-power-loop-item
-decreases-power-loop-item l = length l.left
+abbrev pub decreases-powers_from-loop-item : goal.decreases-powers_from-loop-item
+decreases-powers_from-loop-item l = length l.left
 
 -- the numbers that are left give what all of them do
 abbrev pub invariant-further_numbers-loop : goal.invariant-further_numbers-loop

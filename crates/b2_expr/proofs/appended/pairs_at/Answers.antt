@@ -4,7 +4,7 @@ use Rattle.b2_atom.specs.declared.rows.TheConstants as row
 use Rattle.b2_atom.specs.declared.forms.Start.TheVariants as start
 use Rattle.b2_rows.specs.Rows.{is_list, after_list}
 use Rattle.b2_expr.proofs.Pairs as pairs
-use Rattle.b2_expr.proofs.evaluate.pairs_at.Goals as goal
+use Rattle.b2_expr.proofs.appended.pairs_at.Goals as goal
 
 pub loop-into-preserved : goal.loop-into-preserved
 loop-into-preserved c =

@@ -3,7 +3,7 @@ use Rattle.b2_atom.specs.declared.rows.TheConstants as row
 use Rattle.b2_atom.specs.declared.forms.Start.TheVariants as start
 use Rattle.b2_rows.specs.Rows.{tree_at, after_part, is_list, list_at, after_list}
 use Rattle.b2_expr.specs.Value.{pairs_of, pair_bytes}
-use Rattle.b2_expr.proofs.evaluate.pairs_at.Given as goal
+use Rattle.b2_expr.proofs.appended.pairs_at.Given as goal
 
 -- the bytes so far, and those of the pairs that are left
 abbrev pub invariant-loop-into : goal.invariant-loop-into
