@@ -1,11 +1,12 @@
 // Assigning to receivers, among the variables in which they were located.
-ghost use Rattle.std.specs.Prelude.{◌≡◌, true, length, Err, IfErr, IfOk, OnOk, OnErr};
+ghost use Rattle.std.specs.Prelude.{◌≡◌, [], true, length, Err, Some, IfErr, IfOk, OnOk, OnErr};
 ghost use Rattle.std.specs.Fn.{FnOnceReturnsAtMut};
 ghost use Rattle.b2_base.specs.declared.codes.Fault.TheVariants as of_fault;
+ghost use Rattle.b2_alpha.specs.Values.{padded};
 ghost use Rattle.b2_vars.specs.Answers.{AnswersOrFails};
 ghost use Rattle.b2_vars.specs.Variables.{is_alpha};
 ghost use Rattle.b2_receiver.specs.Assigning as spec;
-ghost use Rattle.b2_receiver.specs.Assigning.{ChangesBuffer, Ends, EndsWith, HasCode, IsThere, assigned_bytes, assigned_number, assigned_side, assigned_value, buffer_code, is_alpha_receiver, is_reached, portion_in, reached_by, receiver_code, with_portion};
+ghost use Rattle.b2_receiver.specs.Assigning.{ChangesBuffer, Ends, EndsWith, HasCode, IsThere, assigned_bytes, assigned_number, assigned_side, assigned_value, buffer_code, bytes_changed, is_alpha_receiver, is_reached, portion_in, reached_by, receiver_code, with_portion};
 ghost use Rattle.b2_receiver.specs.Receivers.{IsAlpha, IsBuffer, IsNamed, IsNumeric};
 ghost use Rattle.b2_receiver.specs.RightSide.{side_seen};
 
@@ -95,6 +96,23 @@ pub fn assign_bytes(vars: &mut Vars, to: &AlphaReceiver, bytes: &[u8]) -> Result
     assign(part, bytes);
     put(vars, to, part);
     Ok(())
+}
+
+/// Puts bytes, cut or padded with blanks, in the place of those of a buffer.
+#[tactic(auto, using(crate::proofs::Changed::changed_ends))]
+fn put_over(vars: &mut Vars, to: &Buffer, bytes: &[u8]) -> Result<(), Fault>
+    requires named { IsBuffer to.now }
+    ensures { Ends (bytes_changed (λ old. padded (length old) bytes.now) to.now vars.old) vars.old vars.new result }
+{
+    change_buffer(vars, to, |part| assign(part, bytes))
+}
+
+/// Assigns bytes, as `assign_side` does with a right side of one operand without operations.
+pub fn assign_first(vars: &mut Vars, to: &AlphaReceiver, bytes: &[u8]) -> Result<(), Fault>
+    requires named { IsAlpha to.now.element.var }
+    ensures { Ends (assigned_side to.now (record { first = Some bytes.now; operations = [] }) vars.old) vars.old vars.new result }
+{
+    put_over(vars, &Buffer::Value(*to), bytes)
 }
 
 /// Assigns a value of the receiver's kind.

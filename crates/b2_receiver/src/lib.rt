@@ -22,10 +22,11 @@ mod receivers;
 mod receiving;
 
 pub use assign::{
-    assign_bytes, assign_number, assign_side, assign_value, buffer_bytes, change_buffer, code_of,
-    code_of_fault, is_reached,
+    assign_bytes, assign_first, assign_number, assign_side, assign_value, buffer_bytes,
+    change_buffer, code_of, code_of_fault, is_reached,
 };
-pub use operations::{AlphaOperator, Operation, RightSide, is_right_side_read};
+pub use locate::{alpha_receiver_at, number_receiver_at};
+pub use operations::{AlphaOperator, Operation, RightSide, is_operation_at, is_right_side_read};
 pub use passing::{past_alpha_receiver, past_any_receiver, past_number_receiver};
 pub use receiver::{AlphaReceiver, Array, Buffer, Portion, Receiver};
 pub use receivers::{
