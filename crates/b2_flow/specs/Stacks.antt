@@ -47,6 +47,11 @@ abbrev pub without_top_loop : List Frame → List Frame
 without_top_loop [] = []
 without_top_loop (frame ∷ below) = if is_loop frame then below else frame ∷ below
 
+-- without the call on top; where no call stands there, all as before
+abbrev pub without_top_call : List Frame → List Frame
+without_top_call [] = []
+without_top_call (frame ∷ below) = if is_call frame then below else frame ∷ below
+
 -- the partition whose text the frame on top entered, where it is a call that did so
 abbrev pub entered_on_top : List Frame → Option ℕ
 entered_on_top [] = None

@@ -1,12 +1,12 @@
 // The stack of frames.
-ghost use Rattle.std.specs.Prelude.{◌≡◌, ◌≤◌, ◌-◌, ℕ, List, [], ◌∷◌, ◌++◌, ◌<◌, Some, None, is_some, OnSome, IfNone, length, reverse, not, nat_lt, is_ok, IfOk, IfErr, OnOk, OnErr, if◌then◌else◌};
+ghost use Rattle.std.specs.Prelude.{◌≡◌, ◌≤◌, ◌-◌, ℕ, List, [], ◌∷◌, ◌++◌, ◌<◌, Some, None, is_some, OnSome, IfNone, length, reverse, not, nat_lt, is_ok, IfOk, IfErr, OnOk, OnErr, option_copied, if◌then◌else◌};
 ghost use Rattle.std.specs.Int.{bit_at};
 ghost use Rattle.std.specs.Vec.{vec_capacity};
 ghost use Rattle.std.specs.List.{filter, list_any, slice_get};
 ghost use Rattle.b2_base.specs.declared.codes.TheConstants.{A04_TOO_DEEP, P40_NO_FOR, P41_NO_CALL};
 ghost use Rattle.b2_flow.specs.declared.frame.Frame.TheVariants.{Call};
 ghost use Rattle.b2_flow.specs.Frames.{is_immediate_loop, enters};
-ghost use Rattle.b2_flow.specs.Stacks.{entered_last, has_room, most_frames, has_loop, from_loop, has_call, from_call, top_loop, without_top_loop};
+ghost use Rattle.b2_flow.specs.Stacks.{entered_last, has_room, most_frames, has_loop, from_loop, has_call, from_call, top_loop, without_top_call, without_top_loop};
 
 use crate::frame::{Frame, Place, Var2};
 use crate::search;
@@ -103,6 +103,16 @@ impl Stack {
         }
     }
 
+    /// Drops the call on top. Where a loop or nothing is on top, all stays as it is.
+    #[inline(always)]
+    pub fn end_call(&mut self)
+        ensures { self.new ≡ without_top_call self.old }
+    {
+        if let Some(Frame::Call { .. }) = self.frames.last() {
+            self.frames.pop();
+        }
+    }
+
     /// Takes the nearest call and the loops above it away: where the call leads back to, and the partition whose text it
     /// entered. P41 comes exactly where there is no call, and then all is as before.
     pub fn pop_call(&mut self) -> Result<(Option<Place>, Option<Part>), Code>
@@ -151,6 +161,20 @@ impl Stack {
         ensures few { result ≤ most_frames }
     {
         self.frames.len()
+    }
+
+    /// The frame on top, None exactly where there is none.
+    #[inline(always)]
+    pub fn top(&self) -> Option<&Frame>
+        ensures { option_copied result ≡ slice_get self.now 0 }
+    {
+        self.frames.last()
+    }
+
+    /// The allocator that its memory comes from.
+    #[inline(always)]
+    pub fn allocator(&self) -> Global {
+        *self.frames.allocator()
     }
 
     /// The k-th frame from below, counted from 0, None exactly where at most k are there.
