@@ -38,3 +38,7 @@ led_to (planned.Ask a) following = None
 abbrev pub Passes : Option (ℕ × ℕ) → Found → Private → Private → Planning → Type 0
 Passes None f me after p = after ≡ me
 Passes (Some l) f me after p = (p.me ≡ after) × (led_to p.planned (place_following f) ≡ Some (place_led f.place.home l))
+
+-- beside where it stands it changes variables, frames, the arguments of a call and where READ looks next, and nothing else
+abbrev pub ChangesInPassing : Private → Private → Type 0
+ChangesInPassing me after = after ≡ record me { vars = after.vars; stack = after.stack; args = after.args; next_data = after.next_data }

@@ -1,6 +1,6 @@
 // Where a statement leads that was done in passing, in words.
-ghost use Rattle.std.specs.Prelude.{◌≡◌, ◌<◌, ◌≤◌, true, Some, None};
-ghost use Rattle.b2_access.specs.Lead.{is_done, lead_seen};
+ghost use Rattle.std.specs.Prelude.{◌≡◌, ◌<◌, ◌≤◌, true, false, Some, None};
+ghost use Rattle.b2_access.specs.Lead.{is_done, lead_seen, memory_failed};
 ghost use Rattle.b2_access.specs.Passing as spec;
 ghost use Rattle.b2_access.specs.Places.{IsUnit, goal_place};
 
@@ -12,10 +12,13 @@ use b2_rows::{Goal, next_unit};
 /// The line that stands for none.
 const NO_LINE: u32 = 65536;
 
+/// And the one that stands for none where memory failed.
+const NO_MEMORY: u32 = 65537;
+
 /// Where a statement leads that was done in passing, or that it wasn't done.
 #[derive(Clone, Copy)]
 pub struct Lead {
-    /// The number of the line, `NO_LINE` for none.
+    /// The number of the line, `NO_LINE` or `NO_MEMORY` for none.
     pub line: u32,
     /// The place of the unit.
     pub unit: u8,
@@ -25,12 +28,33 @@ impl Lead {
     /// It wasn't done.
     #[inline(always)]
     pub fn none() -> Lead
-        ensures { lead_seen result ≡ None }
+        ensures none { lead_seen result ≡ None }
+        ensures failed { memory_failed result ≡ false }
     {
         Lead {
             line: NO_LINE,
             unit: 0,
         }
+    }
+
+    /// It wasn't done since memory failed: then it isn't to be tried another way.
+    #[inline(always)]
+    pub fn no_memory() -> Lead
+        ensures none { lead_seen result ≡ None }
+        ensures failed { memory_failed result ≡ true }
+    {
+        Lead {
+            line: NO_MEMORY,
+            unit: 0,
+        }
+    }
+
+    /// Whether memory failed.
+    #[inline(always)]
+    pub fn memory_failed(self) -> bool
+        ensures { result ≡ memory_failed self }
+    {
+        self.line == NO_MEMORY
     }
 
     /// To a unit of a line.
@@ -67,6 +91,7 @@ impl Lead {
 }
 
 /// To the first unit of the line after that of a statement.
+#[inline(always)]
 fn lead_to_next_line(found: &Found<'_>) -> Lead
     ensures { lead_seen result ≡ spec.lead_of (goal_place found.now.home.now.lines found.now.place Goal.NextLine) }
 {
@@ -80,6 +105,7 @@ fn lead_to_next_line(found: &Found<'_>) -> Lead
 }
 
 /// To a unit of its line.
+#[inline(always)]
 fn lead_to_unit(found: &Found<'_>, k: usize) -> Lead
     requires { k ≤ 255 }
     ensures { lead_seen result ≡ spec.lead_of (goal_place found.now.home.now.lines found.now.place (Goal.Unit k)) }
@@ -91,6 +117,7 @@ fn lead_to_unit(found: &Found<'_>, k: usize) -> Lead
 }
 
 /// Where a goal leads from a statement in a line of the program, where that is on its own line or the next; none where the program ends.
+#[inline(always)]
 pub fn lead_to_goal(found: &Found<'_>, goal: Goal) -> Lead
     requires unit { IsUnit goal }
     ensures { lead_seen result ≡ spec.lead_of (goal_place found.now.home.now.lines found.now.place goal) }
@@ -103,6 +130,7 @@ pub fn lead_to_goal(found: &Found<'_>, goal: Goal) -> Lead
 }
 
 /// To the place after a statement, where nothing else is said; none where the program ends.
+#[inline(always)]
 pub fn lead_on(found: &Found<'_>) -> Lead
     requires few { found.now.place.unit < 255 }
     ensures { lead_seen result ≡ spec.lead_of (spec.place_following found.now) }

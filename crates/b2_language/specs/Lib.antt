@@ -1,4 +1,3 @@
 pub mod Wanted
 pub mod Languages
 pub mod Following
-pub mod AtOnce

@@ -1,15 +1,15 @@
 // What the statements of a language do.
-ghost use Rattle.std.specs.Prelude.{◌≡◌, ℕ, Bool, true, List, None, IfOk};
+ghost use Rattle.std.specs.Prelude.{◌≡◌, ℕ, Bool, true, false, List, None, IfOk, is_some};
 ghost use Rattle.std.specs.Option.{option_map_or};
 ghost use Rattle.b2_access.specs.declared.devices.Device.{Device};
 ghost use Rattle.b2_access.specs.Answering.{can_answer};
-ghost use Rattle.b2_access.specs.Found.{IsFound, seen_found};
+ghost use Rattle.b2_access.specs.Found.{IsFound, seen_found, statement_found};
 ghost use Rattle.b2_access.specs.Lending.{globals_lent, seen_lent};
 ghost use Rattle.b2_access.specs.Lead.{lead_seen};
-ghost use Rattle.b2_access.specs.Passing.{Passes};
+ghost use Rattle.b2_access.specs.Passing.{ChangesInPassing, Passes};
 ghost use Rattle.b2_vars.specs.Globals.{unreached};
-ghost use Rattle.b2_language.specs.AtOnce.{IsFoundAtOnce};
 ghost use Rattle.b2_language.specs.Languages.{AreLawful, AskForListed, KeepOpenFiles, Ways};
+ghost use Rattle.b2_language.specs.Wanted.{names_globals};
 
 use b2_access::{Access, Answer, DeviceTable, Found, Lead, Lent, Outcome, Planned, Private};
 use b2_base::NoMemory;
@@ -76,11 +76,14 @@ pub trait Language {
         ensures same_reference { lent.new.globals.ghost_name ≡ lent.old.globals.ghost_name }
         ensures part { me.new.part ≡ me.old.part };
 
-    /// Does such a statement in passing, which names no `@` variables: all that it does is done, and where it leads is told. Where the
-    /// language can't, or it is for a fault or an access, nothing has changed.
+    /// Does a statement in passing that was found in a line of the program and names no `@` variables: all that it does is done, and where
+    /// it leads is told. Where the language can't, or it is for a fault or an access, nothing has changed; nor where memory failed, which the lead then says.
     fn pass(me: &mut Private, found: &Found<'_>) -> Lead
-        requires at_once { IsFoundAtOnce at_once found.now me.old }
+        requires found { IsFound found.now found.now.home.now.lines me.old }
+        requires local { names_globals (statement_found found.now).tree ≡ false }
         ensures passes { (devices : List Device) → Passes (lead_seen result) found.now me.old me.new ((ways devices).plan found.now.unit.now.row me.old (seen_found found.now (unreached None))) }
+        ensures built { (devices : List Device) → is_some (lead_seen result) ≡ true → (ways devices).built found.now.unit.now.row ≡ true }
+        ensures undisturbed { ChangesInPassing me.old me.new }
         ensures part { me.new.part ≡ me.old.part };
 
     /// What `plan` says of any statement that was found so; where the language has no shorter way it is looked up again.

@@ -6,7 +6,7 @@
 //!
 //! Stands on `b2_access` for the private state, what is lent, accesses and answers, on `b2_rows` for units, on `b2_text` and
 //! `b2_flow` for lines and places, on `b2_atom` and `b2_base`. The definitions are in `specs/`: what a language is and owes in
-//! `Languages`, a statement that is planned at once in `AtOnce`, where a unit leads by itself in `Following`, and whose `@` variables are
+//! `Languages`, where a unit leads by itself in `Following`, and whose `@` variables are
 //! lent in `Wanted`.
 #![tactic(auto)]
 

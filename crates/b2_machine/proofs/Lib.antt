@@ -25,4 +25,5 @@ pub mod StepOpenFiles
 pub mod Passing
 pub mod Passed
 pub mod Runs
+pub mod Onward
 pub mod Advances

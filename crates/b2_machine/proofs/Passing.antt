@@ -1,5 +1,5 @@
 -- Statements one after another: what a run of them has come to so far, and how it ends.
-use Rattle.std.proofs.Common.{◌≡◌, ℕ, suc, ◌+◌, ◌<◌, ◌≤◌, false, true≢false, refl, sym, ap, subst, ◌∙◌, arith, Option, Some, None, is_some}
+use Rattle.std.proofs.Common.{◌≡◌, ℕ, suc, zero, ◌+◌, ◌<◌, ◌≤◌, false, true≢false, refl, sym, ap, subst, ◌∙◌, arith, Option, Some, None, is_some}
 use Rattle.b2_flow.specs.declared.frame.Place.{Place}
 use Rattle.b2_access.specs.Lending.{SeenLent}
 use Rattle.b2_access.specs.declared.accesses.Access.{Access}
@@ -32,6 +32,24 @@ module _ (ways : Ways) (home : ℕ) (s : SeenLent) where
   unfolding AllLead
   lead_more n me h more = (h, more)
 
+  -- some that led on, and then others
+  pub led_joined : (n k : ℕ) (first : Private) → led ways home s (n + k) first ≡ led ways home s k (led ways home s n first)
+  led_joined n zero first = let same : n + 0 ≡ n = omega arith in ap (λ (j : ℕ). led ways home s j first) same ∙ sym (led_none (led ways home s n first))
+  led_joined n (suc k) first =
+      let more : n + suc k ≡ suc (n + k) = omega arith in
+      ap (λ (j : ℕ). led ways home s j first) more ∙ led_more (n + k) first ∙ ap (λ (x : Private). (begins_next ways home s x).me) (led_joined n k first) ∙ sym (led_more k (led ways home s n first))
+
+  all_but_last : (k : ℕ) (me : Private) → AllLead ways home s (suc k) me → AllLead ways home s k me × Leads ways home s (led ways home s k me)
+  unfolding AllLead
+  all_but_last k me h = h
+
+  pub lead_joined : (n k : ℕ) (first : Private) → AllLead ways home s n first → AllLead ways home s k (led ways home s n first) → AllLead ways home s (n + k) first
+  lead_joined n zero first some others = let same : n ≡ n + 0 = omega arith in subst (λ (j : ℕ). AllLead ways home s j first) same some
+  lead_joined n (suc k) first some others =
+      let more : suc (n + k) ≡ n + suc k = omega arith in
+      let parts = all_but_last k (led ways home s n first) others in
+      subst (λ (j : ℕ). AllLead ways home s j first) more (lead_more (n + k) first (lead_joined n k first some parts.0) (subst (Leads ways home s) (sym (led_joined n k first)) parts.1))
+
   leads_there : (me you : Private) (p : Place) (a : Option Access) → place_in home me ≡ Some p → Opens ways p me you s a opening.Leads → Leads ways home s me
   leads_there me you p a is_p opens = record {
     there = ap is_some is_p;
@@ -50,6 +68,13 @@ module _ (ways : Ways) (home : ℕ) (s : SeenLent) where
           subst (λ (k : ℕ). AllLead ways home s k first) more (lead_more n first lead (subst (Leads ways home s) (sym is_led) (leads_there me you p a is_p opens))),
           sym (ap (λ (k : ℕ). led ways home s k first) more) ∙ led_more n first ∙ ap (λ (x : Private). (begins_next ways home s x).me) is_led ∙ next_there me you p a is_p opens,
         )
+
+    -- others led on after them
+    pub joined : (k : ℕ) (mid : Private) → AllLead ways home s k me → led ways home s k me ≡ mid → AllLead ways home s (n + k) first × (led ways home s (n + k) first ≡ mid)
+    joined k mid others is_mid = (
+      lead_joined n k first lead (subst (AllLead ways home s k) (sym is_led) others),
+      led_joined n k first ∙ ap (led ways home s k) is_led ∙ is_mid,
+    )
 
     -- the run ends after them, and nothing was opened, where no further one may be executed
     pub ends_there : (left : ℕ) (a : Option Access) → n ≤ left → you ≡ me → (n < left → place_in home me ≡ None) → RunsOn ways home s left first you a (record { steps = n; last = None })

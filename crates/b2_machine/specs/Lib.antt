@@ -11,6 +11,7 @@ pub mod Step
 pub mod Turn
 pub mod Stays
 pub mod Advancing
+pub mod AtOnce
 pub mod Touched
 pub mod OpenFiles
 pub mod Counting

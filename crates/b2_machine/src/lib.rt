@@ -10,7 +10,7 @@
 //! on `b2_syntax` and `b2_lister` for lines, on `b2_rows`, `b2_text` and `b2_flow` for places, on `b2_atom` and `b2_base`.
 //!
 //! The definitions are in `specs/`: how a step ends in `Endings`, what is shown in `Messages`, becoming ready in `Readiness`,
-//! where a partition goes on in `Moving`, LIST in `Listed`, the choice among statements in `Statements`, typed lines in
+//! where a partition goes on in `Moving`, LIST in `Listed`, the choice among statements in `Statements`, one that is planned at once in `AtOnce`, typed lines in
 //! `Typing`, special function keys in `Keys`, the six rules in `Step`, turns in `Turn`, statements one after another over one loan in
 //! `Running`, how far a turn goes on at once in `Advancing`, and what a step touches and writes in
 //! `Touched`. What holds of steps stands in `laws`.

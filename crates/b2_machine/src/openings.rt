@@ -3,15 +3,17 @@ ghost use Rattle.std.specs.Prelude.{◌≡◌, false, List, Some, None, IfOk, if
 ghost use Rattle.b2_atom.specs.Tree.{uses_in};
 ghost use Rattle.b2_access.specs.declared.devices.Device.{Device};
 ghost use Rattle.b2_access.specs.Found.{IsFound, statement_found};
-ghost use Rattle.b2_language.specs.AtOnce.{IsFoundAtOnce};
+ghost use Rattle.b2_access.specs.Lead.{lead_seen};
 ghost use Rattle.b2_language.specs.Wanted as wanted;
+ghost use Rattle.b2_machine.specs.AtOnce.{IsFoundAtOnce};
+ghost use Rattle.b2_machine.specs.Running.{is_undisturbed};
 ghost use Rattle.b2_machine.specs.Statements as spec;
 
 use crate::moving::{onward_on, settle_on};
 use crate::readiness::become_ready_quietly;
 use crate::statements::{Builder, Opening, Progress, begin_over, builder_of, plan_found};
 use b2_access::{
-    Access, At, DeviceTable, Found, Lent, Planned, Private, statement_on, statement_placed,
+    Access, At, DeviceTable, Found, Lead, Lent, Planned, Private, statement_on, statement_placed,
 };
 use b2_base::NoMemory;
 use b2_flow::Place;
@@ -146,18 +148,53 @@ fn open_planned<L: Language>(
     }
 }
 
-/// A statement that was found in a line of the program is done in passing, where the language can; whether it was.
-fn pass_found<L: Language>(me: &mut Private, found: &Found<'_>) -> bool
-    requires found { IsFoundAtOnce L.at_once found.now me.old }
-    ensures passed { (devices : List Device) → spec.HasPassed result (L.ways devices) found.now.place me.old me.new (spec.texts_seen found.now.own.now found.now.home.now) }
+/// A statement that was found in a line of the program, and wants no `@` variables, is done in passing, where the language can. Where it
+/// leads then, and there the partition stands.
+#[inline(always)]
+fn pass_found<L: Language>(me: &mut Private, found: &Found<'_>) -> Lead
+    requires found { IsFound found.now found.now.home.now.lines me.old }
+    requires local { wanted.names_globals (statement_found found.now).tree ≡ false }
+    ensures passed { (devices : List Device) → spec.HasPassed (lead_seen result) (L.ways devices) found.now.place me.old me.new (spec.texts_seen found.now.own.now found.now.home.now) }
+    ensures undisturbed { is_undisturbed me.new ≡ is_undisturbed me.old }
     ensures part { me.new.part ≡ me.old.part }
 {
     let lead = L::pass(me, found);
-    if !lead.is_done() {
-        return false;
+    if lead.is_done() {
+        move_to(me, lead.place(found.place.home));
     }
-    move_to(me, lead.place(found.place.home));
-    true
+    lead
+}
+
+/// The statement at a place in the program of a home is done in passing, where it is there, wants no `@` variables, and the language can.
+/// Where it leads then, and there the partition stands.
+#[inline(always)]
+pub fn pass_at<L: Language>(me: &mut Private, own: &Text, home: &Text, place: Place) -> Lead
+    requires stands { me.old.place ≡ Some place }
+    ensures passed { (devices : List Device) → spec.HasPassed (lead_seen result) (L.ways devices) place me.old me.new (spec.texts_seen own.now home.now) }
+    ensures undisturbed { is_undisturbed me.new ≡ is_undisturbed me.old }
+    ensures part { me.new.part ≡ me.old.part }
+{
+    let Some(n) = place.line else {
+        return Lead::none();
+    };
+    let Some(line) = home.line(n) else {
+        return Lead::none();
+    };
+    let line = line.lend();
+    let Some(unit) = statement_on(&line, usize::from(place.unit)) else {
+        return Lead::none();
+    };
+    if names_globals(&unit) {
+        return Lead::none();
+    }
+    let found = Found {
+        own,
+        home,
+        line: &line,
+        unit: &unit,
+        place,
+    };
+    pass_found::<L>(me, &found)
 }
 
 /// A statement that was found in a line of the program is opened.
@@ -185,23 +222,9 @@ fn open_found<L: Language>(
     open_planned::<L>(alloc, me, spare, devices, found, access)
 }
 
-/// A statement that was found in a line of the program is done in passing, where it wants no `@` variables and the language can;
-/// whether it was.
-fn pass_where_it_may<L: Language>(me: &mut Private, found: &Found<'_>) -> bool
-    requires found { IsFound found.now found.now.home.now.lines me.old }
-    requires uses { found.now.unit.now.uses ≡ uses_in (statement_found found.now).tree }
-    ensures passed { (devices : List Device) → spec.HasPassed result (L.ways devices) found.now.place me.old me.new (spec.texts_seen found.now.own.now found.now.home.now) }
-    ensures part { me.new.part ≡ me.old.part }
-{
-    if names_globals(found.unit) || !L::is_at_once(found.unit.row) {
-        return false;
-    }
-    pass_found::<L>(me, found)
-}
-
-/// A statement that was found in a line of the program is done in passing, or opened; whether the turn goes on after it. Where it
-/// doesn't, how it was opened goes to the caller.
-fn pass_or_open<L: Language>(
+/// A statement that was found in a line of the program is opened; whether the turn goes on after it. Where it doesn't, how it was opened
+/// goes to the caller.
+fn lead_or_open<L: Language>(
     alloc: Global,
     me: &mut Private,
     spare: &mut Vars,
@@ -216,9 +239,6 @@ fn pass_or_open<L: Language>(
     ensures opened { IfOk result (λ led. spec.Opens (L.ways devices.now) found.now.place me.old me.new (spec.texts_seen found.now.own.now found.now.home.now) access.new (if led then Opening.Leads else opening.new)) }
     ensures part { me.new.part ≡ me.old.part }
 {
-    if pass_where_it_may::<L>(me, found) {
-        return Ok(true);
-    }
     let opened = open_found::<L>(alloc, me, spare, devices, found, access)?;
     match opened {
         Opening::Leads => Ok(true),
@@ -229,8 +249,8 @@ fn pass_or_open<L: Language>(
     }
 }
 
-/// The statement at a place in the program of a home is done in passing, or opened over texts alone; whether the turn goes on after it.
-/// Where it doesn't, how it was opened goes to the caller, and so does what it asks for.
+/// The statement at a place in the program of a home is opened over texts alone; whether the turn goes on after it. Where it doesn't,
+/// how it was opened goes to the caller, and so does what it asks for.
 pub fn open_in_program<L: Language>(
     alloc: Global,
     me: &mut Private,
@@ -267,7 +287,7 @@ pub fn open_in_program<L: Language>(
         unit: &unit,
         place: *place,
     };
-    pass_or_open::<L>(alloc, me, spare, devices, &found, access, opening)
+    lead_or_open::<L>(alloc, me, spare, devices, &found, access, opening)
 }
 
 /// The statement at a place of a partition is opened over texts alone: it begins where it wants no `@` variables, and what it asks for

@@ -1,9 +1,11 @@
 // Statements of a partition one after another over one loan of texts.
-ghost use Rattle.std.specs.Prelude.{◌≡◌, None, IfOk};
+ghost use Rattle.std.specs.Prelude.{◌≡◌, ◌≤◌, List, None, IfOk};
+ghost use Rattle.b2_access.specs.declared.devices.Device.{Device};
 ghost use Rattle.b2_machine.specs.Running as spec;
+ghost use Rattle.b2_machine.specs.Running.{AllLead, led};
 ghost use Rattle.b2_machine.specs.Statements.{texts_seen};
 
-use crate::openings::open_in_program;
+use crate::openings::{open_in_program, pass_at};
 use crate::statements::Opening;
 use b2_access::{Access, DeviceTable, Private};
 use b2_base::{NoMemory, Part};
@@ -69,8 +71,42 @@ pub fn place_in(home: Part, me: &Private) -> Option<Place>
     }
 }
 
-/// Statements in the program of a home, one after another: at most so many, up to the first after which the turn doesn't go on. Where that
-/// asks for an access, the access goes to the caller.
+/// Statements in the program of a home that are done in passing, one after another, up to the first that isn't, and at most so many. How
+/// many they were.
+#[inline(never)]
+fn pass_on<L: Language>(
+    me: &mut Private,
+    own: &Text,
+    text: &Text,
+    home: Part,
+    left: u16,
+) -> Result<u16, NoMemory>
+    ensures lead { IfOk result (λ n. (devices : List Device) → AllLead (L.ways devices) home (texts_seen own.now text.now) n me.old) }
+    ensures led { IfOk result (λ n. (devices : List Device) → led (L.ways devices) home (texts_seen own.now text.now) n me.old ≡ me.new) }
+    ensures few { IfOk result (λ n. n ≤ left) }
+    ensures part { me.new.part ≡ me.old.part }
+{
+    let mut steps = 0;
+    let Some(start) = place_in(home, me) else {
+        return Ok(steps);
+    };
+    let mut place = start;
+    for _ in 0..left {
+        let lead = pass_at::<L>(me, own, text, place);
+        if !lead.is_done() {
+            if lead.memory_failed() {
+                return Err(NoMemory);
+            }
+            return Ok(steps);
+        }
+        place = lead.place(home);
+        steps += 1;
+    }
+    Ok(steps)
+}
+
+/// Statements in the program of a home, one after another: at most so many, up to the first after which the turn doesn't go on. Those
+/// that are done in passing are not opened. Where the last one asks for an access, the access goes to the caller.
 pub fn run_on<L: Language>(
     alloc: Global,
     me: &mut Private,
@@ -88,7 +124,12 @@ pub fn run_on<L: Language>(
 {
     let mut steps = 0;
     let mut opening = Opening::Leads;
-    for _ in 0..left {
+    loop {
+        let passed = pass_on::<L>(me, own, text, home, left - steps)?;
+        steps += passed;
+        if steps == left {
+            return Ok(Ran { steps, last: None });
+        }
         let Some(place) = place_in(home, me) else {
             return Ok(Ran { steps, last: None });
         };
@@ -113,5 +154,4 @@ pub fn run_on<L: Language>(
         }
         steps += 1;
     }
-    Ok(Ran { steps, last: None })
 }

@@ -1,5 +1,5 @@
 // What a statement plans and how it finishes, over what is lent.
-ghost use Rattle.std.specs.Prelude.{◌≡◌, true, List, IfOk, OnOk, Option, Some, None, is_some, option_map, if◌then◌else◌};
+ghost use Rattle.std.specs.Prelude.{◌≡◌, true, List, IfOk, IfSome, OnOk, Option, Some, None, is_some, option_map, if◌then◌else◌};
 ghost use Rattle.b2_atom.specs.Tree.{uses_in};
 ghost use Rattle.b2_rows.specs.Laws.{IsRow};
 ghost use Rattle.b2_rows.specs.Rows.{tree_at};
@@ -8,7 +8,7 @@ ghost use Rattle.b2_access.specs.Answering.{can_answer};
 ghost use Rattle.b2_access.specs.Found.{IsFound, seen_found, statement_found};
 ghost use Rattle.b2_access.specs.Lending.{globals_lent, seen_lent, SeenLent};
 ghost use Rattle.b2_access.specs.Placed.{line_named as line_of_place, statement_placed as named_at};
-ghost use Rattle.b2_language.specs.AtOnce.{IsFoundAtOnce};
+ghost use Rattle.b2_machine.specs.AtOnce.{IsFoundAtOnce};
 ghost use Rattle.b2_language.specs.Wanted as wanted;
 ghost use Rattle.b2_machine.specs.Listed.{lists};
 ghost use Rattle.b2_machine.specs.Statements as spec;
@@ -195,8 +195,8 @@ pub fn plan_found<L: Language>(
     }
 }
 
-/// The statement at a place begins, over texts and `@` variables.
-pub fn begin_over<L: Language>(
+/// The statement at a place begins wherever that is, over texts and `@` variables.
+fn begin_anywhere<L: Language>(
     alloc: Global,
     me: &mut Private,
     lent: &mut Lent<'_>,
@@ -214,6 +214,90 @@ pub fn begin_over<L: Language>(
     };
     let planned = plan_by::<L>(alloc, me, lent, devices, place, builder)?;
     begun(alloc, me, home, place, planned, builder)
+}
+
+/// The statement that was found in a line of the program begins, over texts and `@` variables.
+fn begin_found<L: Language>(
+    alloc: Global,
+    me: &mut Private,
+    lent: &mut Lent<'_>,
+    devices: &DeviceTable,
+    found: &Found<'_>,
+) -> Result<Progress, NoMemory>
+    requires found { IsFound found.now lent.old.home.now.lines me.old }
+    requires home { found.now.home.now ≡ lent.old.home.now }
+    ensures begun { IfOk result (λ c. record { me = me.new; progress = c } ≡ spec.begins (L.ways devices.now) found.now.place me.old (seen_lent lent.old)) }
+    ensures left { OnOk result (globals_lent lent.new ≡ spec.leaves (L.ways devices.now) found.now.place me.old (seen_lent lent.old)) }
+    ensures same_reference { lent.new.globals.ghost_name ≡ lent.old.globals.ghost_name }
+    ensures part { me.new.part ≡ me.old.part }
+{
+    let builder = builder_of::<L>(found.unit);
+    let planned = plan_found::<L>(alloc, me, lent, devices, found, builder)?;
+    match planned {
+        Planned::Done(outcome) => {
+            let end = settle_on(alloc, me, found.home, found.line, found.place, outcome)?;
+            Ok(Progress::Ended(end))
+        }
+        Planned::Ask(access) => {
+            let onward = onward_on(found.line, found.place.unit);
+            Ok(Progress::Asks(access, builder, onward))
+        }
+    }
+}
+
+/// Whether a place is another one too.
+fn is_same(here: Place, place: Place) -> bool
+    ensures same { result ≡ true → here ≡ place }
+{
+    here.home == place.home && here.line == place.line && here.unit == place.unit
+}
+
+/// The number of the line of a place where a partition stands in a program, None for another place.
+fn line_where_it_stands(me: &Private, place: Place) -> Option<u16>
+    ensures stands { IfSome result (λ n. (me.now.place ≡ Some place) × (place.line ≡ Some n)) }
+{
+    let Some(n) = place.line else {
+        return None;
+    };
+    let Some(here) = me.place else {
+        return None;
+    };
+    if is_same(here, place) { Some(n) } else { None }
+}
+
+/// The statement at a place begins, over texts and `@` variables. One in the program, where the partition stands, is found by one
+/// look-up.
+pub fn begin_over<L: Language>(
+    alloc: Global,
+    me: &mut Private,
+    lent: &mut Lent<'_>,
+    devices: &DeviceTable,
+    place: Place,
+) -> Result<Progress, NoMemory>
+    ensures begun { IfOk result (λ c. record { me = me.new; progress = c } ≡ spec.begins (L.ways devices.now) place me.old (seen_lent lent.old)) }
+    ensures left { OnOk result (globals_lent lent.new ≡ spec.leaves (L.ways devices.now) place me.old (seen_lent lent.old)) }
+    ensures same_reference { lent.new.globals.ghost_name ≡ lent.old.globals.ghost_name }
+    ensures part { me.new.part ≡ me.old.part }
+{
+    let (own, home) = (lent.own, lent.home);
+    let Some(n) = line_where_it_stands(me, place) else {
+        return begin_anywhere::<L>(alloc, me, lent, devices, place);
+    };
+    let Some(line) = home.line(n) else {
+        return Ok(Progress::Ended(become_ready_quietly(alloc, me)?));
+    };
+    let line = line.lend();
+    let Some(unit) = statement_on(&line, usize::from(place.unit)) else {
+        return Ok(Progress::Ended(become_ready_quietly(alloc, me)?));
+    };
+    let found = Found {
+        own,
+        home,
+        line: &line,
+        unit: &unit,
+        place,
+    };
+    begin_found::<L>(alloc, me, lent, devices, &found)
 }
 
 /// What a statement left of a loan of `@` variables beside these: whether there are such, and whether a receiver among them was reached.

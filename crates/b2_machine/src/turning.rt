@@ -117,6 +117,7 @@ fn advance<L: Language, S: Shared>(
 /// One turn of a partition that is present, as all are that it names, and all to whom names lead: at most `quota` steps that count. Where
 /// the last of them also ends the turn by itself, that is why it ended. After want of memory nothing is said of the partition and of what
 /// the store means.
+#[inline(never)]
 pub fn turn<L: Language, S: Shared>(
     alloc: Global,
     me: &mut Private,

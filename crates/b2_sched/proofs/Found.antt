@@ -24,16 +24,16 @@ use Rattle.b2_sched.specs.declared.choice.Family.{Family}
 use Rattle.b2_sched.specs.declared.choice.Family.TheVariants as family
 
 -- of the crates whose statements are planned at once
-built_of : (b c : Bool) → (b && not c) ≡ true → b ≡ true
-built_of true c is = refl
-built_of false c is = absurd (true≢false (sym is))
+built_of : (a b c : Bool) → a ≡ false → (a || (b && not c)) ≡ true → b ≡ true
+built_of true b c other is = absurd (true≢false other)
+built_of false true c other is = refl
+built_of false false c other is = absurd (true≢false (sym is))
 
 of_first : (a b : Bool) (others : Family) → a ≡ true → (if a then family.Variables else (if b then family.Control else others)) ≡ family.Variables
 of_first a b others is = ap (λ (x : Bool). if x then family.Variables else (if b then family.Control else others)) is
 
-of_second : (a b c : Bool) (others : Family) → a ≡ false → (a || (b && not c)) ≡ true → (if a then family.Variables else (if b then family.Control else others)) ≡ family.Control
-of_second true b c others other is = cc
-of_second false b c others other is = ap (λ (x : Bool). if x then family.Control else others) (built_of b c is)
+of_second : (a b : Bool) (others : Family) → a ≡ false → b ≡ true → (if a then family.Variables else (if b then family.Control else others)) ≡ family.Control
+of_second a b others other is = ap (λ (x : Bool). if x then family.Variables else (if b then family.Control else others)) other ∙ ap (λ (x : Bool). if x then family.Control else others) is
 
 abbrev others_of : ℕ → Family
 others_of r =
@@ -49,8 +49,12 @@ others_of r =
 variables : (r : ℕ) → stmt_var.is_built r ≡ true → family_of r ≡ family.Variables
 variables r is = of_first (stmt_var.is_built r) (stmt.is_built r) (others_of r) is
 
-control : (r : ℕ) → stmt_var.is_built r ≡ false → is_at_once r ≡ true → family_of r ≡ family.Control
-control r other is = of_second (stmt_var.is_built r) (stmt.is_built r) (asks_access r) (others_of r) other is
+control : (r : ℕ) → stmt_var.is_built r ≡ false → stmt.is_built r ≡ true → family_of r ≡ family.Control
+control r other is = of_second (stmt_var.is_built r) (stmt.is_built r) (others_of r) other is
+
+-- one that is planned at once, and is none on variables, is one of control
+pub control_built : (r : ℕ) → stmt_var.is_built r ≡ false → is_at_once r ≡ true → stmt.is_built r ≡ true
+control_built r other is = built_of (stmt_var.is_built r) (stmt.is_built r) (asks_access r) other is
 
 -- where the line and the unit of a place were found
 unit_here : (p : Place) (me : Private) (s : SeenLent) (line : List ℕ) (u : Statement) → line_named me.immediate s.home.lines p.line ≡ Some line → Some u ≡ statement_on (Some line) p.unit
@@ -61,19 +65,26 @@ here_is : (p : Place) (me : Private) (s : SeenLent) (line : List ℕ) → line_n
 here_is p me s line is_line = ap (λ (l : Option (List ℕ)). record { place = p; units = units_on l }) is_line
 
 module _ (devices : List Device) (p : Place) (me : Private) (s : SeenLent) (line : List ℕ) (u : Statement) (x : Planning) (is : me.place ≡ Some p) (is_line : line_named me.immediate s.home.lines p.line ≡ Some line)
-    (is_unit : Some u ≡ statement_on (Some line) p.unit) (at_once : is_at_once u.row ≡ true) where
+    (is_unit : Some u ≡ statement_on (Some line) p.unit) where
   pub variables_at_once : stmt_var.is_built u.row ≡ true → x ≡ as_planned me s (Ends (stmt_var.ended_of u me s)) → x ≡ plan devices u.row me s
   variables_at_once built is_x =
       is_x
       ∙ ap (as_planned me s) (found_course stmt_var.is_refused stops (stmt_var.does me s) p me s u is (unit_here p me s line u is_line is_unit))
       ∙ sym (ap (λ (f : Family). plan_by devices f me s) (variables u.row built))
 
-  pub control_at_once : stmt_var.is_built u.row ≡ false → x ≡ permitted stmt.is_refused (stmt.stops me s) (stmt.does me s) u (record { place = p; units = tree_units line }) → x ≡ plan devices u.row me s
-  control_at_once other is_x =
+  pub control_at_once : stmt_var.is_built u.row ≡ false → stmt.is_built u.row ≡ true → x ≡ permitted stmt.is_refused (stmt.stops me s) (stmt.does me s) u (record { place = p; units = tree_units line }) → x ≡ plan devices u.row me s
+  control_at_once other built is_x =
       is_x
       ∙ sym (ap (λ (h : Here). permitted stmt.is_refused (stmt.stops me s) (stmt.does me s) u h) (here_is p me s line is_line))
       ∙ found_course stmt.is_refused (stmt.stops me s) (stmt.does me s) p me s u is (unit_here p me s line u is_line is_unit)
-      ∙ sym (ap (λ (f : Family). plan_by devices f me s) (control u.row other at_once))
+      ∙ sym (ap (λ (f : Family). plan_by devices f me s) (control u.row other built))
+
+-- one on variables, whatever it looks at
+pub variables_where_found : (devices : List Device) (p : Place) (me : Private) (s : SeenLent) (line : List ℕ) (u : Statement) (x : Planning)
+    → me.place ≡ Some p → line_named me.immediate s.home.lines p.line ≡ Some line → Some u ≡ statement_on (Some line) p.unit → plan devices u.row me s ≡ stmt_var.plan me s
+    → x ≡ as_planned me s (Ends (stmt_var.ended_of u me s)) → x ≡ plan devices u.row me s
+variables_where_found devices p me s line u x is is_line is_unit planned is_x =
+    is_x ∙ ap (as_planned me s) (found_course stmt_var.is_refused stops (stmt_var.does me s) p me s u is (unit_here p me s line u is_line is_unit)) ∙ sym planned
 
 -- one of control, whatever it asks for
 control_there : (p : Place) (me : Private) (s : SeenLent) (line : List ℕ) (u : Statement) → me.place ≡ Some p → line_named me.immediate s.home.lines p.line ≡ Some line → Some u ≡ statement_on (Some line) p.unit

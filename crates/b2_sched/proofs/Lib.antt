@@ -3,6 +3,8 @@ pub mod LoadLines
 pub mod Numbered
 -- Found: what is planned where a unit was found is what the language plans at its place.
 mod Found
+-- InPassing: a statement that is done in passing, by its crate, and what it changes.
+mod InPassing
 pub mod Folds
 pub mod Numbers
 pub mod Lasting

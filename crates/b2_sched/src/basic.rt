@@ -20,7 +20,8 @@ impl Language for Basic {
     ghost at_once = { is_at_once };
 
     fn is_built(row: u16) -> bool {
-        b2_stmt_var::is_built(row)
+        row == rows::PRINT
+            || b2_stmt_var::is_built(row)
             || b2_stmt::is_built(row)
             || b2_stmt_io::is_built(row)
             || b2_stmt_mat::is_built(row)
@@ -74,7 +75,9 @@ impl Language for Basic {
     }
 
     fn is_at_once(row: u16) -> bool {
-        b2_stmt_var::is_built(row) || (b2_stmt::is_built(row) && !b2_stmt::asks_access(row))
+        row != rows::PRINT
+            && (b2_stmt_var::is_built(row)
+                || (b2_stmt::is_built(row) && !b2_stmt::asks_access(row)))
     }
 
     fn plan_at_once(
@@ -91,6 +94,7 @@ impl Language for Basic {
         }
     }
 
+    #[inline(always)]
     fn pass(me: &mut Private, found: &Found<'_>) -> Lead {
         let row = found.unit.row;
         if row == rows::ASSIGNMENT {
@@ -110,7 +114,7 @@ impl Language for Basic {
         found: &Found<'_>,
     ) -> Result<Planned, NoMemory> {
         match family_of(found.unit.row) {
-            Family::Variables => b2_stmt_var::plan(alloc, me, lent, devices),
+            Family::Variables => b2_stmt_var::plan_found(alloc, me, lent, found),
             Family::Control => b2_stmt::plan_found(alloc, me, lent, found),
             Family::Printing => b2_stmt_io::plan_found(alloc, me, lent, devices, found.unit),
             Family::Terminal => b2_stmt_io::plan_found(alloc, me, lent, devices, found.unit),

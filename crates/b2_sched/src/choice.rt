@@ -2,6 +2,8 @@
 ghost use Rattle.std.specs.Prelude.{◌≡◌};
 ghost use Rattle.b2_sched.specs.Choice as spec;
 
+use b2_atom::rows;
+
 /// A family of statements: those of one crate that finish in one way.
 #[derive(Clone, Copy)]
 pub enum Family {
@@ -27,11 +29,13 @@ pub enum Family {
     Disks,
 }
 
-/// The family of a row that is built.
+/// The family of a row that is built. PRINT, the commonest of those that aren't done in passing, is told first.
 pub fn family_of(row: u16) -> Family
     ensures { result ≡ spec.family_of row }
 {
-    if b2_stmt_var::is_built(row) {
+    if row == rows::PRINT {
+        Family::Printing
+    } else if b2_stmt_var::is_built(row) {
         Family::Variables
     } else if b2_stmt::is_built(row) {
         Family::Control

@@ -182,6 +182,7 @@ impl World {
     }
 
     /// A turn of a partition over the store, which is watched meanwhile; an absent one has none.
+    #[inline(always)]
     fn turn(&mut self, part: Part, quota: u16) -> Result<(), NoMemory>
         ensures turned { OnOk result (self.new ≡ does (Turn part quota) self.old) }
         ensures ended { IfErr result (λ _. self.new.privates ≡ []) }

@@ -5,7 +5,7 @@ use Rattle.b2_access.specs.Planning.{Planning}
 use Rattle.b2_machine.specs.Statements.{begun, has_ended}
 use Rattle.b2_machine.proofs.Begins.{begins_nowhere, begins_somewhere, left_nowhere, left_somewhere}
 use Rattle.b2_machine.proofs.Results.{ok_map, on_any}
-use Rattle.b2_machine.proofs.statements.begin_over.Goals as goal
+use Rattle.b2_machine.proofs.statements.begin_anywhere.Goals as goal
 
 pub returns-in_default-clause-begun : goal.returns-in_default-clause-begun
 returns-in_default-clause-begun g c =
