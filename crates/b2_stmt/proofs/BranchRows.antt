@@ -1,5 +1,5 @@
 -- GOTO, IF, ELSE, ERROR and ON, by their rows.
-use Rattle.std.proofs.Common.{◌≡◌, ℕ, ◌+◌, ◌==◌, Bool, true, false, if◌then◌else◌, List, [], ◌∷◌, drop, get_or, Ok, refl, ap, ◌∙◌}
+use Rattle.std.proofs.Common.{◌≡◌, ℕ, ◌+◌, ◌==◌, Bool, true, false, if◌then◌else◌, List, [], ◌∷◌, drop, get_or, Ok, Result, refl, ap, ◌∙◌}
 use Rattle.b2_base.specs.Lexical.{first}
 use Rattle.b2_base.specs.declared.codes.TheConstants.{S15_LINE_NUMBER, D87_FILE_NAME}
 use Rattle.b2_atom.specs.Words.{Text}
@@ -100,6 +100,13 @@ pub if_is : (s : Context) (k : ℕ) (us : List TreeUnit) (t : Text) → is_part 
 if_is s k us t ok =
     let r = stands_of row.IF if_items t if_row ok in
     ap (if_goal s k us) r.1 ∙ if_by s k us (tree_at row.CONDITION (drop 1 t)) (named_text t) (starts Atoms start.Line (named_text t)) refl r.0.1.1.1
+
+-- and once it is known whether its condition holds
+pub if_judged : (s : Context) (k : ℕ) (us : List TreeUnit) (t : Text) (h : Bool) → is_part row.IF t ≡ true → truth s (tree_at row.CONDITION (drop 1 t)) ≡ Ok h → if_goal s k us (tree_at row.IF t)
+    ≡ Ok (if h then (if starts Atoms start.Line (named_text t) then goal.Line (line_of (get_or (named_text t) 1 0) (get_or (named_text t) 2 0)) else goal.Unit (k + 1)) else after_false k us)
+if_judged s k us t h ok is =
+    if_is s k us t ok
+    ∙ ap (λ (x : Result Bool ℕ). x >>= (λ holds. Ok (if holds then (if starts Atoms start.Line (named_text t) then goal.Line (line_of (get_or (named_text t) 1 0) (get_or (named_text t) 2 0)) else goal.Unit (k + 1)) else after_false k us))) is
 
 -- DEFFN
 abbrev function_items : List Item

@@ -16,7 +16,9 @@ use Rattle.b2_access.specs.declared.planned.Planned.TheVariants as planned
 use Rattle.b2_access.specs.declared.private.Private.{Private}
 use Rattle.b2_access.proofs.Courses.{may_stand}
 use Rattle.b2_stmt.specs.Asked.{carried, is_still, still}
-use Rattle.b2_stmt.specs.Borrowing.{asks_of_others}
+use Rattle.b2_flow.specs.Stacks.{entered_last}
+use Rattle.b2_stmt.specs.Borrowing.{asks_of_others, asks_to_leave}
+use Rattle.b2_stmt.specs.Calls.{goes_back}
 use Rattle.b2_stmt.specs.declared.asked.Asked.{Asked}
 use Rattle.b2_stmt.specs.Clearing.{asked_access, asks_access}
 use Rattle.b2_stmt.specs.Marked.{ends_with_args, takes_args}
@@ -39,6 +41,10 @@ taken_there u h me s is same =
 
 pub asked_there : (u : Statement) (h : Here) (me : Private) (s : SeenLent) → is_still u.row ≡ false → (u.row == row.DEFFN_MARKED) ≡ false → acts u h me s ≡ plans_asked (asked_by u h me s) h.place me s
 asked_there u h me s is other = otherwise (is_still u.row) _ _ is ∙ otherwise (u.row == row.DEFFN_MARKED) _ _ other
+
+-- RETURN, which changes the frames or asks for the text to be left that its call entered
+pub returned_there : (u : Statement) (h : Here) (me : Private) (s : SeenLent) → u.row ≡ row.RETURN → acts u h me s ≡ by_access (asks_to_leave (entered_last me.stack)) s me (goes_back me)
+returned_there u h me s is = ap (λ (r : ℕ). acts (record { row = r; tree = u.tree }) h me s) is
 
 -- a statement that asks for no access by its row
 first_no : (a b : Bool) → (a || b) ≡ false → a ≡ false

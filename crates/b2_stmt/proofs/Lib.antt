@@ -9,7 +9,7 @@
 -- those of others, as it plans and as it finishes; and that it enters only those of others. Crates above cite its `plans_standing`,
 -- `finishes_standing` and `enters_others`.
 -- Of what is done in passing: Led: where it leads. Tops: the frame on top. Counters: the variable of a loop. Steered: what RETURN and FOR
--- change. Passed: what is planned, row by row.
+-- change. MarksPassed: GOSUB' and DEFFN'. Passed: what is planned, row by row.
 pub mod GoalUnits
 pub mod Framed
 pub mod BranchRows
@@ -36,4 +36,5 @@ pub mod Led
 pub mod Tops
 pub mod Passed
 pub mod Steered
+pub mod MarksPassed
 pub mod Counters

@@ -74,7 +74,7 @@ alpha_read : (t : Text) → is_part row.RECEIVER t ≡ true → starts Atoms sta
 unfolding row_items
 alpha_read t ok is = either_first row.RECEIVER row.ALPHA_RECEIVER row.NUMERIC_RECEIVER start.Alpha t refl ok is
 
-number_read : (t : Text) → is_part row.RECEIVER t ≡ true → starts Atoms start.Alpha t ≡ false → ReadAs row.RECEIVER row.NUMERIC_RECEIVER second_branch t
+pub number_read : (t : Text) → is_part row.RECEIVER t ≡ true → starts Atoms start.Alpha t ≡ false → ReadAs row.RECEIVER row.NUMERIC_RECEIVER second_branch t
 unfolding row_items
 number_read t ok is = either_second row.RECEIVER row.ALPHA_RECEIVER row.NUMERIC_RECEIVER start.Alpha t refl ok is
 

@@ -1,5 +1,5 @@
 -- What a statement plans that is done in passing, by its row: it changes nothing, or what it asks of the private state is carried out.
-use Rattle.std.proofs.Common.{◌≡◌, ◌∙◌, ℕ, ◌==◌, Bool, true, false, refl, ap, Option, Some, None, is_some, Result, Ok, Err}
+use Rattle.std.proofs.Common.{◌≡◌, ◌∙◌, ℕ, ◌==◌, Bool, true, false, refl, sym, ap, subst, Option, Some, None, is_some, Result, Ok, Err}
 use Rattle.b2_atom.specs.declared.rows.TheConstants as row
 use Rattle.b2_rows.specs.Following.{past_colon, tree_units}
 use Rattle.b2_rows.specs.Rows.{tree_at}
@@ -28,7 +28,7 @@ use Rattle.b2_stmt.specs.Calls.{called_where, goes_back, line_called}
 use Rattle.b2_stmt.specs.Clearing.{asked_access, asks_access}
 use Rattle.b2_stmt.specs.Loops.{counter_in, loop_in, nexts}
 use Rattle.b2_stmt.specs.Parts.{asks_to_declare, declared_by}
-use Rattle.b2_stmt.specs.Passing.{LeadsBy, Steers, around_passing, planned_passing, seen_passing}
+use Rattle.b2_stmt.specs.Passing.{LeadsBy, Steers, around_passing, asked_marked, calls_marked, marked_passing, planned_passing, seen_passing}
 use Rattle.b2_stmt.specs.Plan.{acts, asked_by, by_access, does, is_refused, plans_asked, stops}
 use Rattle.b2_stmt.specs.declared.asked.Asked.{Asked}
 use Rattle.b2_stmt.specs.declared.asked.Asked.TheVariants as asked
@@ -119,6 +119,10 @@ pub return_passes : (f : Found) (me after : Private) (l : Option (ℕ × ℕ)) �
     → Steers l f me after (goes_back me) → Passes l f me after (planned_passing f me)
 return_passes f me after l program is none h = asked_passes f me after l row.RETURN (asked.Return) program is refl refl refl refl refl (λ done. ap asks_to_leave (none done)) h
 
+pub call_passes : (f : Found) (me after : Private) (l : Option (ℕ × ℕ)) → is_some f.place.line ≡ true → f.unit.now.row ≡ row.GOSUB_MARKED
+    → (is_some l ≡ true → asks_of_others (asked_marked f me) f.place me f.own.now.lines f.home.now.lines ≡ None) → Steers l f me after (calls_marked f me) → Passes l f me after (planned_passing f me)
+call_passes f me after l program is none h = asked_passes f me after l row.GOSUB_MARKED (asked_marked f me) program is refl refl refl refl refl none h
+
 asks_no_others : (f : Found) (me : Private) (r : Result Loop ℕ) (body : Place) → asks_of_others (asks_loop r body) f.place me f.own.now.lines f.home.now.lines ≡ None
 asks_no_others f me (Ok l) body = refl
 asks_no_others f me (Err code) body = refl
@@ -134,3 +138,10 @@ function_passes f me None program is none h = refl
 function_passes f me (Some l) program is none h =
     passes_done f me me l (passed_function (tree_at row.DEFFN f.unit.now.bytes.now)) me
     (plans_row f me row.DEFFN program is refl (ap (asks_to_declare me.declared) (none refl)) ∙ still_there (of_row row.DEFFN f) (here_found f) me (seen_passing f) refl) refl h
+
+-- DEFFN' takes what a call passes
+pub mark_passes : (f : Found) (me after : Private) (l : Option (ℕ × ℕ)) → is_some f.place.line ≡ true → f.unit.now.row ≡ row.DEFFN_MARKED
+    → Passes l f me after (marked_passing f me) → Passes l f me after (planned_passing f me)
+mark_passes f me after l program is h =
+    subst (λ (p : Planning). Passes l f me after p)
+    (sym (plans_row f me row.DEFFN_MARKED program is refl (asks_nothing row.DEFFN_MARKED (tree_at row.DEFFN_MARKED f.unit.now.bytes.now) me.declared (homes_entered me.stack) refl))) h

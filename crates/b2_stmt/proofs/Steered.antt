@@ -4,7 +4,7 @@ use Rattle.std.proofs.lemmas.Bool.Decides.{nat_tests}
 use Rattle.std.specs.List.{slice_get}
 use Rattle.b2_base.specs.declared.codes.TheConstants.{A04_TOO_DEEP}
 use Rattle.b2_flow.specs.Frames.{is_loop_of}
-use Rattle.b2_flow.specs.Stacks.{from_call, from_first, from_loop, has_loop, most_frames, without_top_loop}
+use Rattle.b2_flow.specs.Stacks.{from_first, from_loop, has_loop, most_frames, without_top_call, without_top_loop}
 use Rattle.b2_flow.specs.declared.frame.Frame.{Frame}
 use Rattle.b2_flow.specs.declared.frame.Frame.TheVariants.{For, Call}
 use Rattle.b2_flow.specs.declared.frame.Place.{Place}
@@ -33,19 +33,19 @@ pub seen_done : (l : Lead) → is_done l ≡ true → lead_seen l ≡ Some (l.li
 seen_done l is = ap (λ (b : Bool). if b then Some (l.line, l.unit) else None) is
 
 -- where what is steered is known
-steers_by : (f : Found) (me after : Private) (l : ℕ × ℕ) (d e : Steered) → e ≡ d → (steered me d).me ≡ after → LeadsBy (Some l) f d.outcome → Steers (Some l) f me after e
+pub steers_by : (f : Found) (me after : Private) (l : ℕ × ℕ) (d e : Steered) → e ≡ d → (steered me d).me ≡ after → LeadsBy (Some l) f d.outcome → Steers (Some l) f me after e
 steers_by f me after l d e is same h = subst (λ (x : Steered). Steers (Some l) f me after x) (sym is) (same, h)
 
 -- RETURN
-pub back_passes : (f : Found) (me after : Private) (to : Lead) (c : Frame) → LeadsBack (lead_seen to) f.place.home (slice_get me.stack 0) → is_done to ≡ true → from_call me.stack ≡ c ∷ after.stack
-    → after ≡ record me { stack = after.stack } → Steers (lead_seen to) f me after (goes_back me)
-back_passes f me after to c leads there h same =
+pub back_passes : (f : Found) (me after : Private) (to : Lead) → LeadsBack (lead_seen to) f.place.home (slice_get me.stack 0) → is_done to ≡ true
+    → after ≡ record me { stack = without_top_call me.stack } → Steers (lead_seen to) f me after (goes_back me)
+back_passes f me after to leads there same =
     let seen = seen_done to there in
     let q = place_led f.place.home (to.line, to.unit) in
     let top : slice_get me.stack 0 ≡ Some (Call (Some q) None) = subst (λ (l : Option (ℕ × ℕ)). LeadsBack l f.place.home (slice_get me.stack 0)) seen leads in
     subst (λ (l : Option (ℕ × ℕ)). Steers l f me after (goes_back me)) (sym seen)
-    (steers_by f me after (to.line, to.unit) (record { control = record (control_of me) { stack = after.stack }; outcome = outcome.Jump q }) (goes_back me)
-    (goes_back_to me after.stack c q top h) (sym same) refl)
+    (steers_by f me after (to.line, to.unit) (record { control = record (control_of me) { stack = without_top_call me.stack }; outcome = outcome.Jump q }) (goes_back me)
+    (goes_back_to me q top) (sym same) refl)
 
 -- without an old loop there is room where there was
 from_first_short : (v : Var2) (s : List Frame) → length (from_first (is_loop_of v) s) ≤ length s

@@ -1,18 +1,15 @@
--- The frame on top of a stack, which stands last among its frames, and what RETURN and NEXT do by it.
-use Rattle.std.proofs.Common.{◌≡◌, ◌∙◌, ℕ, ◌-◌, ◌<◌, ◌==◌, ◌||◌, Bool, true, false, if◌then◌else◌, List, [], ◌∷◌, length, reverse, drop, get_or, Option, Some, None, is_some, refl, sym, ap, subst, arith}
-use Rattle.std.proofs.lemmas.Bool.Decides.{nat_tests}
-use Rattle.std.proofs.lemmas.List.{get_or-reverse, length-reverse}
-use Rattle.std.proofs.lemmas.Option.{slice_get-get_or}
+-- The frame on top of a stack, and what RETURN and NEXT do by it.
+use Rattle.std.proofs.Common.{◌≡◌, ◌∙◌, ℕ, ◌||◌, Bool, true, false, if◌then◌else◌, List, [], ◌∷◌, Option, Some, None, is_some, sym, ap, subst}
 use Rattle.std.specs.List.{slice_get}
 use Rattle.std.specs.Option.{option_map_or}
 use Rattle.b2_base.specs.declared.codes.TheConstants.{P40_NO_FOR, P41_NO_CALL}
 use Rattle.b2_dec.specs.Number.{Number}
-use Rattle.b2_flow.specs.Stacks.{entered_last, from_call, from_loop, has_call, has_loop, top_loop}
+use Rattle.b2_flow.specs.Stacks.{entered_last, from_call, from_loop, has_call, has_loop, top_loop, without_top_call}
 use Rattle.b2_flow.specs.declared.frame.Frame.{Frame}
 use Rattle.b2_flow.specs.declared.frame.Frame.TheVariants.{For, Call}
 use Rattle.b2_flow.specs.declared.frame.Place.{Place}
 use Rattle.b2_flow.specs.declared.frame.Var2.{Var2}
-use Rattle.b2_flow.specs.Frames.{is_loop_of}
+use Rattle.b2_flow.specs.Frames.{is_loop_of, is_same_variable}
 use Rattle.b2_flow.proofs.Loops.{has_loop-top}
 use Rattle.b2_access.specs.Going.{to_place}
 use Rattle.b2_access.specs.Passing.{place_led}
@@ -23,22 +20,6 @@ use Rattle.b2_access.specs.declared.private.Private.{Private}
 use Rattle.b2_stmt.specs.Calls.{back_from, goes_back}
 use Rattle.b2_stmt.specs.Loops.{goes_round, nexts}
 use Rattle.b2_stmt.specs.Passing.{LeadsBack, Steers}
-
-last_place : (n : ℕ) (m : ℕ) → (n == 0) ≡ false → n ≡ m → n - 1 < m
-last_place n m some is = grind (arith, nat_tests)
-
-pub top_is : (s : List Frame) (n : ℕ) → (n == 0) ≡ false → n ≡ length s → slice_get (reverse s) (n - 1) ≡ slice_get s 0
-top_is [] n some is = cc
-top_is (x ∷ below) n some is =
-    let s = x ∷ below in
-    let within : n - 1 < length s = last_place n (length s) some is in
-    let none_left : length s - 1 - (n - 1) ≡ 0 = omega (arith, is) in
-    slice_get-get_or (reverse s) (n - 1) x (subst (λ (m : ℕ). n - 1 < m) (sym (length-reverse s)) within)
-    ∙ ap Some (get_or-reverse s (n - 1) x within ∙ ap (λ (k : ℕ). get_or s k x) none_left)
-
-pub top_of_none : (s : List Frame) → length s ≡ 0 → None ≡ slice_get s 0
-top_of_none [] is = refl
-top_of_none (x ∷ below) is = cc
 
 -- where a call stands on top, RETURN leads to where it leads back
 back_place : Option Frame → Option Place
@@ -51,19 +32,17 @@ entered_text None = None
 entered_text (Some (For v limit step body)) = None
 entered_text (Some (Call back entered)) = entered
 
-abbrev taken : Private → List Frame → Option Place → Steered
-taken me rest back = record { control = record (control_of me) { stack = rest }; outcome = to_place back }
-
-back_by : (me : Private) (s rest : List Frame) (c : Frame) (q : Place) → slice_get s 0 ≡ Some (Call (Some q) None) → from_call s ≡ c ∷ rest
-    → (if has_call s then back_from to_place (from_call s) me else unsteered me (outcome.Failed P41_NO_CALL)) ≡ taken me rest (Some q)
+back_by : (me : Private) (s : List Frame) (q : Place) → slice_get s 0 ≡ Some (Call (Some q) None)
+    → (if has_call s then back_from to_place (from_call s) me else unsteered me (outcome.Failed P41_NO_CALL)) ≡ record { control = record (control_of me) { stack = without_top_call s }; outcome = outcome.Jump q }
 unfolding back_place
-back_by me [] rest c q is h = cc
-back_by me (For v limit step body ∷ below) rest c q is h = cc
-back_by me (Call back entered ∷ below) rest c q is h =
-    ap (taken me below) (ap back_place is) ∙ ap (λ (s : List Frame). taken me (drop 1 s) (Some q)) h
+back_by me [] q is = cc
+back_by me (For v limit step body ∷ below) q is = cc
+back_by me (Call back entered ∷ below) q is =
+    ap (λ (o : Option Place). record { control = record (control_of me) { stack = below }; outcome = to_place o }) (ap back_place is)
 
-pub goes_back_to : (me : Private) (rest : List Frame) (c : Frame) (q : Place) → slice_get me.stack 0 ≡ Some (Call (Some q) None) → from_call me.stack ≡ c ∷ rest → goes_back me ≡ taken me rest (Some q)
-goes_back_to me rest c q is h = back_by me me.stack rest c q is h
+pub goes_back_to : (me : Private) (q : Place) → slice_get me.stack 0 ≡ Some (Call (Some q) None)
+    → goes_back me ≡ record { control = record (control_of me) { stack = without_top_call me.stack }; outcome = outcome.Jump q }
+goes_back_to me q is = back_by me me.stack q is
 
 entered_by : (s : List Frame) (q : Place) → slice_get s 0 ≡ Some (Call (Some q) None) → entered_last s ≡ None
 unfolding entered_text
@@ -84,18 +63,27 @@ on_top_by (For w limit step body ∷ below) v is = (
   ap (λ (b : Bool). if b then For w limit step body ∷ below else from_loop v below) is,
 )
 
-round_by : (me mid : Private) (v : Var2) (b : Bool) (s : List Frame) (p : Number × Number × Place) → b ≡ true → s ≡ me.stack → top_loop s ≡ Some p → mid ≡ me
-    → (if b then goes_round (top_loop s) v (record me { stack = s }) else unsteered me (outcome.Failed P40_NO_FOR)) ≡ goes_round (Some p) v mid
-round_by me mid v false s p is stack there same = cc
-round_by me mid v true s p is stack there same =
-    ap (λ (o : Option (Number × Number × Place)). goes_round o v (record me { stack = s })) there
-    ∙ ap (λ (t : List Frame). goes_round (Some p) v (record me { stack = t })) stack
-    ∙ sym (ap (goes_round (Some p) v) same)
+-- and its parts are those of the frame
+loop_parts : Option Frame → Option (Number × Number × Place)
+loop_parts None = None
+loop_parts (Some (For v limit step body)) = Some (limit, step, body)
+loop_parts (Some (Call back entered)) = None
 
-pub round_passes : (f : Found) (me mid after : Private) (l : Option (ℕ × ℕ)) (v : Var2) (p : Number × Number × Place) → option_map_or (is_loop_of v) (slice_get me.stack 0) false ≡ true → mid ≡ record me { stack = from_loop v me.stack }
-    → top_loop (from_loop v me.stack) ≡ Some p → Steers l f mid after (goes_round (Some p) v mid) → Steers l f me after (nexts v me)
-round_passes f me mid after l v p is middle there h =
-    let on_top = on_top_by me.stack v is in
-    let same : mid ≡ me = middle ∙ ap (λ (s : List Frame). record me { stack = s }) on_top.1 in
-    subst (λ (e : Steered). Steers l f me after e) (sym (round_by me mid v (has_loop v me.stack) (from_loop v me.stack) p on_top.0 on_top.1 there same))
-    (subst (λ (m : Private). Steers l f m after (goes_round (Some p) v mid)) same h)
+parts_by : (s : List Frame) (w : Var2) (limit step : Number) (body : Place) → slice_get s 0 ≡ Some (For w limit step body) → top_loop s ≡ Some (limit, step, body)
+unfolding loop_parts
+parts_by [] w limit step body is = cc
+parts_by (Call back entered ∷ below) w limit step body is = cc
+parts_by (For v l t b ∷ below) w limit step body is = ap loop_parts is
+
+round_by : (me : Private) (v : Var2) (b : Bool) (s : List Frame) (p : Number × Number × Place) → b ≡ true → s ≡ me.stack → top_loop me.stack ≡ Some p
+    → (if b then goes_round (top_loop s) v (record me { stack = s }) else unsteered me (outcome.Failed P40_NO_FOR)) ≡ goes_round (Some p) v me
+round_by me v false s p is stack there = cc
+round_by me v true s p is stack there =
+    ap (λ (t : List Frame). goes_round (top_loop t) v (record me { stack = t })) stack
+    ∙ ap (λ (o : Option (Number × Number × Place)). goes_round o v me) there
+
+pub round_passes : (f : Found) (me after : Private) (l : Option (ℕ × ℕ)) (v w : Var2) (limit step : Number) (body : Place) → slice_get me.stack 0 ≡ Some (For w limit step body) → is_same_variable w v ≡ true
+    → Steers l f me after (goes_round (Some (limit, step, body)) v me) → Steers l f me after (nexts v me)
+round_passes f me after l v w limit step body top same h =
+    let on_top = on_top_by me.stack v (ap (λ (o : Option Frame). option_map_or (is_loop_of v) o false) top ∙ same) in
+    subst (λ (e : Steered). Steers l f me after e) (sym (round_by me v (has_loop v me.stack) (from_loop v me.stack) (limit, step, body) on_top.0 on_top.1 (parts_by me.stack w limit step body top))) h

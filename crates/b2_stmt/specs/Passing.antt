@@ -1,5 +1,7 @@
 -- Statements of control that are done in passing: where no `@` variables are lent.
 use Rattle.std.specs.Prelude.{◌≡◌, ℕ, ◌-◌, Bool, true, false, Option, Some, None}
+use Rattle.b2_atom.specs.declared.rows.TheConstants as row
+use Rattle.b2_rows.specs.Rows.{tree_at}
 use Rattle.b2_flow.specs.declared.frame.Frame.{Frame}
 use Rattle.b2_flow.specs.declared.frame.Frame.TheVariants.{Call}
 use Rattle.b2_flow.specs.declared.frame.Place.{Place}
@@ -11,14 +13,18 @@ use Rattle.b2_access.specs.Courses.{permitted}
 use Rattle.b2_access.specs.Found.{here_found, seen_found, statement_found}
 use Rattle.b2_access.specs.Lending.{SeenLent}
 use Rattle.b2_access.specs.Passing.{led_by, place_following, place_led}
-use Rattle.b2_access.specs.Planning.{Planning}
+use Rattle.b2_access.specs.Planning.{Planning, done}
 use Rattle.b2_access.specs.Steering.{Steered, steered}
 use Rattle.b2_access.specs.declared.placed.Found.{Found}
 use Rattle.b2_access.specs.declared.planned.Outcome.{Outcome}
 use Rattle.b2_access.specs.declared.planned.Outcome.TheVariants as outcome
 use Rattle.b2_access.specs.declared.private.Private.{Private}
+use Rattle.b2_stmt.specs.Arguments.{arguments, operands_of}
+use Rattle.b2_stmt.specs.Asked.{asks_mark, carried}
 use Rattle.b2_stmt.specs.Loops.{loop_begins}
+use Rattle.b2_stmt.specs.Marked.{ends_with_args, mark_in, number_called, takes_args}
 use Rattle.b2_stmt.specs.Plan.{around, does, is_refused, stops}
+use Rattle.b2_stmt.specs.declared.asked.Asked.{Asked}
 use Rattle.b2_stmt.specs.declared.loops.Loop.{Loop}
 
 -- what such a statement sees
@@ -47,6 +53,28 @@ Steers (Some l) f me after e = ((steered me e).me ≡ after) × (led_by e.outcom
 abbrev pub IsPlaceLed : Option (ℕ × ℕ) → ℕ → Place → Type 0
 IsPlaceLed None home p = Unit {0}
 IsPlaceLed (Some l) home p = p ≡ place_led home l
+
+-- where it is known that the DEFFN' of a number stands in the text at home, it stands there
+abbrev pub IsMarkLed : Option (ℕ × ℕ) → ℕ → Found → Type 0
+IsMarkLed None n f = Unit {0}
+IsMarkLed (Some l) n f = mark_in f.place.home n f.home.now.lines ≡ Some (place_led f.place.home l)
+
+-- what GOSUB' asks of the private state, and what that comes to
+abbrev pub asked_marked : Found → Private → Asked
+asked_marked f me =
+    asks_mark (number_called (tree_at row.GOSUB_MARKED f.unit.now.bytes.now)) (arguments (around_passing f me) (operands_of (tree_at row.GOSUB_MARKED f.unit.now.bytes.now))) (place_following f)
+
+abbrev pub calls_marked : Found → Private → Steered
+calls_marked f me = carried (asked_marked f me) f.place me f.own.now.lines f.home.now.lines
+
+-- what DEFFN' plans
+abbrev pub marked_passing : Found → Private → Planning
+marked_passing f me = ends_with_args (takes_args (tree_at row.DEFFN_MARKED f.unit.now.bytes.now) me (seen_passing f)) me (seen_passing f)
+
+-- it has ended with no code and goes on, or it hasn't, and then nothing has changed
+abbrev pub TakesOrNot : Found → Private → Private → Bool → Type 0
+TakesOrNot f me after true = marked_passing f me ≡ done (seen_passing f) (record { me = after; outcome = outcome.Next })
+TakesOrNot f me after false = after ≡ me
 
 -- and a call on top leads back there, and entered no text
 abbrev pub LeadsBack : Option (ℕ × ℕ) → ℕ → Option Frame → Type 0

@@ -16,55 +16,56 @@ use b2_expr::{Env, alpha, number};
 use b2_rows::{is_alpha_at, is_at};
 use std::alloc::Global;
 
-/// The bytes of the argument at a text, and what stands after it.
-fn literal_bytes_at<'a>(e: &Env<'_>, text: &'a [u8]) -> Result<(Value, &'a [u8]), Code>
+/// How many values there is room for before more memory is taken.
+const FEW: usize = 3;
+
+/// Puts the bytes of the argument at a text after other values, and gives what stands after it.
+fn put_bytes<'a>(e: &Env<'_>, text: &'a [u8], into: &mut Vec<Value>) -> Result<&'a [u8], Fault>
     requires part { is_part row.ALPHA text.now ≡ true }
-    ensures { MatchResult result (λ p. (spec.alpha_argument (in_statement (surroundings e.now)) (tree_at row.ALPHA text.now) ≡ Ok p.0) × (p.1.now ≡ after_part row.ALPHA text.now)) (λ code. spec.alpha_argument (in_statement (surroundings e.now)) (tree_at row.ALPHA text.now) ≡ Err code) }
+    ensures { PutsArgument (spec.alpha_argument (in_statement (surroundings e.now)) (tree_at row.ALPHA text.now)) (after_part row.ALPHA text.now) into.old.items into.new.items result }
 {
     let mut c = Cursor::over(text);
     let mut bytes = Bytes::new();
     match alpha(&mut c, e, &mut bytes) {
-        Ok(()) => Ok((Value::Alpha(bytes), c.rest())),
-        Err(code) => Err(code),
+        Ok(()) => match into.push(Value::Alpha(bytes)) {
+            Ok(()) => Ok(c.rest()),
+            Err(_) => Err(Fault::NoMemory),
+        },
+        Err(code) => Err(Fault::Code(code)),
     }
 }
 
-/// The number of the argument at a text, and what stands after it.
-fn number_at<'a>(e: &Env<'_>, text: &'a [u8]) -> Result<(Value, &'a [u8]), Code>
+/// Puts the number of the argument at a text after other values, and gives what stands after it.
+fn put_number<'a>(e: &Env<'_>, text: &'a [u8], into: &mut Vec<Value>) -> Result<&'a [u8], Fault>
     requires part { is_part row.SUM text.now ≡ true }
-    ensures { MatchResult result (λ p. (spec.number_argument (in_statement (surroundings e.now)) (tree_at row.SUM text.now) ≡ Ok p.0) × (p.1.now ≡ after_part row.SUM text.now)) (λ code. spec.number_argument (in_statement (surroundings e.now)) (tree_at row.SUM text.now) ≡ Err code) }
+    ensures { PutsArgument (spec.number_argument (in_statement (surroundings e.now)) (tree_at row.SUM text.now)) (after_part row.SUM text.now) into.old.items into.new.items result }
 {
     let mut c = Cursor::over(text);
     match number(&mut c, e) {
-        Ok(x) => Ok((Value::Number(x), c.rest())),
-        Err(code) => Err(code),
-    }
-}
-
-/// The value of the argument at a text, and what stands after it.
-#[tactic(auto, using(crate::proofs::ArgumentRows::alpha_here, crate::proofs::ArgumentRows::alpha_is, crate::proofs::ArgumentRows::alpha_rest, crate::proofs::ArgumentRows::number_here, crate::proofs::ArgumentRows::number_is, crate::proofs::ArgumentRows::number_rest))]
-fn argument<'a>(e: &Env<'_>, text: &'a [u8]) -> Result<(Value, &'a [u8]), Code>
-    requires part { is_part row.OPERAND_OF_ANY_KIND text.now ≡ true }
-    ensures { MatchResult result (λ p. (spec.argument (in_statement (surroundings e.now)) (tree_at row.OPERAND_OF_ANY_KIND text.now) ≡ Ok p.0) × (p.1.now ≡ after_part row.OPERAND_OF_ANY_KIND text.now)) (λ code. spec.argument (in_statement (surroundings e.now)) (tree_at row.OPERAND_OF_ANY_KIND text.now) ≡ Err code) }
-{
-    if is_alpha_at(text) {
-        literal_bytes_at(e, text)
-    } else {
-        number_at(e, text)
+        Ok(x) => {
+            if into.len() < into.capacity() {
+                into.push_reserved(Value::Number(x));
+                return Ok(c.rest());
+            }
+            match into.push(Value::Number(x)) {
+                Ok(()) => Ok(c.rest()),
+                Err(_) => Err(Fault::NoMemory),
+            }
+        }
+        Err(code) => Err(Fault::Code(code)),
     }
 }
 
 /// Puts the value of the argument at a text after others, and gives what stands after it.
+#[tactic(auto, using(crate::proofs::ArgumentRows::alpha_here, crate::proofs::ArgumentRows::alpha_is, crate::proofs::ArgumentRows::alpha_rest, crate::proofs::ArgumentRows::number_here, crate::proofs::ArgumentRows::number_is, crate::proofs::ArgumentRows::number_rest))]
 fn put_argument<'a>(e: &Env<'_>, text: &'a [u8], into: &mut Vec<Value>) -> Result<&'a [u8], Fault>
     requires part { is_part row.OPERAND_OF_ANY_KIND text.now ≡ true }
     ensures { PutsArgument (spec.argument (in_statement (surroundings e.now)) (tree_at row.OPERAND_OF_ANY_KIND text.now)) (after_part row.OPERAND_OF_ANY_KIND text.now) into.old.items into.new.items result }
 {
-    match argument(e, text) {
-        Ok((value, rest)) => match into.push(value) {
-            Ok(()) => Ok(rest),
-            Err(_) => Err(Fault::NoMemory),
-        },
-        Err(code) => Err(Fault::Code(code)),
+    if is_alpha_at(text) {
+        put_bytes(e, text, into)
+    } else {
+        put_number(e, text, into)
     }
 }
 
@@ -75,7 +76,10 @@ fn arguments(alloc: Global, e: &Env<'_>, text: &[u8]) -> Result<ValueList, Fault
     requires list { is_list commas row.COMMA_OPERAND (after_part row.OPERAND_OF_ANY_KIND text.now) ≡ true }
     ensures { GivesValues (spec.arguments (in_statement (surroundings e.now)) (arguments_at text.now)) result }
 {
-    let mut values = Vec::new(alloc);
+    let mut values = match Vec::with_capacity(alloc, FEW) {
+        Ok(values) => values,
+        Err(_) => return Err(Fault::NoMemory),
+    };
     let mut left = text;
     loop {
         let rest = match put_argument(e, left, &mut values) {
@@ -89,8 +93,8 @@ fn arguments(alloc: Global, e: &Env<'_>, text: &[u8]) -> Result<ValueList, Fault
     }
 }
 
-/// What stands after the number of a GOSUB'.
-fn past_number(unit: &[u8]) -> &[u8]
+/// What stands after the number of a GOSUB' or a DEFFN'.
+pub fn past_number(unit: &[u8]) -> &[u8]
     ensures { result.now ≡ spec.past_number unit.now }
 {
     let number = rest_after(unit, 1);

@@ -75,7 +75,7 @@ fn call_or_enter(
 }
 
 /// RETURN. Where its call entered a text nothing is done, and it asks for that to be left.
-fn go_back_or_leave(me: &mut Private, access: &mut Option<Access>) -> Outcome
+pub fn go_back_or_leave(me: &mut Private, access: &mut Option<Access>) -> Outcome
     requires empty { access.old ≡ None }
     ensures ended { (s : SeenLent) → record { me = me.new; globals = s.globals; planned = option_map_or Planned.Ask access.new (Planned.Done result) } ≡ by_access (spec.asks_to_leave (entered_last me.old.stack)) s me.old (goes_back me.old) }
     ensures part { me.new.part ≡ me.old.part }

@@ -1,5 +1,5 @@
 // Statements of control that are done in passing.
-ghost use Rattle.std.specs.Prelude.{◌≡◌, ◌<◌, ◌≤◌, ◌+◌, ◌∷◌, true, false, IfOk, None, Some, is_some, get_or, length, if◌then◌else◌};
+ghost use Rattle.std.specs.Prelude.{◌≡◌, ◌<◌, ◌≤◌, ◌+◌, [], ◌∷◌, true, false, IfOk, None, Some, is_some, get_or, length, if◌then◌else◌};
 ghost use Rattle.std.specs.List.{slice_get};
 ghost use Rattle.std.specs.Option.{option_map_or};
 ghost use Rattle.b2_atom.specs.Grammar.{starts};
@@ -12,6 +12,7 @@ ghost use Rattle.b2_rows.specs.Leaves.{is_leaf};
 ghost use Rattle.b2_rows.specs.Rows.{is_part, tree_at};
 ghost use Rattle.b2_rows.specs.Values.{line_of};
 ghost use Rattle.b2_text.specs.Program.{line_at as line_there};
+ghost use Rattle.b2_dec.specs.declared.values.Value.TheVariants.{Number};
 ghost use Rattle.b2_vars.specs.Globals.{unreached};
 ghost use Rattle.b2_vars.specs.Names.{is_legal_name};
 ghost use Rattle.b2_flow.specs.Stacks.{entered_last, most_frames, without_top_loop};
@@ -26,23 +27,29 @@ ghost use Rattle.b2_access.specs.Lead.{lead_seen};
 ghost use Rattle.b2_access.specs.Passing.{Passes, place_following};
 ghost use Rattle.b2_access.specs.Places.{IsUnit, line_start};
 ghost use Rattle.b2_access.specs.declared.planned.Outcome.TheVariants as outcome;
+ghost use Rattle.b2_stmt.specs.Arguments.{GivesValues, arguments, operands_of};
 ghost use Rattle.b2_stmt.specs.Asked.{asks_loop, body_place, carried};
+ghost use Rattle.b2_stmt.specs.Borrowing.{asks_of_others};
 ghost use Rattle.b2_stmt.specs.Branches.{goto_goal, if_goal, passed_function};
 ghost use Rattle.b2_stmt.specs.Calls.{called_where, goes_back, line_called as called_line};
 ghost use Rattle.b2_stmt.specs.Loops as loops;
 ghost use Rattle.b2_stmt.specs.Parts.{declared_by};
 ghost use Rattle.b2_stmt.specs.Passing as spec;
+ghost use Rattle.b2_stmt.specs.Plan.{is_built};
 
+use crate::arguments::{arguments_of, past_number};
 use crate::branches::{false_goal, passed_goal};
 use crate::calls::line_called;
 use crate::loops::{Loop, counter_at, drop_loop, frame_of, is_over, loop_at};
+use crate::marked::number_called;
 use b2_access::{Found, Lead, Private, lead_on, lead_to_goal, setting_of};
+use b2_atom::rows;
 use b2_atom::words::GLOBAL_PART;
-use b2_atom::{Cursor, rows};
-use b2_base::lexical::rest_after;
-use b2_base::{Code, Part};
-use b2_dec::{Dec, Mode, NumberOrCode, sum_or_code};
-use b2_expr::{Env, condition};
+use b2_base::codes::P35_ARGUMENTS;
+use b2_base::lexical::{at, first, is_letter, rest_after};
+use b2_base::{Code, Fault, Part};
+use b2_dec::{Dec, Mode, NumberOrCode, Value, ValueList, sum_or_code};
+use b2_expr::{Env, after_condition, condition_at, counted_digit, plain_width};
 use b2_flow::{Frame, Place, Stack, Var2};
 use b2_rows::{Goal, is_at, is_line_at, line_at};
 use b2_text::Text;
@@ -61,6 +68,7 @@ fn lead_to_line(found: &Found<'_>, n: u16) -> Lead
 
 /// To a goal on the line of a statement, where it is there.
 #[tactic(auto, using(crate::proofs::Led::unit_led, crate::proofs::Led::next_line_led))]
+#[inline(always)]
 fn lead_there(found: &Found<'_>, goal: Goal) -> Lead
     requires unit { IsUnit goal }
     ensures { spec.LeadsBy (lead_seen result) found.now (to_goal found.now.home.now.lines found.now.place goal) }
@@ -89,6 +97,7 @@ fn lead_into(home: Part, place: Place) -> Lead
 
 /// GOTO.
 #[tactic(auto, using(crate::proofs::BranchRows::goto_line, crate::proofs::BranchRows::goto_is))]
+#[inline(always)]
 fn pass_goto(found: &Found<'_>) -> Lead
     requires part { is_part row.GOTO found.now.unit.now.bytes.now ≡ true }
     ensures { spec.LeadsBy (lead_seen result) found.now (to_found found.now.home.now.lines found.now.place (goto_goal (tree_at row.GOTO found.now.unit.now.bytes.now))) }
@@ -110,6 +119,7 @@ fn lead_to_named(found: &Found<'_>, text: &[u8]) -> Lead
 }
 
 /// Where a false IF leads.
+#[inline(always)]
 fn lead_past(found: &Found<'_>) -> Lead
     ensures { spec.LeadsBy (lead_seen result) found.now (to_goal found.now.home.now.lines found.now.place (after_false found.now.place.unit (tree_units found.now.line.now))) }
 {
@@ -134,6 +144,7 @@ fn surroundings_here<'a>(own: &'a Vars, home: &'a Text, setting: Setting) -> Env
 
 /// IF.
 #[tactic(auto, using(crate::proofs::BranchRows::if_condition, crate::proofs::BranchRows::if_named, crate::proofs::BranchRows::if_is))]
+#[inline(always)]
 fn pass_if(me: &mut Private, found: &Found<'_>) -> Lead
     requires part { is_part row.IF found.now.unit.now.bytes.now ≡ true }
     requires few { found.now.place.unit < 255 }
@@ -141,15 +152,19 @@ fn pass_if(me: &mut Private, found: &Found<'_>) -> Lead
     ensures me { me.new ≡ me.old }
 {
     let e = surroundings_here(&me.vars, found.home, setting_of(me));
-    let mut c = Cursor::over(rest_after(found.unit.bytes, 1));
-    match condition(&mut c, &e) {
-        Ok(true) => lead_to_named(found, rest_after(c.rest(), 1)),
-        Ok(false) => lead_past(found),
-        Err(_) => Lead::none(),
+    let text = rest_after(found.unit.bytes, 1);
+    let judged = condition_at(text, &e);
+    if judged.is_code() {
+        return Lead::none();
     }
+    if !judged.holds() {
+        return lead_past(found);
+    }
+    lead_to_named(found, rest_after(after_condition(text, judged.left), 1))
 }
 
 /// ELSE that is reached in order.
+#[inline(always)]
 fn pass_else(found: &Found<'_>) -> Lead
     ensures { spec.LeadsBy (lead_seen result) found.now (to_goal found.now.home.now.lines found.now.place (past_colon found.now.place.unit (tree_units found.now.line.now))) }
 {
@@ -171,6 +186,7 @@ fn lead_next(found: &Found<'_>) -> Lead
 
 /// DEFFN that is reached in order and declares no name.
 #[tactic(auto, using(crate::proofs::PartRows::function_is, crate::proofs::BranchRows::passed_is))]
+#[inline(always)]
 fn pass_function(found: &Found<'_>) -> Lead
     requires part { is_part row.DEFFN found.now.unit.now.bytes.now ≡ true }
     requires few { found.now.place.unit < 255 }
@@ -183,25 +199,13 @@ fn pass_function(found: &Found<'_>) -> Lead
     lead_next(found)
 }
 
-/// The frame on top.
-#[inline(always)]
-#[tactic(auto, using(crate::proofs::Tops::top_is, crate::proofs::Tops::top_of_none))]
-fn top(stack: &Stack) -> Option<Frame>
-    ensures { result ≡ slice_get stack.now 0 }
-{
-    let height = stack.len();
-    if height == 0 {
-        return None;
-    }
-    stack.frame(height - 1)
-}
-
 /// GOSUB.
+#[inline(always)]
 fn pass_gosub(me: &mut Private, found: &Found<'_>) -> Lead
     requires part { is_part row.GOSUB found.now.unit.now.bytes.now ≡ true }
     requires few { found.now.place.unit < 255 }
     ensures passes { spec.Steers (lead_seen result) found.now me.old me.new (called_where (line_there (called_line (tree_at row.GOSUB found.now.unit.now.bytes.now)) found.now.home.now.lines) (line_start found.now.place (called_line (tree_at row.GOSUB found.now.unit.now.bytes.now))) (place_following found.now) me.old) }
-    ensures undisturbed { me.new ≡ record me.old { vars = me.new.vars; stack = me.new.stack } }
+    ensures undisturbed { me.new ≡ record me.old { vars = me.new.vars; stack = me.new.stack; args = me.new.args } }
 {
     let on = lead_on(found);
     let to = lead_to_line(found, line_called(found.unit.bytes));
@@ -221,35 +225,156 @@ fn pass_gosub(me: &mut Private, found: &Found<'_>) -> Lead
     }
 }
 
+/// To the DEFFN' of a number in the text at home, where it has one.
+#[inline(always)]
+fn lead_to_mark(found: &Found<'_>, n: u8) -> Lead
+    ensures { spec.IsMarkLed (lead_seen result) n found.now }
+{
+    match found.home.marked(n) {
+        Some(spot) => Lead::to(spot.line, spot.unit),
+        None => Lead::none(),
+    }
+}
+
+/// The values that GOSUB' passes.
+#[inline(always)]
+fn values_passed(me: &mut Private, found: &Found<'_>) -> Result<ValueList, Fault>
+    requires part { is_part row.GOSUB_MARKED found.now.unit.now.bytes.now ≡ true }
+    ensures values { GivesValues (arguments (spec.around_passing found.now me.old) (operands_of (tree_at row.GOSUB_MARKED found.now.unit.now.bytes.now))) result }
+    ensures me { me.new ≡ me.old }
+{
+    let alloc = me.stack.allocator();
+    let e = surroundings_here(&me.vars, found.home, setting_of(me));
+    arguments_of(alloc, &e, found.unit.bytes)
+}
+
+/// GOSUB' of a DEFFN' in the text at home.
+#[inline(always)]
+fn pass_gosub_marked(me: &mut Private, found: &Found<'_>) -> Lead
+    requires part { is_part row.GOSUB_MARKED found.now.unit.now.bytes.now ≡ true }
+    requires few { found.now.place.unit < 255 }
+    ensures passes { spec.Steers (lead_seen result) found.now me.old me.new (spec.calls_marked found.now me.old) }
+    ensures here { is_some (lead_seen result) ≡ true → asks_of_others (spec.asked_marked found.now me.old) found.now.place me.old found.now.own.now.lines found.now.home.now.lines ≡ None }
+    ensures undisturbed { me.new ≡ record me.old { vars = me.new.vars; stack = me.new.stack; args = me.new.args } }
+{
+    let on = lead_on(found);
+    let to = lead_to_mark(found, number_called(found.unit.bytes));
+    if !on.is_done() {
+        return Lead::none();
+    }
+    if !to.is_done() {
+        return Lead::none();
+    }
+    if !me.stack.has_room() {
+        return Lead::none();
+    }
+    match values_passed(me, found) {
+        Ok(args) => {
+            let frame = Frame::Call {
+                back: Some(on.place(found.place.home)),
+                entered: None,
+            };
+            put_with_room(&mut me.stack, frame);
+            me.args = Some(args);
+            to
+        }
+        Err(Fault::NoMemory) => Lead::no_memory(),
+        Err(Fault::Code(_)) => Lead::none(),
+    }
+}
+
+/// The number that is passed alone, or a code where none is.
+fn number_alone(args: &Option<ValueList>) -> NumberOrCode
+    ensures { IfOk result (λ x. args.now ≡ Some (Number x ∷ [])) }
+{
+    let none = NumberOrCode::code(Code::known(P35_ARGUMENTS));
+    let Some(args) = args else {
+        return none;
+    };
+    match args.values() {
+        [Value::Number(x)] => NumberOrCode::number(*x),
+        _ => none,
+    }
+}
+
+/// DEFFN' takes the number that is passed alone, where it has one receiver and that is a scalar without `@`. Whether it did; else all is
+/// as before.
+#[inline(always)]
+fn take_number(me: &mut Private, found: &Found<'_>) -> bool
+    requires part { is_part row.DEFFN_MARKED found.now.unit.now.bytes.now ≡ true }
+    ensures takes { spec.TakesOrNot found.now me.old me.new result }
+    ensures undisturbed { me.new ≡ record me.old { vars = me.new.vars; stack = me.new.stack; args = me.new.args } }
+{
+    let text = past_number(found.unit.bytes);
+    let name = rest_after(text, 1);
+    let letter = first(name);
+    if !is_at(b'(', text) || !is_letter(letter) || at(name, plain_width(name)) != b')' {
+        return false;
+    }
+    let x = number_alone(&me.args);
+    if x.is_code() {
+        return false;
+    }
+    if !me
+        .vars
+        .set_scalar(letter, counted_digit(at(name, 1)), x.get())
+    {
+        return false;
+    }
+    me.args = None;
+    true
+}
+
+/// DEFFN' that no call waits for, or that takes one number.
+#[inline(always)]
+fn pass_mark(me: &mut Private, found: &Found<'_>) -> Lead
+    requires part { is_part row.DEFFN_MARKED found.now.unit.now.bytes.now ≡ true }
+    requires few { found.now.place.unit < 255 }
+    ensures passes { Passes (lead_seen result) found.now me.old me.new (spec.marked_passing found.now me.old) }
+    ensures undisturbed { me.new ≡ record me.old { vars = me.new.vars; stack = me.new.stack; args = me.new.args } }
+{
+    let on = lead_on(found);
+    if !on.is_done() {
+        return Lead::none();
+    }
+    if me.args.is_none() {
+        return on;
+    }
+    if take_number(me, found) {
+        return on;
+    }
+    Lead::none()
+}
+
 /// Where the call on top leads back to.
 fn lead_back(stack: &Stack, home: Part) -> Lead
     ensures { spec.LeadsBack (lead_seen result) home (slice_get stack.now 0) }
 {
-    match top(stack) {
-        Some(
-            Frame::Call {
-                back: Some(back),
-                entered: None,
-            },
-        ) => lead_into(home, back),
+    let Some(frame) = stack.top() else {
+        return Lead::none();
+    };
+    match *frame {
+        Frame::Call {
+            back: Some(back),
+            entered: None,
+        } => lead_into(home, back),
         _ => Lead::none(),
     }
 }
 
 /// RETURN from a call that stands on top and entered no text.
+#[inline(always)]
 fn pass_return(me: &mut Private, found: &Found<'_>) -> Lead
     ensures passes { spec.Steers (lead_seen result) found.now me.old me.new (goes_back me.old) }
     ensures entered { is_some (lead_seen result) ≡ true → entered_last me.old.stack ≡ None }
-    ensures undisturbed { me.new ≡ record me.old { vars = me.new.vars; stack = me.new.stack } }
+    ensures undisturbed { me.new ≡ record me.old { vars = me.new.vars; stack = me.new.stack; args = me.new.args } }
 {
     let to = lead_back(&me.stack, found.place.home);
     if !to.is_done() {
         return Lead::none();
     }
-    match me.stack.pop_call() {
-        Ok(_) => to,
-        Err(_) => Lead::none(),
-    }
+    me.stack.end_call();
+    to
 }
 
 /// The digit of the variable of a loop counted from 1, 0 where it has none.
@@ -312,6 +437,7 @@ fn end_loop_if(stack: &mut Stack, over: bool)
 }
 
 /// Gives the variable of the loop on top its next value, and tests it.
+#[inline(always)]
 fn pass_round(
     me: &mut Private,
     found: &Found<'_>,
@@ -323,7 +449,7 @@ fn pass_round(
     requires few { found.now.place.unit < 255 }
     requires named { is_legal_name (loops.scalar_of v) ≡ true }
     ensures passes { spec.Steers (lead_seen result) found.now me.old me.new (loops.goes_round (Some (limit, step, body)) v me.old) }
-    ensures undisturbed { me.new ≡ record me.old { vars = me.new.vars; stack = me.new.stack } }
+    ensures undisturbed { me.new ≡ record me.old { vars = me.new.vars; stack = me.new.stack; args = me.new.args } }
 {
     let counted = next_number(&me.vars, me.mode, v, step);
     if counted.is_code() {
@@ -342,36 +468,38 @@ fn pass_round(
     to
 }
 
-/// Whether the loop of a variable stands on top.
-#[inline(always)]
-fn is_on_top(stack: &Stack, v: Var2) -> bool
-    ensures { result ≡ option_map_or (is_loop_of v) (slice_get stack.now 0) false }
-{
-    match top(stack) {
-        Some(Frame::For { var, .. }) => var == v,
-        _ => false,
-    }
-}
-
 /// NEXT of the loop on top.
+#[inline(always)]
 fn pass_next(me: &mut Private, found: &Found<'_>) -> Lead
     requires read { IsRead found.now }
     requires program { is_some found.now.place.line ≡ true }
     requires next { found.now.unit.now.row ≡ row.NEXT }
     ensures passes { Passes (lead_seen result) found.now me.old me.new (spec.planned_passing found.now me.old) }
-    ensures undisturbed { me.new ≡ record me.old { vars = me.new.vars; stack = me.new.stack } }
+    ensures undisturbed { me.new ≡ record me.old { vars = me.new.vars; stack = me.new.stack; args = me.new.args } }
 {
     let v = counter_at(found.unit.bytes);
-    if !is_on_top(&me.stack, v) {
+    let Some(frame) = me.stack.top() else {
         return Lead::none();
-    }
-    match me.stack.loop_of(v) {
-        Ok((limit, step, body)) => pass_round(me, found, v, limit, step, body),
-        Err(_) => Lead::none(),
+    };
+    match *frame {
+        Frame::For {
+            var,
+            limit,
+            step,
+            body,
+        } => {
+            if var == v {
+                pass_round(me, found, v, limit, step, body)
+            } else {
+                Lead::none()
+            }
+        }
+        Frame::Call { .. } => Lead::none(),
     }
 }
 
 /// What FOR writes.
+#[inline(always)]
 fn loop_written(me: &mut Private, found: &Found<'_>) -> Result<Loop, Code>
     requires part { is_part row.FOR found.now.unit.now.bytes.now ≡ true }
     ensures written { result ≡ loops.loop_in (spec.around_passing found.now me.old) (tree_at row.FOR found.now.unit.now.bytes.now) }
@@ -399,7 +527,7 @@ fn begin_with_room(me: &mut Private, l: Loop, body: Place) -> bool
     requires room { length me.old.stack < most_frames }
     requires named { is_legal_name (loops.scalar_of l.var) ≡ true }
     ensures passes { spec.BeginsOrNot l body me.old me.new result }
-    ensures undisturbed { me.new ≡ record me.old { vars = me.new.vars; stack = me.new.stack } }
+    ensures undisturbed { me.new ≡ record me.old { vars = me.new.vars; stack = me.new.stack; args = me.new.args } }
 {
     if !set_counter(&mut me.vars, l.var, l.from) {
         return false;
@@ -410,11 +538,12 @@ fn begin_with_room(me: &mut Private, l: Loop, body: Place) -> bool
 }
 
 /// FOR.
+#[inline(always)]
 fn pass_for(me: &mut Private, found: &Found<'_>) -> Lead
     requires part { is_part row.FOR found.now.unit.now.bytes.now ≡ true }
     requires few { found.now.place.unit < 255 }
     ensures passes { spec.Steers (lead_seen result) found.now me.old me.new (carried (asks_loop (loops.loop_in (spec.around_passing found.now me.old) (tree_at row.FOR found.now.unit.now.bytes.now)) (body_place (here_found found.now) found.now.home.now.lines)) found.now.place me.old found.now.own.now.lines found.now.home.now.lines) }
-    ensures undisturbed { me.new ≡ record me.old { vars = me.new.vars; stack = me.new.stack } }
+    ensures undisturbed { me.new ≡ record me.old { vars = me.new.vars; stack = me.new.stack; args = me.new.args } }
 {
     let on = lead_on(found);
     if !on.is_done() {
@@ -436,12 +565,14 @@ fn pass_for(me: &mut Private, found: &Found<'_>) -> Lead
 }
 
 /// Does a statement of control in passing, where it stands in a line of the program. Where it can't, as with any code, nothing has changed.
-#[tactic(auto, using(crate::proofs::Passed::goto_passes, crate::proofs::Passed::if_passes, crate::proofs::Passed::gosub_passes, crate::proofs::Passed::return_passes, crate::proofs::Passed::for_passes, crate::proofs::Passed::else_passes, crate::proofs::Passed::error_passes, crate::proofs::Passed::remark_passes, crate::proofs::Passed::image_passes, crate::proofs::Passed::data_passes, crate::proofs::Passed::function_passes))]
+#[tactic(auto, using(crate::proofs::Passed::goto_passes, crate::proofs::Passed::if_passes, crate::proofs::Passed::gosub_passes, crate::proofs::Passed::return_passes, crate::proofs::Passed::for_passes, crate::proofs::Passed::else_passes, crate::proofs::Passed::error_passes, crate::proofs::Passed::remark_passes, crate::proofs::Passed::image_passes, crate::proofs::Passed::data_passes, crate::proofs::Passed::function_passes, crate::proofs::Passed::call_passes, crate::proofs::Passed::mark_passes))]
+#[inline(always)]
 pub fn pass(me: &mut Private, found: &Found<'_>) -> Lead
     requires read { IsRead found.now }
     requires program { is_some found.now.place.line ≡ true }
     ensures passes { Passes (lead_seen result) found.now me.old me.new (spec.planned_passing found.now me.old) }
-    ensures undisturbed { me.new ≡ record me.old { vars = me.new.vars; stack = me.new.stack } }
+    ensures built { is_some (lead_seen result) ≡ true → is_built found.now.unit.now.row ≡ true }
+    ensures undisturbed { me.new ≡ record me.old { vars = me.new.vars; stack = me.new.stack; args = me.new.args } }
     ensures part { me.new.part ≡ me.old.part }
 {
     match found.unit.row {
@@ -451,6 +582,8 @@ pub fn pass(me: &mut Private, found: &Found<'_>) -> Lead
         rows::GOSUB => pass_gosub(me, found),
         rows::RETURN => pass_return(me, found),
         rows::FOR => pass_for(me, found),
+        rows::GOSUB_MARKED => pass_gosub_marked(me, found),
+        rows::DEFFN_MARKED => pass_mark(me, found),
         rows::ELSE => pass_else(found),
         rows::REMARK => lead_next(found),
         rows::IMAGE_LINE => lead_next(found),

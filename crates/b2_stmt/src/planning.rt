@@ -12,7 +12,7 @@ ghost use Rattle.b2_stmt.specs.Plan as spec;
 ghost use Rattle.b2_stmt.specs.Plan.{around};
 
 use crate::asked::{Asked, ask, still};
-use crate::borrowing::do_or_ask;
+use crate::borrowing::{do_or_ask, go_back_or_leave};
 use crate::clearing::asked_access;
 use crate::marked::take_args;
 use b2_access::{
@@ -171,7 +171,7 @@ fn execute_still(me: &mut Private, lent: &mut Lent<'_>, found: &Found<'_>) -> Ou
 
 /// Executes a statement that may stand where it does, and asks for no access by its row. Where it asks for the text of another, nothing is
 /// done, and the access goes to the caller.
-#[tactic(auto, using(crate::proofs::Executed::still_there, crate::proofs::Executed::taken_there, crate::proofs::Executed::asked_there))]
+#[tactic(auto, using(crate::proofs::Executed::still_there, crate::proofs::Executed::taken_there, crate::proofs::Executed::asked_there, crate::proofs::Executed::returned_there))]
 fn execute_allowed(
     alloc: Global,
     me: &mut Private,
@@ -192,6 +192,9 @@ fn execute_allowed(
     }
     if row == rows::DEFFN_MARKED {
         return take_args(me, lent, found);
+    }
+    if row == rows::RETURN {
+        return Ok(go_back_or_leave(me, access));
     }
     execute_asked(alloc, me, lent, found, access)
 }
