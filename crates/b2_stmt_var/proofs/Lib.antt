@@ -4,8 +4,8 @@
 -- time. Assigned: receivers one after the other. BufferRows, TurnRows, LoneRows and EntryRows: the rows of INIT, of ROTATE, and
 -- of DIM and COM. LengthRows: a length is read as a sum is.
 -- ReadingOrder: READ takes the literals of DATA in their order. HomesKept, KeptPlaces and Waits: what every statement leaves;
--- LeftAlone: all of it in one record. PlainAssignment: an assignment of a number to one scalar, by its bytes; PassedOn: what it
--- leaves and where it leads, done in passing.
+-- LeftAlone: all of it in one record. PlainAssignment: an assignment of a number to one scalar, by its bytes; OneReceiver: an
+-- assignment of either kind to one receiver; PassedOn: what one leaves and where it leads, done in passing.
 pub mod NumberRows
 pub mod SideRows
 pub mod Assigned
@@ -24,4 +24,5 @@ pub mod Waits
 pub mod LeftAlone
 pub mod Reached
 pub mod PlainAssignment
+pub mod OneReceiver
 pub mod PassedOn

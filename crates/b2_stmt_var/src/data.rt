@@ -28,6 +28,7 @@ pub struct Literal {
 }
 
 /// The number that bytes spell: C60 or C61 where it is out of range.
+#[inline(always)]
 fn number_spelled(bytes: &[u8]) -> Result<Dec, Code>
     ensures { result ≡ literal_value bytes.now }
 {
@@ -39,6 +40,7 @@ fn number_spelled(bytes: &[u8]) -> Result<Dec, Code>
 
 /// The bytes of the literal at a text.
 #[tactic(auto, using(crate::proofs::DataRows::literal_here, crate::proofs::DataRows::literal_short))]
+#[inline(always)]
 fn quoted_bytes(text: &[u8]) -> Bytes
     requires part { is_part row.LITERAL text.now ≡ true }
     ensures { result ≡ spec.literal_bytes_at text.now }
@@ -51,6 +53,7 @@ fn quoted_bytes(text: &[u8]) -> Bytes
 
 /// The value of the literal at a text.
 #[tactic(auto, using(crate::proofs::DataRows::quoted_here, crate::proofs::DataRows::quoted_is, crate::proofs::DataRows::number_is))]
+#[inline(always)]
 fn datum(text: &[u8]) -> Result<Value, Code>
     requires part { is_part row.DATUM text.now ≡ true }
     ensures { result ≡ spec.datum_value (tree_at row.DATUM text.now) }
@@ -79,6 +82,7 @@ fn past_datum(text: &[u8]) -> &[u8]
 
 /// The text of the k-th literal of those at a text, counted from 0, None where there are at most k.
 #[tactic(auto, using(crate::proofs::DataRows::other_part, crate::proofs::DataRows::other_list, crate::proofs::DataRows::on_datum, crate::proofs::DataRows::no_datum, crate::proofs::DataRows::here_datum))]
+#[inline(always)]
 fn nth_datum(text: &[u8], k: usize) -> Option<&[u8]>
     requires first { is_part row.DATUM text.now ≡ true }
     requires list { is_list commas row.COMMA_DATUM (after_part row.DATUM text.now) ≡ true }
@@ -98,6 +102,7 @@ fn nth_datum(text: &[u8], k: usize) -> Option<&[u8]>
 
 /// The value of the k-th literal of a DATA.
 #[tactic(auto, using(crate::proofs::DataRows::data_first, crate::proofs::DataRows::data_list, crate::proofs::DataRows::data_is))]
+#[inline(always)]
 fn nth_value(unit: &[u8], k: usize) -> Option<Result<Value, Code>>
     requires part { is_part row.DATA unit.now ≡ true }
     ensures { result ≡ option_map spec.datum_value (slice_get (spec.literals_listed (tree_at row.DATA unit.now)) k) }
@@ -109,6 +114,7 @@ fn nth_value(unit: &[u8], k: usize) -> Option<Result<Value, Code>>
 }
 
 /// The value of the k-th literal of a unit, where it is a DATA.
+#[inline(always)]
 fn value_in(unit: &RowUnit<'_>, k: usize) -> Option<Result<Value, Code>>
     requires read { IsRow unit.now.row unit.now.bytes.now (tree_at unit.now.row unit.now.bytes.now) }
     ensures { result ≡ option_map spec.datum_value (slice_get (spec.literals_of unit.now.row (tree_at unit.now.row unit.now.bytes.now)) k) }
@@ -120,6 +126,7 @@ fn value_in(unit: &RowUnit<'_>, k: usize) -> Option<Result<Value, Code>>
 }
 
 /// The k-th literal of the unit at a spot of a text, counted from 0, where that is a DATA.
+#[inline(always)]
 fn literal_of(own: &Text, spot: Spot, k: u8) -> Option<Literal>
     ensures { result ≡ spec.literal_at own.now.lines spot k }
 {
@@ -139,6 +146,7 @@ fn literal_of(own: &Text, spot: Spot, k: u8) -> Option<Literal>
 }
 
 /// The first literal of the first DATA at or after a spot.
+#[inline(always)]
 fn first_literal(own: &Text, from: Spot) -> Option<Literal>
     ensures { result ≡ spec.first_literal own.now.lines from }
 {

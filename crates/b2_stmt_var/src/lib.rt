@@ -22,4 +22,4 @@ mod reading;
 mod restoring;
 
 pub use passing::pass;
-pub use planning::{execute, finish, is_built, plan};
+pub use planning::{execute, finish, is_built, plan, plan_found};

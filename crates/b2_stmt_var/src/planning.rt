@@ -108,6 +108,30 @@ pub fn execute(
     Ok(goes_or(Outcome::Next, code))
 }
 
+/// What a statement plans that its caller has found, over what is lent.
+pub fn plan_found(
+    alloc: Global,
+    me: &mut Private,
+    lent: &mut Lent<'_>,
+    found: &Found<'_>,
+) -> Result<Planned, NoMemory>
+    requires row { HasRow found.now }
+    ensures planned { IfOk result (λ p. record { me = me.new; globals = globals_lent lent.new; planned = p } ≡ as_planned me.old (seen_lent lent.old) (Ends (spec.ended_of (statement_found found.now) me.old (seen_lent lent.old)))) }
+    ensures same_texts { (lent.new.own ≡ lent.old.own) × (lent.new.home ≡ lent.old.home) }
+    ensures same_reference { lent.new.globals.ghost_name ≡ lent.old.globals.ghost_name }
+    ensures part { me.new.part ≡ me.old.part }
+{
+    let here = Found {
+        own: lent.own,
+        home: lent.home,
+        line: found.line,
+        unit: found.unit,
+        place: found.place,
+    };
+    let outcome = execute(alloc, me, lent, &here)?;
+    Ok(Planned::Done(outcome))
+}
+
 /// What the statement at the place of a partition plans. Where no unit is there it is ready.
 pub fn plan(
     alloc: Global,

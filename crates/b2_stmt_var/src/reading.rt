@@ -21,6 +21,7 @@ use b2_rows::is_at;
 use b2_text::{Spot, Text};
 
 /// Whether a literal is for a receiver; a number that is out of range is of its kind.
+#[inline(always)]
 fn is_for(to: &Receiver, literal: &Result<Value, Code>) -> bool
     ensures { result ≡ spec.is_for to.now literal.now }
 {
@@ -32,6 +33,7 @@ fn is_for(to: &Receiver, literal: &Result<Value, Code>) -> bool
 
 /// A literal's value for a receiver, X74 where they are not of one kind.
 #[tactic(auto, using(b2_receiver::proofs::OneKind::one_kind))]
+#[inline(always)]
 fn value_for(to: &Receiver, literal: Result<Value, Code>) -> Result<Value, Code>
     ensures value { result ≡ spec.value_for to.now literal }
     ensures kind { IfOk result (λ x. is_alpha x ≡ is_alpha_receiver to.now) }
@@ -44,6 +46,7 @@ fn value_for(to: &Receiver, literal: Result<Value, Code>) -> Result<Value, Code>
 }
 
 /// Assigns a literal to a receiver: it counts as read where that has no code.
+#[inline(always)]
 fn take_literal(
     work: &mut Workspace<'_>,
     next: &mut Option<(Spot, u8)>,
@@ -66,6 +69,7 @@ fn take_literal(
 }
 
 /// Reads a literal into the receiver at a text.
+#[inline(always)]
 fn read_one(
     work: &mut Workspace<'_>,
     next: &mut Option<(Spot, u8)>,
