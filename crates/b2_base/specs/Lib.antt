@@ -1,6 +1,7 @@
 pub mod Byte
 pub mod Codes
 pub mod Counts
+pub mod FileSystems
 pub mod Files
 pub mod Keyed
 pub mod Laws

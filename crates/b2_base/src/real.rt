@@ -1,44 +1,31 @@
-// The trusted edge: files of the file system, and standard output. They tell no bytes.
-ghost use Rattle.std.specs.Prelude.{◌≡◌, ◌≤◌, ◌<◌, ◌+◌, ◌^◌, ◌++◌, None, option_map, [], ℕ, length, take, IfSome, true};
+// The shelf over a file system, and the sink over a writer. What a file system or a writer tells, they tell.
+ghost use Rattle.std.specs.Prelude.{◌≡◌, ◌≢◌, ◌≤◌, ◌<◌, ◌+◌, ◌^◌, ◌++◌, None, option_map, [], ℕ, length, take, IfSome, true};
 ghost use Rattle.b2_base.specs.Counts.{Rose};
-ghost use Rattle.b2_base.specs.Files.{Files, IsFetched, IsAbsent, IsCutShort};
+ghost use Rattle.b2_base.specs.Files.{Files, IsFetched, IsAbsent, IsCutShort, with_file, without_file};
 ghost use Rattle.b2_base.specs.Outside.{IsPartWritten};
 ghost use Rattle.std.specs.Io.KnownBytes.{Appends};
-ghost use Rattle.b2_base.specs.declared.real.Reading.TheVariants.{Whole, TooLong};
+ghost use Rattle.b2_base.specs.Real.{fetch_counts, keep_counts, put_counts};
+ghost use Rattle.b2_base.specs.declared.real.Reading.TheVariants.{Whole, TooLong, Missing};
 
-use crate::{Fetch, Keep, Shelf, Sink};
-use arrayvec::ArrayString;
-use std::fs::{OpenFile, OpenOptions};
-use std::io::{self, ErrorKind, Read, Write};
-use std::marker::Model;
-use std::rt::Files;
-use std::{fs, str};
+use crate::{Fetch, FileSystem, Keep, Opened, Shelf, Sink};
+use std::io::{ErrorKind, Read, Write};
 
-/// Files of the file system, by names in the current folder. A file that can't be opened, read or written is a fault;
-/// one that isn't there is a miss.
+/// The files of a file system. A file that can't be opened, read or written is a fault; one that isn't there is a miss.
 #[derive(Drop)]
-pub struct FileShelf<'a, R: Files> {
-    rt: &'a R,
+pub struct FileShelf<S: FileSystem + Drop> {
+    system: S,
     faults: u64,
     misses: u64,
     longs: u64,
 }
 
-impl<'a, R: Files> Model for FileShelf<'a, R> {
-    ghost use Rattle.b2_base.specs.Real.{FileCounts};
-
-    ghost Value = { FileCounts };
-
-    ghost view = { λ s. record { faults = s.faults; misses = s.misses; longs = s.longs } };
-}
-
-impl<'a, R: Files> FileShelf<'a, R> {
+impl<S: FileSystem + Drop> FileShelf<S> {
     /// The shelf with all counts 0.
-    pub fn new(rt: &'a R) -> FileShelf<'a, R>
-        ensures { result ≡ record { faults = 0; misses = 0; longs = 0 } }
+    pub fn new(system: S) -> FileShelf<S>
+        ensures { result ≡ record { system = system; faults = 0; misses = 0; longs = 0 } }
     {
         FileShelf {
-            rt,
+            system,
             faults: 0,
             misses: 0,
             longs: 0,
@@ -59,9 +46,10 @@ enum Reading {
 fn read_whole<F: Read + Drop>(file: F, limit: usize, into: &mut Vec<u8>) -> Reading
     requires empty { into.old.items ≡ [] }
     requires limit { limit < 2 ^ 31 }
+    ensures there { result ≢ Missing }
     ensures whole { result ≡ Whole → length into.new.items ≤ limit }
     ensures too_long { result ≡ TooLong → length into.new.items ≡ limit + 1 }
-    ensures all { result ≡ Whole → IfSome (F.remaining file) (λ xs. into.new.items ≡ take (limit + 1) xs) }
+    ensures all { result ≡ Whole → IfSome (F.remaining file) (λ xs. into.new.items ≡ xs) }
     ensures front { result ≡ TooLong → IfSome (F.remaining file) (λ xs. into.new.items ≡ take (limit + 1) xs) }
 {
     match file.take(limit as u64 + 1).read_to_end(into) {
@@ -83,31 +71,22 @@ fn read_whole<F: Read + Drop>(file: F, limit: usize, into: &mut Vec<u8>) -> Read
 }
 
 /// Reads the file of a name.
-fn read_file<R: Files>(rt: &R, name: &[u8], limit: usize, into: &mut Vec<u8>) -> Reading
+fn read_file<S: FileSystem>(system: &S, name: &[u8], limit: usize, into: &mut Vec<u8>) -> Reading
     requires empty { into.old.items ≡ [] }
     requires limit { limit < 2 ^ 31 }
-    ensures whole { result ≡ Whole → length into.new.items ≤ limit }
-    ensures too_long { result ≡ TooLong → length into.new.items ≡ limit + 1 }
+    ensures whole { result ≡ Whole → IsFetched (S.files system.now) name.now limit into.new.items }
+    ensures too_long { result ≡ TooLong → IsCutShort (S.files system.now) name.now limit into.new.items }
+    ensures missing { result ≡ Missing → IsAbsent (S.files system.now) name.now }
 {
-    let Ok(path) = str::from_utf8(name) else {
-        return Reading::Failed;
-    };
-    match fs::open(rt, path) {
-        Ok(file) => read_whole(file, limit, into),
-        Err(e) => {
-            if e.kind() == ErrorKind::NotFound {
-                Reading::Missing
-            } else {
-                Reading::Failed
-            }
-        }
+    match system.open(name) {
+        Opened::Source(file) => read_whole(file, limit, into),
+        Opened::Missing => Reading::Missing,
+        Opened::Failed => Reading::Failed,
     }
 }
 
-impl<'a, R: Files> Shelf for FileShelf<'a, R> {
-    ghost use Rattle.b2_base.specs.Real.{fetch_counts, keep_counts};
-
-    ghost files = { λ s. None };
+impl<S: FileSystem + Drop> Shelf for FileShelf<S> {
+    ghost files = { λ s. S.files s.system };
 
     ghost faults = { λ s. s.faults };
 
@@ -118,16 +97,17 @@ impl<'a, R: Files> Shelf for FileShelf<'a, R> {
     fn fetch(&mut self, name: &[u8], limit: usize, into: &mut Vec<u8>) -> Fetch
         requires empty { into.old.items ≡ [] }
         requires limit { limit < 2 ^ 31 }
+        ensures same { S.files self.new.system ≡ S.files self.old.system }
         ensures faults { self.old.faults ≤ self.new.faults }
         ensures misses { self.old.misses ≤ self.new.misses }
         ensures longs { self.old.longs ≤ self.new.longs }
-        ensures done { result ≡ Fetch.Done → IsFetched None name.now limit into.new.items }
-        ensures missing { result ≡ Fetch.Missing → Rose self.old.misses self.new.misses × IsAbsent None name.now }
+        ensures done { result ≡ Fetch.Done → IsFetched (S.files self.old.system) name.now limit into.new.items }
+        ensures missing { result ≡ Fetch.Missing → Rose self.old.misses self.new.misses × IsAbsent (S.files self.old.system) name.now }
         ensures failed { result ≡ Fetch.Failed → Rose self.old.faults self.new.faults }
-        ensures too_long { result ≡ Fetch.TooLong → Rose self.old.longs self.new.longs × IsCutShort None name.now limit into.new.items }
-        ensures counts { self.new ≡ fetch_counts result self.old }
+        ensures too_long { result ≡ Fetch.TooLong → Rose self.old.longs self.new.longs × IsCutShort (S.files self.old.system) name.now limit into.new.items }
+        ensures counts { record { faults = self.new.faults; misses = self.new.misses; longs = self.new.longs } ≡ fetch_counts result (record { faults = self.old.faults; misses = self.old.misses; longs = self.old.longs }) }
     {
-        match read_file(self.rt, name, limit, into) {
+        match read_file(&self.system, name, limit, into) {
             Reading::Whole => Fetch::Done,
             Reading::NoMemory => Fetch::NoMemory,
             Reading::Missing => {
@@ -149,10 +129,12 @@ impl<'a, R: Files> Shelf for FileShelf<'a, R> {
         ensures faults { self.old.faults ≤ self.new.faults }
         ensures misses { self.old.misses ≤ self.new.misses }
         ensures longs { self.old.longs ≤ self.new.longs }
+        ensures done { result ≡ Keep.Done → S.files self.new.system ≡ with_file name.now bytes.now (S.files self.old.system) }
+        ensures others { without_file name.now (S.files self.new.system) ≡ without_file name.now (S.files self.old.system) }
         ensures failed { result ≡ Keep.Failed → Rose self.old.faults self.new.faults }
-        ensures counts { self.new ≡ keep_counts result self.old }
+        ensures counts { record { faults = self.new.faults; misses = self.new.misses; longs = self.new.longs } ≡ keep_counts result (record { faults = self.old.faults; misses = self.old.misses; longs = self.old.longs }) }
     {
-        if write_file(self.rt, name, bytes) {
+        if write_file(&mut self.system, name, bytes) {
             return Keep::Done;
         }
         self.faults = self.faults.saturating_add(1);
@@ -167,74 +149,54 @@ fn write_whole<W: Write>(writer: &mut W, bytes: &[u8]) -> bool
     writer.write_all(bytes).is_ok()
 }
 
-/// Writes the file of a name: whether all went well. The bytes go to a file beside it, whose name is moved over once they
-/// are on the disk; where a step fails, the file beside it is removed and an old file of the name stays whole. What stands
-/// beside it before is removed and never written through, be it a link to another file or not.
-fn write_file<R: Files>(rt: &R, name: &[u8], bytes: &[u8]) -> bool {
-    let Ok(path) = str::from_utf8(name) else {
+/// Writes the file of a name: whether all went well. The bytes go to a file beside it, which takes its place once they are
+/// whole; where a step fails, the file beside it is removed and an old file of the name stays whole.
+fn write_file<S: FileSystem>(system: &mut S, name: &[u8], bytes: &[u8]) -> bool
+    ensures done { result ≡ true → S.files system.new ≡ with_file name.now bytes.now (S.files system.old) }
+    ensures others { without_file name.now (S.files system.new) ≡ without_file name.now (S.files system.old) }
+{
+    let Some(mut target) = system.begin(name) else {
         return false;
     };
-    let mut beside = ArrayString::<256>::new();
-    if beside.try_push_str(path).is_err() || beside.try_push('~').is_err() {
-        return false;
+    if write_whole(&mut target, bytes) {
+        if system.place(name, target) {
+            return true;
+        }
     }
-    let _ = fs::remove_file(rt, beside.as_str());
-    let mut options = OpenOptions::new();
-    options.write(true).create_new(true);
-    let Ok(file) = options.open(rt, beside.as_str()) else {
-        return false;
-    };
-    if write_down(file, bytes) && fs::rename(rt, beside.as_str(), path).is_ok() {
-        return true;
-    }
-    let _ = fs::remove_file(rt, beside.as_str());
+    system.abandon(name);
     false
 }
 
-/// Writes a new file whole, down to the disk, and closes it.
-fn write_down<F: OpenFile + Write + Drop>(mut file: F, bytes: &[u8]) -> bool {
-    write_whole(&mut file, bytes) && file.sync_all().is_ok()
-}
-
-/// Standard output.
+/// The end of a writer, as standard output.
 #[derive(Drop)]
-pub struct OutSink<'a, P: Print> {
-    rt: &'a P,
+pub struct OutSink<W: Write + Drop> {
+    writer: W,
     faults: u64,
 }
 
-impl<'a, P: Print> Model for OutSink<'a, P> {
-    ghost use Rattle.std.specs.Prelude.{ℕ};
-
-    ghost Value = { ℕ };
-
-    ghost view = { λ s. s.faults };
-}
-
-impl<'a, P: Print> OutSink<'a, P> {
+impl<W: Write + Drop> OutSink<W> {
     /// The sink with its count 0.
-    pub fn new(rt: &'a P) -> OutSink<'a, P>
-        ensures { result ≡ 0 }
+    pub fn new(writer: W) -> OutSink<W>
+        ensures { result ≡ record { writer = writer; faults = 0 } }
     {
-        OutSink { rt, faults: 0 }
+        OutSink { writer, faults: 0 }
     }
 }
 
-impl<'a, P: Print> Sink for OutSink<'a, P> {
-    ghost use Rattle.b2_base.specs.Real.{put_counts};
-
+impl<W: Write + Drop> Sink for OutSink<W> {
     ghost written = { λ s. None };
 
-    ghost faults = { λ s. s };
+    ghost faults = { λ s. s.faults };
 
     fn put(&mut self, bytes: &[u8]) -> Keep
-        ensures faults { self.old ≤ self.new }
+        ensures faults { self.old.faults ≤ self.new.faults }
         ensures done { result ≡ Keep.Done → None ≡ option_map (λ w. w ++ bytes.now) None }
         ensures part { IsPartWritten None None bytes.now }
-        ensures failed { result ≡ Keep.Failed → Rose self.old self.new }
-        ensures counts { self.new ≡ put_counts result self.old }
+        ensures failed { result ≡ Keep.Failed → Rose self.old.faults self.new.faults }
+        ensures handed_on { result ≡ Keep.Done → Appends (W.contents self.old.writer) (W.contents self.new.writer) bytes.now }
+        ensures counts { self.new.faults ≡ put_counts result self.old.faults }
     {
-        if write_whole(&mut io::writer(self.rt), bytes) {
+        if write_whole(&mut self.writer, bytes) {
             return Keep::Done;
         }
         self.faults = self.faults.saturating_add(1);

@@ -20,7 +20,7 @@ mod status;
 mod tests;
 mod top;
 
-use b2_base::{FileShelf, OutSink};
+use b2_base::{FileShelf, HostFiles, OutSink};
 use status::Status;
 use std::env::{self, Env};
 use std::io::{self, ErrorKind};
@@ -40,8 +40,8 @@ fn words(rt: &(impl Env + AllocGlobal)) -> io::Result<Vec<Vec<u8>>> {
 fn run_process(rt: &HostRuntime) -> Status {
     match words(rt) {
         Ok(words) => {
-            let mut shelf = FileShelf::new(rt);
-            let mut sink = OutSink::new(rt);
+            let mut shelf = FileShelf::new(HostFiles::new(rt));
+            let mut sink = OutSink::new(io::writer(rt));
             top::mvp(rt.alloc(), &words, &mut shelf, &mut sink)
         }
         Err(error) => {
