@@ -1,8 +1,9 @@
 # Counts, for each form of the language's table, how often the sessions of tests/ execute it without a code, and which ways it
 # went where it has a choice:
 #   python3 tools/tests/forms.py
-# Prints each form that was executed fewer than three times, and each way of a form that was never gone, and at the end "N
-# passed, N failed"; the status is 0 where none is missing.
+# Prints each form, and each of the parts between which one chooses, that was executed fewer than three times, and each part that
+# may be left out which never was there or never was left out; and at the end "N passed, N failed". The status is 0 where none
+# is missing.
 #
 # What is counted is certain from the text of a session alone. A line that is typed was executed where no code is shown after
 # it. A program is followed from where it was started, line by line and through its jumps and calls; where the way of it can't
@@ -16,7 +17,7 @@ from dataclasses import dataclass, field
 sys.dont_write_bytecode = True
 
 from cases import TESTS, chapters  # noqa: E402
-from grammar import EVERYWHERE, parts_of, table, units_of  # noqa: E402
+from grammar import EVERYWHERE, known_words, parts_of, table, units_of  # noqa: E402
 
 # How often a form is to be executed at least.
 LEAST = 3
@@ -25,10 +26,11 @@ LEAST = 3
 LEFT_OUT = {'LEFT_OUT', 'SELECT_LEFT_OUT', 'MAT_LEFT_OUT'}
 
 CODE = re.compile(r'\^?ERR [A-Z][0-9]{2}(?: AT ([0-9]+))?')
-STOPPED = re.compile(r'(?:STOP|HALT).* ([0-9]+)$')
-
 # Statements after which the next one isn't known from the text.
 UNKNOWN = {'IF_END', 'LOAD', 'CLEAR', 'CLEAR_P', 'RUN', 'CONTINUE'}
+
+# An assignment that fails.
+FAILING = re.compile(r'=1/0$')
 
 # Statements that leave a program where it is.
 ENDING = {'END', 'STOP'}
@@ -50,6 +52,10 @@ def is_true(text):
             '<=': first <= second, '>=': first >= second, '<>': first != second}[found[2]]
 
 
+# The rows of expressions and conditions, whose choices are told once, wherever they stand.
+COMMON = frozenset().union(*(parts_of(row) for row in EVERYWHERE))
+
+
 @dataclass
 class Counted:
     """What was executed: how often each form, and each way of one."""
@@ -63,9 +69,6 @@ class Counted:
             self.ways[(None if row in COMMON else unit.row, row, place, way)] += 1
 
 
-COMMON = frozenset().union(*(parts_of(row) for row in EVERYWHERE)) - {'LINE'}
-
-
 class Machine:
     """A program as a session typed it, and where it stopped; what was executed goes to the counts."""
 
@@ -74,6 +77,9 @@ class Machine:
         self.lines = {}
         self.calls = []
         self.place = None
+
+    def forget(self):
+        self.lines, self.calls, self.place = {}, [], None
 
     def edit(self, number, text):
         if text.strip():
@@ -125,27 +131,22 @@ class Machine:
         following = units[place[1] + 1] if place[1] + 1 < len(units) else None
         if following is not None and following.row == 'ERROR':
             return self.try_unit(unit, following, place)
-        if row == 'ERROR':
+        if row in ('ERROR', 'ELSE'):
+            # What stands before it went on, so it is skipped.
             return self.after(place)
         if row == 'IF':
             return self.choose(unit, following, place)
-        if row == 'ELSE':
-            # It is skipped where no IF before it was false.
-            return self.skip_else(place, units)
         self.counted.add(unit)
         return self.goes_to(unit, text, place)
 
-    def skip_else(self, place, units):
-        return self.after(place)
-
     def try_unit(self, unit, error, place):
         """A statement with an ERROR after it, which is executed where the statement fails for certain."""
-        if '1/0' not in unit.text:
-            if unit.row in ('IF', 'ON') or re.search(r'ERR', unit.text):
-                raise Unsure
-            return self.after(self.after(place))
-        self.counted.add(error)
-        return self.execute(error.inside[0], self.after(place), [error.inside[0]])
+        if FAILING.search(unit.text):
+            self.counted.add(error)
+            return self.execute(error.inside[0], self.after(place), [error.inside[0]])
+        if unit.row not in STEADY or error.inside[0].row not in STEADY:
+            raise Unsure
+        return self.after(self.after(place))
 
     def choose(self, unit, following, place):
         """An IF: what it goes on with."""
@@ -220,9 +221,9 @@ class Machine:
                     raise Unsure
                 return place
             case 'CLEAR':
-                self.lines, self.calls, self.place = {}, [], None
+                self.forget()
                 return None
-        self.lines, self.calls, self.place = {}, [], None
+        self.forget()
         raise Unsure
 
 
@@ -251,18 +252,13 @@ def follow_line(machine, text, shown, is_plain):
         if not codes:
             machine.edit(int(number[1]), number[2])
         return
-    until = None
-    if codes:
-        # What stands before the line that met the code was executed, and of an immediate line nothing is known.
-        if codes[0][1] is None:
-            return
-        until = int(codes[0][1])
-    units = units_of(text)
-    if units is None or not is_plain:
-        machine.lines = {} if units is None else machine.lines
+    if units_of(text) is None or not is_plain or (codes and codes[0][1] is None):
+        # Of an immediate line that met a code nothing is known, nor what it did to the program.
+        machine.forget()
         return
     try:
-        machine.follow(units, (None, 0), until)
+        # What stands before the line that met the code was executed.
+        machine.follow(units_of(text), (None, 0), int(codes[0][1]) if codes else None)
     except Unsure:
         pass
 
@@ -278,38 +274,33 @@ def count():
     return counted
 
 
-def ways_of(row, within):
-    """The ways that a form can go, each with the row and the item that has the choice."""
-    texts = words_in_order()
+def ways_of(row, is_common):
+    """The ways that a form can go, each with the row and the item that has the choice, and how often it is wanted."""
+    texts = known_words()[1]
     for part in sorted(parts_of(row)):
-        if part in LEFT_OUT or (part in COMMON) != within:
+        if part in LEFT_OUT or (part in COMMON) != is_common:
             continue
         for place, item in enumerate(table()[0][part]):
             match item[0]:
                 case 'Maybe' | 'Many':
-                    yield from ((part, place, way) for way in (item[2], 'no ' + item[2]))
+                    yield from ((part, place, way, 1) for way in (item[2], 'no ' + item[2]))
                 case 'Either':
-                    yield from ((part, place, way) for way in item[2:] if way not in LEFT_OUT)
+                    yield from ((part, place, way, LEAST) for way in item[2:] if way not in LEFT_OUT)
                 case 'Among':
                     low, high = texts.index(item[1]), texts.index(item[2])
-                    yield from ((part, place, way) for way in texts[low:high + 1])
+                    yield from ((part, place, way, LEAST) for way in texts[low:high + 1])
                 case 'Comma':
-                    yield from ((part, place, way) for way in ('a comma', 'no comma'))
-
-
-def words_in_order():
-    from grammar import known_words
-    return known_words()[1]
+                    yield from ((part, place, way, 1) for way in ('a comma', 'no comma'))
 
 
 def wanted():
-    """The forms, and the ways that are to be gone: of what stands in expressions anywhere, of all else in each form."""
+    """How often each form is wanted, and each way of one: of what stands in expressions anywhere, of all else in each form."""
     forms = [row for _, row in table()[1] if row not in LEFT_OUT] + ['ASSIGNMENT']
-    ways = [(None, *way) for row in EVERYWHERE if row != 'LINE' for way in ways_of(row, True)]
-    for form in forms:
-        ways += [(form, *way) for way in ways_of(form, False)]
-    ways += [('IF', 'IF', None, 'true'), ('IF', 'IF', None, 'false')]
-    return forms, list(dict.fromkeys(ways))
+    ways = {('IF', 'IF', None, way): LEAST for way in ('true', 'false')}
+    for form, rows, is_common in [(None, EVERYWHERE, True)] + [(form, [form], False) for form in forms]:
+        for row in rows:
+            ways |= {(form, part, place, way): least for part, place, way, least in ways_of(row, is_common)}
+    return forms, ways
 
 
 def main():
@@ -317,8 +308,10 @@ def main():
     forms, ways = wanted()
     failed = [f'FAILED {form} is executed {counted.forms[form]} times, and {LEAST} are wanted'
               for form in forms if counted.forms[form] < LEAST]
-    for form, row, _, way in (way for way in ways if not counted.ways[way]):
-        failed.append(f'FAILED {form or "an expression"}: {row} never goes by {way}')
+    for (form, row, place, way), least in ways.items():
+        times = counted.ways[(form, row, place, way)]
+        if times < least:
+            failed.append(f'FAILED {form or "an expression"}: {row} goes by {way} {times} times, and {least} are wanted')
     print('\n'.join(failed + [f'{len(forms) + len(ways) - len(failed)} passed, {len(failed)} failed']))
     return 0 if not failed else 1
 

@@ -246,8 +246,8 @@ def units_of(line):
     return reader.units
 
 
-# Rows whose choices are told once, wherever they stand: expressions and conditions, and the lengths of DIM.
-EVERYWHERE = ('LINE', 'SUM', 'ADDEND', 'CONDITION', 'ALPHA')
+# Rows of expressions and conditions, through which all others of these are reached.
+EVERYWHERE = ('SUM', 'ADDEND', 'CONDITION', 'ALPHA')
 
 
 @cache
