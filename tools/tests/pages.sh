@@ -127,4 +127,6 @@ consoles_run examples/README.md
 for page in README.md docs/USING.md docs/CODES.md examples/README.md; do commands_in_text_run "$page"; done
 codes_are_shown
 examples_under_other_orders
+counted "names in pages" pages.py
+counted "forms that sessions execute" forms.py
 gives 0 "ARCHITECTURE.md has the picture of crates.txt" "$top/tools/picture" --check

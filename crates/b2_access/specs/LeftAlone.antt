@@ -11,9 +11,9 @@ use Rattle.b2_access.specs.declared.accesses.Access.{Access}
 use Rattle.b2_access.specs.declared.accesses.Answer.{Answer}
 use Rattle.b2_access.specs.declared.private.Private.{Private}
 
--- They name no partition but the statement's own and those that were named before; they leave its place, and keep one for
--- CONTINUE only where it ends the program; they leave its terminal, ask there alone, and make nothing wait to be shown but what is for
--- it; where it asks or has to wait, nothing has changed; and the `@` variables change only where a receiver among them is reached.
+-- They name no partition but the statement's own, those that were named before, and whom the answer leads to; they leave its
+-- place, and keep one for CONTINUE only where it ends the program; they leave its terminal, ask there alone, and make nothing wait to
+-- be shown but what is for it; where it asks or has to wait, nothing has changed; and the `@` variables change only where a receiver among them is reached.
 pub record LeaveTheRest (plan : Private → SeenLent → Planning) (finish : Access → Answer → Private → SeenLent → Finishing) : Type 0 where
   pub plans_within : PlansWithin plan
   pub finishes_within : FinishesWithin finish

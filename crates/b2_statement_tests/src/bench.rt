@@ -129,7 +129,7 @@ fn answer_of(alloc: Global, item: &[u8]) -> Result<Answer, Unanswered> {
     }
 }
 
-/// Returns whether an access can have the answer; where devices are taken, which no statement does yet, Wait is left out.
+/// Returns whether an access can have the answer; where devices are taken, Wait is left out.
 fn suits(access: &Access, answer: &Answer) -> bool
     ensures { result ≡ true → can_answer access.now answer.now ≡ true }
 {

@@ -5,8 +5,8 @@ ghost use Rattle.b2_stmt.specs.Borrowing.{EntersOthers};
 ghost use Rattle.b2_stmt.specs.Plan.{finish, plan};
 
 /// A statement, as it plans and as it finishes, names no partition as a home, in a place, in a frame, where it leads or in what
-/// it asks for, but its own and those that were named before. It leaves the place of the partition, which moves by its outcome,
-/// and its terminal, and asks there alone. Where no place is kept for CONTINUE it keeps none, or the partition is then ready.
+/// it asks for, but its own, those that were named before, and whom the answer leads to. It leaves the place of the partition,
+/// which moves by its outcome, and its terminal, and asks there alone. Where no place is kept for CONTINUE it keeps none, or the partition is then ready.
 /// Where it plans an access, has to wait, or finds no key, nothing of the partition has changed.
 pub fn statements_leave_the_rest()
     ensures { LeaveTheRest plan finish }
