@@ -421,12 +421,19 @@ fn longest(table: &[&[u8]], text: &[u8]) -> (usize, usize)
     best
 }
 
+/// All words.
+fn words() -> &'static [&'static [u8]]
+    ensures { map (λ w. w.now) result.now ≡ spec.all_words }
+{
+    &WORDS
+}
+
 /// The longest word at a text: its length, or 0, and its index.
 #[tactic(auto, unfolding(crate::specs::Words::word_at))]
 fn word_at(text: &[u8]) -> (usize, usize)
     ensures { result ≡ spec.word_at text.now }
 {
-    longest(&WORDS, text)
+    longest(words(), text)
 }
 
 /// Where the next item begins.
@@ -453,7 +460,7 @@ fn text_in(table: &'static [&'static [u8]], index: usize) -> &'static [u8]
 pub fn word_text(code: u8) -> &'static [u8]
     ensures { result.now ≡ spec.word_text code }
 {
-    text_in(&WORDS, usize::from(code.saturating_sub(REM)))
+    text_in(words(), usize::from(code.saturating_sub(REM)))
 }
 
 /// A word, or a longer one that is typed with blanks in it, and what follows it.
