@@ -2,7 +2,6 @@
 use Rattle.std.proofs.Common.{◌≡◌, ℕ, Bool, true, false, if◌then◌else◌, List, [], Option, Some, None, Result, Ok, Err, refl}
 use Rattle.b2_base.specs.Names.{is_name8, padded8}
 use Rattle.b2_base.specs.declared.codes.TheConstants.{D87_FILE_NAME, P48_DEVICE}
-use Rattle.b2_alpha.specs.Values.{value_of}
 use Rattle.b2_atom.specs.Tree.{Trees}
 use Rattle.b2_expr.specs.Answers.{◌>>=◌, TextAnswer, or_code}
 use Rattle.b2_expr.specs.Scope.{Context}
@@ -65,7 +64,7 @@ module _ (F : Planned → Type 0) (d : DrivesSeen) (failed : (code : ℕ) → F 
   name_by false bytes next is h = failed D87_FILE_NAME
 
   after_text : (r : TextAnswer) (next : List ℕ → Result Access ℕ) → ((x : List ℕ) → IsName x → Asked (next x)) → Asked ((r >>= file_name) >>= next)
-  after_text (Ok bytes) next h = name_by (is_name8 (value_of bytes)) (value_of bytes) next refl h
+  after_text (Ok bytes) next h = name_by (is_name8 bytes) bytes next refl h
   after_text (Err code) next h = failed code
 
   pub after_name : (e : Context) (t : Trees) (next : List ℕ → Result Access ℕ) → ((x : List ℕ) → IsName x → Asked (next x)) → Asked (name_given e t >>= next)

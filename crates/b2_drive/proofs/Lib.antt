@@ -1,5 +1,4 @@
--- What the rows of drives and of SELECT DISK say at their bytes, and how long a value is without its blanks. Asked has what holds of
--- what statements on disks ask for: which accesses fit, and what is asked for after a drive, after a value and after a name.
+-- What the rows of drives and of SELECT DISK say at their bytes. Asked has what holds of what statements on disks ask for: which
+-- accesses fit, and what is asked for after a drive, after a value and after a name.
 pub mod DriveRows
-pub mod NameRows
 pub mod Asked

@@ -6,20 +6,17 @@ ghost use Rattle.b2_expr.specs.Scope.{surroundings};
 ghost use Rattle.b2_expr.specs.Value.{in_statement};
 ghost use Rattle.b2_drive.specs.FileNames as spec;
 
-use b2_alpha::value_len;
 use b2_atom::Cursor;
 use b2_base::codes::D87_FILE_NAME;
-use b2_base::lexical::first_bytes;
 use b2_base::{Code, Name8};
 use b2_dec::Bytes;
 use b2_expr::{Env, alpha};
 
-/// The name that bytes are without the blanks at their end, D87 where they aren't one.
-#[tactic(auto, using(crate::proofs::NameRows::value_front))]
+/// The name that bytes are, all of them, D87 where they aren't one.
 fn file_name(bytes: &[u8]) -> Result<Name8, Code>
     ensures { result ≡ spec.file_name bytes.now }
 {
-    match Name8::of(first_bytes(bytes, value_len(bytes))) {
+    match Name8::of(bytes) {
         Some(name) => Ok(name),
         None => Err(Code::known(D87_FILE_NAME)),
     }

@@ -5,8 +5,8 @@
 //! for, and `after_change` tells how one ends that changes a disk. The definitions are in `specs/`: `Drives`, `FileNames` and
 //! `Asking`. The crates of statements on disks cite `proofs/Asked` for what holds of what they ask for.
 //!
-//! Stands on `b2_expr` for values, on `b2_alpha` for the blanks at the end of a name, on `b2_access` for devices and the private
-//! state, on `b2_rows` for units, and on `b2_atom`, `b2_dec` and `b2_base`.
+//! Stands on `b2_expr` for values, on `b2_access` for devices and the private state, on `b2_rows` for units, and on `b2_atom`,
+//! `b2_dec` and `b2_base`.
 #![tactic(auto)]
 
 mod asking;

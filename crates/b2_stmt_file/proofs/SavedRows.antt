@@ -1,21 +1,16 @@
 -- The values of a record, one after another: elements of arrays, and items with commas between them.
-use Rattle.std.proofs.Common.{◌≡◌, ℕ, zero, suc, ◌+◌, ◌-◌, nat_lt, Bool, true, false, if◌then◌else◌, List, [], ◌∷◌, ◌++◌, Option, Some, None, Result, Ok, Err, refl, sym, ap, subst, ◌∙◌, arith}
+use Rattle.std.proofs.Common.{◌≡◌, ℕ, zero, suc, ◌+◌, ◌-◌, nat_lt, Bool, true, false, if◌then◌else◌, List, [], ◌∷◌, ◌++◌, Result, Ok, Err, refl, sym, ap, subst, ◌∙◌, arith}
 use Rattle.std.proofs.lemmas.List.{append_assoc, append-nil}
 use Rattle.std.proofs.lemmas.Bool.Decides.{nat_tests}
-use Rattle.std.specs.FinMap as map
 use Rattle.b2_base.specs.declared.codes.TheConstants.{X72_TOO_LONG}
 use Rattle.b2_base.specs.Refusals.{IsRefused}
 use Rattle.b2_base.specs.declared.codes.Fault.{Fault}
 use Rattle.b2_base.specs.declared.codes.Fault.TheVariants as fault
 use Rattle.b2_dec.specs.declared.values.Value.{Value}
-use Rattle.b2_vars.specs.declared.name.Var.{Var}
-use Rattle.b2_vars.specs.Calls.{get_code}
-use Rattle.b2_vars.specs.Shapes.{cell_at}
-use Rattle.b2_vars.specs.Tables.{VarsState, shape_at}
-use Rattle.b2_vars.specs.Variables.{value_at}
+use Rattle.b2_vars.specs.Tables.{VarsState}
 use Rattle.b2_access.specs.Touching.{is_short}
-use Rattle.b2_expr.specs.Answers.{unless}
-use Rattle.b2_stmt_file.specs.Elements.{array_values, element_recorded, recorded, then_values, value_of, values_from}
+use Rattle.b2_receiver.specs.declared.receiver.Array.{Array}
+use Rattle.b2_stmt_file.specs.Elements.{array_values, element_recorded, recorded, then_values, values_from}
 use Rattle.b2_stmt_file.specs.SavedValues.{values_before}
 
 -- a value that a record may have, or not
@@ -27,21 +22,6 @@ recorded_short x is = recorded_by x true is
 
 pub recorded_long : (x : Value) → is_short x ≡ false → recorded x ≡ Err X72_TOO_LONG
 recorded_long x is = recorded_by x false is
-
--- the value of an element
-given_by : (code : Option ℕ) (x y : Value) → code ≡ None → x ≡ y → unless code y ≡ Ok x
-given_by None x y is same = ap Ok (sym same)
-given_by (Some c) x y is same = cc
-
-pub value_given : (vars : VarsState) (v : Var) (r c : ℕ) (x : Value) → get_code v r c vars.table ≡ None → x ≡ value_at v (cell_at (shape_at v vars.table) r c) (map.get vars.table v) → value_of vars v r c ≡ Ok x
-value_given vars v r c x is same = given_by (get_code v r c vars.table) x _ is same
-
-coded_by : (code : Option ℕ) (y : Value) (n : ℕ) → code ≡ Some n → unless code y ≡ Err n
-coded_by None y n is = cc
-coded_by (Some c) y n is = cc
-
-pub value_coded : (vars : VarsState) (v : Var) (r c n : ℕ) → get_code v r c vars.table ≡ Some n → value_of vars v r c ≡ Err n
-value_coded vars v r c n is = coded_by (get_code v r c vars.table) _ n is
 
 -- values that were put after others, and those that are left
 ok_is : {A : Type 0} (xs ys : List A) → ◌≡◌ {A = Result (List A) ℕ} (Ok xs) (Ok ys) → xs ≡ ys
@@ -60,23 +40,23 @@ refused_then (Ok xs) b old c is = cc
 refused_then (Err d) b old c is = cc
 
 -- the elements of an array
-pub element_put : (vars : VarsState) (v : Var) (k left : ℕ) (old new : List Value) → nat_lt 0 left ≡ true → values_before old (element_recorded vars v k) ≡ Ok new
-    → values_before new (values_from vars v (k + 1) (left - 1)) ≡ values_before old (values_from vars v k left)
-element_put vars v k zero old new some is = cc
-element_put vars v k (suc n) old new some is =
+pub element_put : (vars : VarsState) (a : Array) (k left : ℕ) (old new : List Value) → nat_lt 0 left ≡ true → values_before old (element_recorded vars a k) ≡ Ok new
+    → values_before new (values_from vars a (k + 1) (left - 1)) ≡ values_before old (values_from vars a k left)
+element_put vars a k zero old new some is = cc
+element_put vars a k (suc n) old new some is =
     let one_less : n ≡ suc n - 1 = omega arith in
-    subst (λ (m : ℕ). values_before new (values_from vars v (k + 1) m) ≡ values_before old (values_from vars v k (suc n))) one_less
-    (put_then (element_recorded vars v k) (values_from vars v (k + 1) n) old new is)
+    subst (λ (m : ℕ). values_before new (values_from vars a (k + 1) m) ≡ values_before old (values_from vars a k (suc n))) one_less
+    (put_then (element_recorded vars a k) (values_from vars a (k + 1) n) old new is)
 
-pub element_refused : (vars : VarsState) (v : Var) (k left : ℕ) (old : List Value) (c : ℕ) → nat_lt 0 left ≡ true → element_recorded vars v k ≡ Err c → values_before old (values_from vars v k left) ≡ Err c
-element_refused vars v k zero old c some is = cc
-element_refused vars v k (suc n) old c some is = refused_then (element_recorded vars v k) (values_from vars v (k + 1) n) old c is
+pub element_refused : (vars : VarsState) (a : Array) (k left : ℕ) (old : List Value) (c : ℕ) → nat_lt 0 left ≡ true → element_recorded vars a k ≡ Err c → values_before old (values_from vars a k left) ≡ Err c
+element_refused vars a k zero old c some is = cc
+element_refused vars a k (suc n) old c some is = refused_then (element_recorded vars a k) (values_from vars a (k + 1) n) old c is
 
 none_left : (n : ℕ) → nat_lt 0 n ≡ false → 0 ≡ n
 none_left n none = grind (arith, nat_tests)
 
-pub none_put : (vars : VarsState) (v : Var) (k left : ℕ) (old : List Value) → nat_lt 0 left ≡ false → values_before old (values_from vars v k left) ≡ Ok old
-none_put vars v k left old none = subst (λ (m : ℕ). values_before old (values_from vars v k m) ≡ Ok old) (none_left left none) (ap Ok (append-nil old))
+pub none_put : (vars : VarsState) (a : Array) (k left : ℕ) (old : List Value) → nat_lt 0 left ≡ false → values_before old (values_from vars a k left) ≡ Ok old
+none_put vars a k left old none = subst (λ (m : ℕ). values_before old (values_from vars a k m) ≡ Ok old) (none_left left none) (ap Ok (append-nil old))
 
 -- a refusal of one is that of all
 pub refused_so : {A B : Type 0} (one : Result A ℕ) (all : Result B ℕ) (f : Fault) → ((c : ℕ) → one ≡ Err c → all ≡ Err c) → IsRefused one f → IsRefused all f
@@ -87,7 +67,7 @@ before_refused : (answer : Result (List Value) ℕ) (old : List Value) (c : ℕ)
 before_refused (Ok xs) old c is = cc
 before_refused (Err d) old c is = is
 
-pub element_failed : (vars : VarsState) (v : Var) (k left : ℕ) (so_far old : List Value) (f : Fault) → nat_lt 0 left ≡ true → values_before so_far (values_from vars v k left) ≡ values_before old (array_values vars v)
-    → IsRefused (element_recorded vars v k) f → IsRefused (array_values vars v) f
-element_failed vars v k left so_far old f some same is =
-    refused_so (element_recorded vars v k) (array_values vars v) f (λ c refused. before_refused (array_values vars v) old c (sym same ∙ element_refused vars v k left so_far c some refused)) is
+pub element_failed : (vars : VarsState) (a : Array) (k left : ℕ) (so_far old : List Value) (f : Fault) → nat_lt 0 left ≡ true → values_before so_far (values_from vars a k left) ≡ values_before old (array_values vars a)
+    → IsRefused (element_recorded vars a k) f → IsRefused (array_values vars a) f
+element_failed vars a k left so_far old f some same is =
+    refused_so (element_recorded vars a k) (array_values vars a) f (λ c refused. before_refused (array_values vars a) old c (sym same ∙ element_refused vars a k left so_far c some refused)) is

@@ -6,7 +6,6 @@ use Rattle.b2_dec.specs.declared.values.Value.{Value}
 use Rattle.b2_dec.specs.declared.values.Value.TheVariants as value_kind
 use Rattle.b2_atom.specs.Tree.{Trees}
 use Rattle.b2_atom.specs.Tree.Trees.{In}
-use Rattle.b2_vars.specs.declared.name.Var.{Var}
 use Rattle.b2_vars.specs.Shapes.{cells}
 use Rattle.b2_vars.specs.Tables.{VarsState, shape_at}
 use Rattle.b2_access.specs.Touching.{is_short}
@@ -16,7 +15,8 @@ use Rattle.b2_expr.specs.Scope.{Context}
 use Rattle.b2_expr.specs.Value.{text, value}
 use Rattle.b2_expr.specs.declared.operators.Level.TheVariants as level
 use Rattle.b2_receiver.specs.Receivers.{whole_array}
-use Rattle.b2_stmt_file.specs.Elements.{array_values, array_variables, element_recorded, element_value, recorded, then_values, values_from}
+use Rattle.b2_receiver.specs.declared.receiver.Array.{Array}
+use Rattle.b2_stmt_file.specs.Elements.{array_values, array_variables, cell_of, element_recorded, recorded, then_values, value_in, values_from}
 use Rattle.b2_stmt_file.specs.SavedValues.{all_saved, array_saved, item_saved, operand_saved}
 
 abbrev pub AreShort : Result (List Value) ℕ → Type 0
@@ -50,14 +50,14 @@ after : {A : Type 0} (r : Result A ℕ) (next : A → Result (List Value) ℕ) �
 after (Ok x) next h = h x
 after (Err c) next h = tt
 
-from_short : (vars : VarsState) (v : Var) (k n : ℕ) → AreShort (values_from vars v k n)
-from_short vars v k zero = refl
-from_short vars v k (suc n) = then_short (element_recorded vars v k) (values_from vars v (k + 1) n) (after (element_value vars v k) recorded one_short) (from_short vars v (k + 1) n)
+from_short : (vars : VarsState) (a : Array) (k n : ℕ) → AreShort (values_from vars a k n)
+from_short vars a k zero = refl
+from_short vars a k (suc n) = then_short (element_recorded vars a k) (values_from vars a (k + 1) n) (after (value_in (cell_of vars a k)) recorded one_short) (from_short vars a (k + 1) n)
 
 array_short : (e : Context) (t : Trees) → AreShort (array_saved e t)
 array_short e t =
-    after (whole_array e.around t) (λ a. array_variables e.around a >>= (λ vars. array_values vars a.var))
-    (λ a. after (array_variables e.around a) (λ vars. array_values vars a.var) (λ vars. from_short vars a.var 0 (cells (shape_at a.var vars.table))))
+    after (whole_array e.around t) (λ a. array_variables e.around a >>= (λ vars. array_values vars a))
+    (λ a. after (array_variables e.around a) (λ vars. array_values vars a) (λ vars. from_short vars a 0 (cells (shape_at a.var vars.table))))
 
 operand_short : (e : Context) (t : Trees) → Short (operand_saved e t)
 unfolding Short

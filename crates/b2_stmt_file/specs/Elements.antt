@@ -1,19 +1,17 @@
 -- The elements of whole arrays, along rows.
 use Rattle.std.specs.Prelude.{ℕ, suc, zero, ◌+◌, ◌/◌, ◌%◌, ◌==◌, max, List, [], ◌∷◌, ◌++◌, Result, Ok, Err, if◌then◌else◌}
-use Rattle.std.specs.FinMap as map
 use Rattle.b2_base.specs.declared.codes.TheConstants.{X72_TOO_LONG}
 use Rattle.b2_dec.specs.declared.values.Value.{Value}
+use Rattle.b2_dec.specs.declared.values.Value.TheVariants as value_kind
 use Rattle.b2_rows.specs.declared.leaves.Name.{Name}
-use Rattle.b2_vars.specs.declared.name.Var.{Var}
 use Rattle.b2_vars.specs.declared.shape.Shape.{Shape}
-use Rattle.b2_vars.specs.Calls.{get_code}
-use Rattle.b2_vars.specs.Shapes.{cell_at, cells}
+use Rattle.b2_vars.specs.Shapes.{cells}
 use Rattle.b2_vars.specs.Tables.{VarsState, shape_at}
-use Rattle.b2_vars.specs.Variables.{value_at}
 use Rattle.b2_access.specs.Touching.{is_short}
-use Rattle.b2_expr.specs.Answers.{◌>>=◌, unless}
-use Rattle.b2_expr.specs.Named.{variables_of}
+use Rattle.b2_expr.specs.Answers.{◌>>=◌}
+use Rattle.b2_expr.specs.Named.{Cell, variables_of}
 use Rattle.b2_expr.specs.Scope.{Surroundings}
+use Rattle.b2_expr.specs.Value.{element_number, text_of_cell}
 use Rattle.b2_expr.specs.declared.named.Element.{Element}
 use Rattle.b2_receiver.specs.declared.receiver.Array.{Array}
 use Rattle.b2_receiver.specs.declared.receiver.Receiver.{Receiver}
@@ -26,12 +24,22 @@ row_of s k = k / max 1 s.cols + 1
 abbrev pub column_of : Shape → ℕ → ℕ
 column_of s k = if s.cols == 0 then 0 else k % max 1 s.cols + 1
 
--- its value
-abbrev pub value_of : VarsState → Var → ℕ → ℕ → Result Value ℕ
-value_of vars v r c = unless (get_code v r c vars.table) (value_at v (cell_at (shape_at v vars.table) r c) (map.get vars.table v))
+-- the k-th element of an array, and where it is looked for
+abbrev pub element_of : Array → Shape → ℕ → Element
+element_of a s k = record { global = a.global; var = a.var; row = row_of s k; column = column_of s k }
 
-abbrev pub element_value : VarsState → Var → ℕ → Result Value ℕ
-element_value vars v k = value_of vars v (row_of (shape_at v vars.table) k) (column_of (shape_at v vars.table) k)
+abbrev pub cell_of : VarsState → Array → ℕ → Cell
+cell_of vars a k = record { vars = vars; element = element_of a (shape_at a.var vars.table) k }
+
+-- the value of an element, as an expression that names it has it
+abbrev pub alpha_value : Cell → Result Value ℕ
+alpha_value p = text_of_cell (Ok p) >>= (λ bytes. Ok (value_kind.Alpha bytes))
+
+abbrev pub number_value : Cell → Result Value ℕ
+number_value p = element_number (Ok p) >>= (λ x. Ok (value_kind.Number x))
+
+abbrev pub value_in : Cell → Result Value ℕ
+value_in p = if p.element.var.alpha then alpha_value p else number_value p
 
 -- a value as a record may have it, X72 where it is longer
 abbrev pub recorded : Value → Result (List Value) ℕ
@@ -41,17 +49,17 @@ recorded x = if is_short x then Ok (x ∷ []) else Err X72_TOO_LONG
 abbrev pub then_values : {A : Type 0} → Result (List A) ℕ → Result (List A) ℕ → Result (List A) ℕ
 then_values xs more = xs >>= (λ ys. more >>= (λ zs. Ok (ys ++ zs)))
 
-abbrev pub element_recorded : VarsState → Var → ℕ → Result (List Value) ℕ
-element_recorded vars v k = element_value vars v k >>= recorded
+abbrev pub element_recorded : VarsState → Array → ℕ → Result (List Value) ℕ
+element_recorded vars a k = value_in (cell_of vars a k) >>= recorded
 
 -- n elements from the k-th on
-abbrev pub values_from : VarsState → Var → ℕ → ℕ → Result (List Value) ℕ
-values_from vars v k zero = Ok []
-values_from vars v k (suc n) = then_values (element_recorded vars v k) (values_from vars v (k + 1) n)
+abbrev pub values_from : VarsState → Array → ℕ → ℕ → Result (List Value) ℕ
+values_from vars a k zero = Ok []
+values_from vars a k (suc n) = then_values (element_recorded vars a k) (values_from vars a (k + 1) n)
 
 -- all of them
-abbrev pub array_values : VarsState → Var → Result (List Value) ℕ
-array_values vars v = values_from vars v 0 (cells (shape_at v vars.table))
+abbrev pub array_values : VarsState → Array → Result (List Value) ℕ
+array_values vars a = values_from vars a 0 (cells (shape_at a.var vars.table))
 
 -- the variables among which an array is
 abbrev pub name_of : Array → Name
@@ -61,8 +69,5 @@ abbrev pub array_variables : Surroundings → Array → Result VarsState ℕ
 array_variables e a = variables_of e (name_of a)
 
 -- the k-th element of an array as a receiver
-abbrev pub element_of : Array → Shape → ℕ → Element
-element_of a s k = record { global = a.global; var = a.var; row = row_of s k; column = column_of s k }
-
 abbrev pub receiver_of : Array → Shape → ℕ → Receiver
 receiver_of a s k = if a.var.alpha then receiver_kind.Alpha (record { element = element_of a s k; portion = record { from = 0; count = s.len } }) else receiver_kind.Number (element_of a s k)

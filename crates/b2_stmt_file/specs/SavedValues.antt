@@ -32,7 +32,7 @@ operand_saved e t = Err S17_NUMERIC
 
 -- those of a whole array, which must be there
 abbrev pub array_saved : Context → Trees → Result (List Value) ℕ
-array_saved e t = whole_array e.around t >>= (λ a. array_variables e.around a >>= (λ vars. array_values vars a.var))
+array_saved e t = whole_array e.around t >>= (λ a. array_variables e.around a >>= (λ vars. array_values vars a))
 
 abbrev pub item_saved : Context → Trees → Result (List Value) ℕ
 item_saved e (In n t end) = if n == 1 then array_saved e t else operand_saved e t

@@ -1,18 +1,21 @@
 // The elements of whole arrays, along rows.
-ghost use Rattle.std.specs.Prelude.{◌≡◌, ◌<◌, ◌^◌, max, true, MatchResult, Ok, Err};
+ghost use Rattle.std.specs.Prelude.{◌≡◌, ◌<◌, ◌^◌, max, true, false, MatchResult, Ok, Err};
 ghost use Rattle.b2_vars.specs.Names.{is_legal_name};
 ghost use Rattle.b2_vars.specs.Shapes.{cells, scalar_shape};
 ghost use Rattle.b2_vars.specs.Tables.{shape_at};
+ghost use Rattle.b2_expr.specs.Named.{cell_seen};
 ghost use Rattle.b2_expr.specs.Scope.{surroundings};
 ghost use Rattle.b2_access.specs.Touching as touching;
 ghost use Rattle.b2_receiver.specs.Receivers.{IsArray, IsNamed};
 ghost use Rattle.b2_stmt_file.specs.Elements as spec;
 ghost use Rattle.b2_stmt_file.specs.SavedValues.{PutsValues};
 
+use b2_alpha::value_len;
 use b2_base::codes::X72_TOO_LONG;
+use b2_base::lexical::first_bytes;
 use b2_base::{Code, Fault};
-use b2_dec::Value;
-use b2_expr::{Element, Env, variables_of};
+use b2_dec::{Bytes, Value};
+use b2_expr::{Element, Env, Located, variables_of};
 use b2_receiver::{AlphaReceiver, Array, Portion, Receiver};
 use b2_rows::Name;
 use b2_vars::{Shape, Var, Vars};
@@ -109,31 +112,77 @@ pub fn put_value(value: Value, into: &mut Vec<Value>) -> Result<(), Fault>
     }
 }
 
-/// The value of the k-th element of an array.
-#[tactic(auto, using(crate::proofs::SavedRows::value_given, crate::proofs::SavedRows::value_coded))]
-fn element_value(vars: &Vars, v: Var, shape: Shape, k: usize) -> Result<Value, Code>
-    requires named { is_legal_name v ≡ true }
-    requires shape { shape ≡ shape_at v vars.now.table }
+/// The k-th element of an array.
+fn element_of(array: &Array, shape: Shape, k: usize) -> Element
     requires within { k < cells shape }
-    ensures { MatchResult result (λ x. spec.element_value vars.now v k ≡ Ok x) (λ code. spec.element_value vars.now v k ≡ Err code) }
+    ensures { result ≡ spec.element_of array.now shape k }
 {
-    vars.get(v, row_of(shape, k), column_of(shape, k))
+    Element {
+        global: array.global,
+        var: array.var,
+        row: row_of(shape, k),
+        column: column_of(shape, k),
+    }
+}
+
+/// The value of an alpha element: its bytes but the blanks at their end.
+#[tactic(auto, using(b2_expr::proofs::Texts::value_taken))]
+fn alpha_value(located: &Located<'_>) -> Result<Value, Code>
+    requires named { is_legal_name located.now.element.var ≡ true }
+    requires alpha { located.now.element.var.alpha ≡ true }
+    ensures { MatchResult result (λ x. spec.alpha_value (cell_seen located.now) ≡ Ok x) (λ code. spec.alpha_value (cell_seen located.now) ≡ Err code) }
+{
+    let bytes = match located.bytes() {
+        Ok(bytes) => bytes,
+        Err(code) => return Err(code),
+    };
+    let mut value = Bytes::new();
+    value.extend(first_bytes(bytes, value_len(bytes)));
+    Ok(Value::Alpha(value))
+}
+
+/// The value of a numeric element.
+fn number_value(located: &Located<'_>) -> Result<Value, Code>
+    requires named { is_legal_name located.now.element.var ≡ true }
+    requires number { located.now.element.var.alpha ≡ false }
+    ensures { MatchResult result (λ x. spec.number_value (cell_seen located.now) ≡ Ok x) (λ code. spec.number_value (cell_seen located.now) ≡ Err code) }
+{
+    match located.number() {
+        Ok(x) => Ok(Value::Number(x)),
+        Err(code) => Err(code),
+    }
+}
+
+/// The value of an element, as an expression that names it has it.
+fn value_in(located: &Located<'_>) -> Result<Value, Code>
+    requires named { is_legal_name located.now.element.var ≡ true }
+    ensures { MatchResult result (λ x. spec.value_in (cell_seen located.now) ≡ Ok x) (λ code. spec.value_in (cell_seen located.now) ≡ Err code) }
+{
+    if located.element.var.alpha {
+        alpha_value(located)
+    } else {
+        number_value(located)
+    }
 }
 
 /// Puts the k-th element of an array after other values.
 fn put_element(
     vars: &Vars,
-    v: Var,
+    array: &Array,
     shape: Shape,
     k: usize,
     into: &mut Vec<Value>,
 ) -> Result<(), Fault>
-    requires named { is_legal_name v ≡ true }
-    requires shape { shape ≡ shape_at v vars.now.table }
+    requires named { is_legal_name array.now.var ≡ true }
+    requires shape { shape ≡ shape_at array.now.var vars.now.table }
     requires within { k < cells shape }
-    ensures { PutsValues (spec.element_recorded vars.now v k) into.old.items into.new.items result }
+    ensures { PutsValues (spec.element_recorded vars.now array.now k) into.old.items into.new.items result }
 {
-    match element_value(vars, v, shape, k) {
+    let located = Located {
+        vars,
+        element: element_of(array, shape, k),
+    };
+    match value_in(&located) {
         Ok(value) => put_value(value, into),
         Err(code) => Err(Fault::Code(code)),
     }
@@ -141,15 +190,15 @@ fn put_element(
 
 /// Puts all elements of an array after other values, along rows.
 #[tactic(auto, using(crate::proofs::SavedRows::element_put, crate::proofs::SavedRows::element_failed, crate::proofs::SavedRows::none_put))]
-pub fn put_elements(vars: &Vars, v: Var, into: &mut Vec<Value>) -> Result<(), Fault>
-    requires named { is_legal_name v ≡ true }
-    ensures { PutsValues (spec.array_values vars.now v) into.old.items into.new.items result }
+pub fn put_elements(vars: &Vars, array: &Array, into: &mut Vec<Value>) -> Result<(), Fault>
+    requires named { is_legal_name array.now.var ≡ true }
+    ensures { PutsValues (spec.array_values vars.now array.now) into.old.items into.new.items result }
 {
-    let shape = shape_of(vars, v);
+    let shape = shape_of(vars, array.var);
     let mut left = count_of(shape);
     let mut k = 0usize;
     while left > 0 {
-        if let Err(fault) = put_element(vars, v, shape, k, into) {
+        if let Err(fault) = put_element(vars, array, shape, k, into) {
             return Err(fault);
         }
         k += 1;
@@ -166,12 +215,7 @@ pub fn receiver_of(array: &Array, shape: Shape, k: usize) -> Receiver
     ensures value { result ≡ spec.receiver_of array.now shape k }
     ensures named { IsNamed result }
 {
-    let element = Element {
-        global: array.global,
-        var: array.var,
-        row: row_of(shape, k),
-        column: column_of(shape, k),
-    };
+    let element = element_of(array, shape, k);
     if array.var.alpha {
         Receiver::Alpha(AlphaReceiver {
             element,

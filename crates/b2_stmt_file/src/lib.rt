@@ -7,9 +7,9 @@
 //! `Coming`; `Plan` finds the unit and chooses among them. `is_built` tells which rows are built here. `laws` says what a statement
 //! leaves alone, and for which devices it asks.
 //!
-//! Stands on `b2_drive` for drives and names, on `b2_expr` for values, on `b2_receiver` for receivers, on `b2_access` for the
-//! private state, devices, loans and accesses, on `b2_rows` for units, and on `b2_text`, `b2_vars`, `b2_flow`, `b2_atom`, `b2_dec`
-//! and `b2_base`.
+//! Stands on `b2_drive` for drives and names, on `b2_expr` for values, on `b2_alpha` for the blanks at the end of an element, on
+//! `b2_receiver` for receivers, on `b2_access` for the private state, devices, loans and accesses, on `b2_rows` for units, and on
+//! `b2_text`, `b2_vars`, `b2_flow`, `b2_atom`, `b2_dec` and `b2_base`.
 #![tactic(auto)]
 
 mod asking;

@@ -76,7 +76,7 @@ fn put_array<'a>(e: &Env<'_>, text: &'a [u8], into: &mut Vec<Value>) -> Result<&
         Ok(vars) => vars,
         Err(code) => return Err(Fault::Code(code)),
     };
-    match put_elements(vars, array.var, into) {
+    match put_elements(vars, &array, into) {
         Ok(()) => Ok(c.rest()),
         Err(fault) => Err(fault),
     }
