@@ -14,7 +14,7 @@ keys_fit : (b : BootState) (t : ℕ) (keys : List ℕ) → has_terminal t b.term
 keys_fit b t [] there = refl
 keys_fit b t (k ∷ ks) there = rw there (keys_fit b t ks there)
 
-events_fit : (b : BootState) (a : Asked) → is_in_range a ≡ true → is_in_boot b a ≡ true → list_all (is_of_boot b) (events_of a) ≡ true
+pub events_fit : (b : BootState) (a : Asked) → is_in_range a ≡ true → is_in_boot b a ≡ true → list_all (is_of_boot b) (events_of a) ≡ true
 events_fit b (asked.Keys t keys) range there = keys_fit b t keys there
 events_fit b (asked.Special t n) range there = rw (there, (and_parts (is_between 1 12 t) (nat_le n 31) range).1) refl
 events_fit b (asked.Front t p) range there = rw there refl

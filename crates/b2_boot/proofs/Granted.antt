@@ -6,7 +6,7 @@ use Rattle.b2_boot.specs.declared.log.Event.{Event}
 use Rattle.b2_boot.specs.declared.log_lines.Asked.{Asked}
 use Rattle.b2_boot.specs.declared.log_lines.Asked.TheVariants as asked
 
-granted_by-append : (b : BootState) (xs ys : List Event) → granted_by b (xs ++ ys) ≡ granted_by b xs + granted_by b ys
+pub granted_by-append : (b : BootState) (xs ys : List Event) → granted_by b (xs ++ ys) ≡ granted_by b xs + granted_by b ys
 granted_by-append b [] ys = omega arith
 granted_by-append b (x ∷ xs) ys = let h = granted_by-append b xs ys in omega arith
 
@@ -15,7 +15,7 @@ keys_grant_nothing b t [] = refl
 keys_grant_nothing b t (k ∷ ks) = let h = keys_grant_nothing b t ks in omega arith
 
 -- events grant what was asked for
-events_grant : (b : BootState) (a : Asked) → granted_by b (events_of a) ≡ steps_asked b a
+pub events_grant : (b : BootState) (a : Asked) → granted_by b (events_of a) ≡ steps_asked b a
 events_grant b (asked.Keys t keys) = keys_grant_nothing b t keys
 events_grant b (asked.Special t n) = refl
 events_grant b (asked.Front t p) = refl

@@ -9,3 +9,5 @@ pub mod LogSteps
 pub mod FirstFailing
 pub mod Granted
 pub mod Events
+pub mod LogBounds
+pub mod FileBoots

@@ -3,3 +3,4 @@ pub mod Boots
 pub mod LogLines
 pub mod Logs
 pub mod Alone
+pub mod Laws

@@ -11,8 +11,8 @@
 //! Stands on `b2_base` for the lexical layer, the numbers of partitions and terminals, addresses and names of files, on `b2_term` for a key, and on
 //! `toml`, whose own definition of a document decides what is one. The definitions are in `specs/`: `Rows` for what a
 //! document says, and `Boots` for the checks, the boot, and what every boot of a file is: each front is a partition of its
-//! terminal, each disk is a platter that its partition may use, and all sizes are in range. `LogLines` has what a line asks, and `Logs` the events of the lines and what every
-//! event of a log is.
+//! terminal, each disk is a platter that its partition may use, and all sizes are in range. `LogLines` has what a line asks, `Logs` the events of the lines and what every
+//! event of a log is, `Alone` a boot with a group alone, and `Laws` what holds of every log that passes.
 #![tactic(auto)]
 
 mod addresses;
@@ -20,6 +20,7 @@ mod alone;
 mod boot;
 mod boot_file;
 mod devices;
+pub mod laws;
 mod log;
 mod log_lines;
 mod platters;

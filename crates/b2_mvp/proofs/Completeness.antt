@@ -57,7 +57,7 @@ expected_events words m c inputs is = expected_log words m c inputs.boot inputs.
 -- an image that is there
 source_there : (m : Files) (address : List ℕ) (image : Option (List ℕ)) (blank : Option ℕ) (bytes : List ℕ) → HasSource image blank (Some m) bytes → by_source m address image blank ≡ Ok bytes
 source_there m address (Some name) blank bytes h =
-    ap (by_image_file address name) h.fetched.told ∙ within_limit (Result (List ℕ) Expected) (length bytes) image_limit _ _ h.fetched.within ∙ ap (by_check address bytes) h.good
+    ap (by_image_file address name) h.fetched.told ∙ within_limit (Result (List ℕ) Expected) (length bytes) image_limit _ _ h.fetched.within ∙ ap (by_check address bytes) h.sound.0
 source_there m address None (Some sectors) bytes h = ap Ok (sym h)
 source_there m address None None bytes h = absurd h
 

@@ -14,9 +14,10 @@ use Rattle.b2_boot.specs.declared.boot_file.BootErr.TheVariants as boot_err
 use Rattle.b2_boot.specs.declared.log.Event.{Event}
 use Rattle.b2_boot.specs.declared.log.LogErr.{LogErr}
 use Rattle.b2_boot.specs.declared.log.LogErr.TheVariants as log_err
-use Rattle.b2_platter.specs.Checks.{Good, first_check}
+use Rattle.b2_platter.specs.Checks.{first_check}
 use Rattle.b2_platter.specs.Edits.{blank_image}
 use Rattle.b2_platter.specs.declared.layout.Layout.TheVariants.{Narrow}
+use Rattle.b2_store.specs.Files.{IsSound}
 use Rattle.b2_sched.specs.Start.{Images}
 use Rattle.b2_mvp.specs.declared.status.Status.{Status}
 use Rattle.b2_mvp.specs.declared.status.Status.TheVariants as status
@@ -55,10 +56,10 @@ pub record FailsLog (name : List ℕ) (files : Option Files) (boot : BootState) 
   pub fetched : IsFetched files name log_limit bytes
   pub fails : log_of boot bytes ≡ Refused line check
 
--- an image is read, and is good
+-- an image is read, and is sound: good, with an index that a byte counts
 pub record IsRead (name : List ℕ) (files : Option Files) (image : List ℕ) : Type 0 where
   pub fetched : IsFetched files name image_limit image
-  pub good : Good Narrow image
+  pub sound : IsSound image
 
 -- what is on a platter as the machine starts: the image of a file, or blank sectors
 abbrev pub HasSource : Option (List ℕ) → Option ℕ → Option Files → List ℕ → Type 0

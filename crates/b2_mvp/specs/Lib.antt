@@ -5,3 +5,4 @@ pub mod Outputs
 pub mod Groups
 pub mod Top
 pub mod Complete
+pub mod Laws

@@ -1,11 +1,12 @@
 // The inputs of a run: their bytes within a limit, and what they say.
-ghost use Rattle.std.specs.Prelude.{◌≡◌, ◌<◌, ◌^◌, IfOk, IfErr, true};
+ghost use Rattle.std.specs.Prelude.{◌≡◌, ◌<◌, ◌≤◌, ◌^◌, IfOk, IfErr, true};
 ghost use Rattle.std.specs.List.{list_all};
 ghost use Rattle.b2_base.specs.Files.{IsFetched};
 ghost use Rattle.b2_base.specs.Seen.{shelf_seen, Later};
 ghost use Rattle.b2_boot.specs.Boots.{IsGood, is_platter};
 ghost use Rattle.b2_boot.specs.Rows.{is_between};
 ghost use Rattle.b2_platter.specs.Edits.{blank_image};
+ghost use Rattle.b2_platter.specs.Image.{index_of};
 ghost use Rattle.b2_platter.specs.declared.layout.Layout.TheVariants.{Narrow};
 ghost use Rattle.b2_mvp.specs.declared.status.Status.{Status};
 ghost use Rattle.b2_mvp.specs.Inputs as spec;
@@ -115,6 +116,11 @@ fn name_copied(name: &FileName) -> FileName
     FileName::empty().with(name.bytes())
 }
 
+/// The index of an image is counted by a byte. It has no code.
+fn index_is_counted_by_a_byte(image: &[u8])
+    ensures { index_of image.now ≤ 255 }
+{}
+
 /// The platter of a file.
 fn open_image<F: Shelf>(
     alloc: Global,
@@ -131,6 +137,7 @@ fn open_image<F: Shelf>(
         Ok(bytes) => bytes,
         Err(status) => return Err(status),
     };
+    index_is_counted_by_a_byte(&bytes);
     match Platter::open(bytes) {
         Ok(platter) => Ok(platter),
         Err(failed) => Err(Status::BadImage(address, failed.0)),

@@ -9,10 +9,12 @@
 //! by its cause, and where the status is `Ok`, what was written is what the machine defined in `b2_sched` writes from this
 //! boot and its images and under this log, and each group of partitions that is clean there shows what it shows alone. The definitions: `Inputs`
 //! what the inputs say and how their fetches end, `Parts` lists of partitions, `Outputs` what is written, `Groups` what that shows
-//! of groups, `Status` the statuses, `Top` when each comes, `Complete` what is to be answered where nothing fails.
+//! of groups, `Status` the statuses, `Top` when each comes, `Complete` what is to be answered where nothing fails, and `Laws` what
+//! holds of every run that the promise speaks of.
 #![tactic(auto)]
 
 mod inputs;
+mod laws;
 mod outputs;
 mod parts;
 mod status;

@@ -101,7 +101,7 @@ whole_moved : (addr : List ℕ) (e : Entry) (records : List (List Value)) (s t :
 whole_moved addr e records s t same whole = (whole.0, file_moved addr whole.0 e s t same whole.1, whole.2)
 
 pub files_outlast_turns : FilesOutlastTurns
-files_outlast_turns w between addr e records sound h = (
+files_outlast_turns w sound between addr e records h = (
   (λ pos most k.
       (in_actions addr e.name (λ s. HasFront s addr e pos records)
       (λ who x s legal good about. (other-records who x s addr e records legal good about).0 pos most)

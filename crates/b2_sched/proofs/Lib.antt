@@ -47,3 +47,4 @@ pub mod EnteredAsked
 pub mod EnteredFamilies
 pub mod InsideTexts
 pub mod InsideWorlds
+pub mod SoundRuns

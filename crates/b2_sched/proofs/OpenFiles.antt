@@ -12,7 +12,9 @@ use Rattle.b2_access.specs.declared.devices.Device.{Device}
 use Rattle.b2_access.specs.declared.objects.Object.TheVariants as object
 use Rattle.b2_access.specs.declared.private.Private.{Private}
 use Rattle.b2_access.proofs.OpenFiles.{none_open}
+use Rattle.b2_boot.specs.Boots.{BootState}
 use Rattle.b2_boot.specs.declared.boot.BootPartition.{BootPartition}
+use Rattle.b2_boot.specs.declared.log.Event.{Event}
 use Rattle.b2_machine.proofs.StepOpenFiles.{steps_keep_open_files}
 use Rattle.b2_machine.specs.OpenFiles.{FitsFrom}
 use Rattle.b2_machine.specs.Step.{lent_to_begin}
@@ -34,9 +36,9 @@ use Rattle.b2_sched.specs.Choice.{basic}
 use Rattle.b2_sched.specs.Lawful.{basic_asks_for_listed, basic_is_lawful, basic_keeps_open_files}
 use Rattle.b2_sched.specs.Laws.{all_actions}
 use Rattle.b2_sched.specs.OpenFiles.{OpenFilesAreListed}
-use Rattle.b2_sched.specs.Start.{booted, private_row}
+use Rattle.b2_sched.specs.Start.{Images, booted, private_row}
 use Rattle.b2_sched.specs.Turns.{step_of}
-use Rattle.b2_sched.specs.World.{WorldState, Action, Key, Front, Halt, Reset, Turn, asked_to_halt, asked_to_reset, does, does_all, private_of, with_turn}
+use Rattle.b2_sched.specs.World.{WorldState, Action, Key, Front, Halt, Reset, Turn, asked_to_halt, asked_to_reset, does, does_all, private_of, ran, with_turn}
 
 -- a step, and a turn: platters stay sound, and so what is answered fits
 fits : (s : StoreState) → AreSound s → FitsFrom serves s
@@ -116,6 +118,12 @@ first_by devices x xs p me later false is = later is
 booted_open : (devices : List Device) (ps : List BootPartition) → EachIs (IsOpen devices) (map private_row ps)
 booted_open devices [] p me is = let clash : false ≡ true = ap (λ (o : Option Private). is_some o) is in cc
 booted_open devices (x ∷ xs) p me is = first_by devices x xs p me (booted_open devices xs p me) (x.number == p) is
+
+-- after whatever was run from a boot
+pub booted_stay_sound : (b : BootState) (images : Images) (log : List Event) → AreSound (booted b images).store → AreSound (ran log (booted b images)).store
+booted_stay_sound b images log sound =
+    let w = booted b images in
+    subst (λ (x : WorldState). AreSound x.store) (sym (by_actions log w)) (in_actions (all_actions b.quota log) w (booted_open w.devices b.partitions, sound)).1
 
 pub open_files_are_listed : OpenFilesAreListed
 open_files_are_listed b images log sound p me is =

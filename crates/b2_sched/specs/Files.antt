@@ -22,13 +22,17 @@ AsksElsewhere addr name (Some x) = IsAbout addr name x → ⊥
 abbrev pub LeavesFile : List ℕ → List ℕ → List Device → Private → StoreState → Type 0
 LeavesFile addr name devices me s = AsksElsewhere addr name (asking (basic devices) me s)
 
--- From sound platters, the records of a file, up to a place and up to its end mark, are what they were after whatever happened, where no
--- step asked for an access that is about the file.
-abbrev pub FilesOutlastTurns : Type 0
-FilesOutlastTurns =
-    (w : WorldState) (between : List Action) (addr : List ℕ) (e : Entry) (records : List (List Value)) → AreSound w.store → AtEachStep (LeavesFile addr e.name) between w
+-- The records of a file, up to a place and up to its end mark, are what they were after whatever happened, where no step asked for an
+-- access that is about the file.
+abbrev pub FilesOutlast : WorldState → Type 0
+FilesOutlast w =
+    (between : List Action) (addr : List ℕ) (e : Entry) (records : List (List Value)) → AtEachStep (LeavesFile addr e.name) between w
     → ((pos : ℕ) → pos ≤ e.end + 1 → HasFront w.store addr e pos records → HasFront (does_all between w).store addr e pos records)
     × (HasWhole w.store addr e records → HasWhole (does_all between w).store addr e records)
+
+-- So it is from sound platters.
+abbrev pub FilesOutlastTurns : Type 0
+FilesOutlastTurns = (w : WorldState) → AreSound w.store → FilesOutlast w
 
 -- And they are what they were where a partition holds the disk, whatever others asked for.
 abbrev pub HeldFilesStay : Type 0

@@ -17,3 +17,4 @@ pub mod Inside
 pub mod Files
 pub mod OpenFiles
 pub mod Clean
+pub mod Sound

@@ -11,6 +11,7 @@ ghost use Rattle.b2_sched.specs.Inside.{AreInsideAsEntered, StepsEnterAsSaid, Te
 ghost use Rattle.b2_sched.specs.Laws.{RunsByActions, LeavesOthers, KeepsPresent, RoundsAscend, CountsTurns, NoPlaceIsKept, RunsKeepToTheirGrant, TurnsCountAllButOne};
 ghost use Rattle.b2_sched.specs.Marking.{TurnsMarkTheirSteps};
 ghost use Rattle.b2_sched.specs.OpenFiles.{OpenFilesAreListed};
+ghost use Rattle.b2_sched.specs.Sound.{RunsStaySound};
 ghost use Rattle.b2_sched.specs.Start.{CanStart};
 
 /// A run is one list of actions, of which each is a key, a front, a halt, a reset or a turn.
@@ -107,6 +108,11 @@ pub fn law_a_group_can_start_alone()
 /// for all of them, or for this one alone.
 pub fn law_a_run_touches_listed_devices()
     ensures { RunsTouchListedDevices }
+{}
+
+/// Whatever was run from a boot with sound images, each platter is sound: good, with an index of at most 255 sectors.
+pub fn law_runs_stay_sound()
+    ensures { RunsStaySound }
 {}
 
 /// Whatever was run from a boot with sound platters, each file that a partition has open is on a platter that the boot lists for it, with its

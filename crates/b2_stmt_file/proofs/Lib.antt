@@ -15,6 +15,10 @@ pub mod GoalUnits
 pub mod EndRows
 pub mod ShortValues
 pub mod Planned
+pub mod Rounded
+pub mod NumbersGiven
+pub mod NumbersOfExpressions
+pub mod SavedNumbers
 pub mod HomesKept
 pub mod KeptPlaces
 pub mod Waits

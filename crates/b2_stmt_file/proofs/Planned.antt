@@ -56,9 +56,14 @@ use Rattle.b2_stmt_file.specs.SavedValues.{all_saved}
 use Rattle.b2_stmt_file.proofs.ShortValues.{AreShort, all_short}
 use Rattle.b2_stmt_file.proofs.Tests.{at_least, both_first}
 
+-- the values that an access saves are those of items
+abbrev pub SavesItems : Context → Access → Type 0
+SavesItems e (access.DataSave slot values) = (ts : List Trees) × (all_saved e ts ≡ Ok values)
+SavesItems e a = Unit {0}
+
 -- what holds of each refusal, and of each access of a platter that may be used
-module _ (F : Planned → Type 0) (d : DrivesSeen) (failed : (code : ℕ) → F (planned.Done (outcome.Failed code)))
-    (asks : (addr : List ℕ) (a : Access) → is_platter_for d.who addr d.devices ≡ true → IsAtDisk addr a → IsLegal a → F (planned.Ask a)) where
+module _ (F : Planned → Type 0) (d : DrivesSeen) (e : Context) (failed : (code : ℕ) → F (planned.Done (outcome.Failed code)))
+    (asks : (addr : List ℕ) (a : Access) → is_platter_for d.who addr d.devices ≡ true → IsAtDisk addr a → IsLegal a → SavesItems e a → F (planned.Ask a)) where
   Asked : Result Access ℕ → Type 0
   Asked r = F (asks_or_fails r)
 
@@ -74,9 +79,9 @@ module _ (F : Planned → Type 0) (d : DrivesSeen) (failed : (code : ℕ) → F 
   unfolding Asked
   after_value r next h = asked.after_value F d failed r next h
 
-  after_name : (e : Context) (t : Trees) (next : List ℕ → Result Access ℕ) → ((x : List ℕ) → IsName x → Asked (next x)) → Asked (name_given e t >>= next)
+  after_name : (t : Trees) (next : List ℕ → Result Access ℕ) → ((x : List ℕ) → IsName x → Asked (next x)) → Asked (name_given e t >>= next)
   unfolding Asked
-  after_name e t next h = asked.after_name F d failed e t next h
+  after_name t next h = asked.after_name F d failed e t next h
 
   -- a count is one from its least on
   count_by : (b : Bool) (least n : ℕ) (next : ℕ → Result Access ℕ) → (nat_le least n && nat_le n 16777215) ≡ b → ((x : ℕ) → least ≤ x → Asked (next x))
@@ -95,8 +100,8 @@ module _ (F : Planned → Type 0) (d : DrivesSeen) (failed : (code : ℕ) → F 
   after_number least (Ok x) next h = after_counted least (fixed x) next h
   after_number least (Err code) next h = failed code
 
-  after_count : (least : ℕ) (e : Context) (t : Trees) (next : ℕ → Result Access ℕ) → ((x : ℕ) → least ≤ x → Asked (next x)) → Asked (count_given least e t >>= next)
-  after_count least e t next h = after_number least (value e level.Sum t) next h
+  after_count : (least : ℕ) (t : Trees) (next : ℕ → Result Access ℕ) → ((x : ℕ) → least ≤ x → Asked (next x)) → Asked (count_given least e t >>= next)
+  after_count least t next h = after_number least (value e level.Sum t) next h
 
   -- a file in a slot, whose place isn't before its first sector
   Used : Slot → Type 0
@@ -123,94 +128,98 @@ module _ (F : Planned → Type 0) (d : DrivesSeen) (failed : (code : ℕ) → F 
   after_file slots n next h = after_held (get_or slots n None) next h
 
   -- values that a record may have
-  after_values : (r : Result (List Value) ℕ) (next : List Value → Result Access ℕ) → AreShort r → ((xs : List Value) → list_all is_short xs ≡ true → Asked (next xs)) → Asked (r >>= next)
+  after_values : (r : Result (List Value) ℕ) (next : List Value → Result Access ℕ) → AreShort r → ((xs : List Value) → list_all is_short xs ≡ true → r ≡ Ok xs → Asked (next xs)) → Asked (r >>= next)
   unfolding Asked
-  after_values (Ok xs) next short h = h xs short
+  after_values (Ok xs) next short h = h xs short refl
   after_values (Err code) next short h = failed code
 
   -- what opens
-  reuses_asked : (e : Context) (addr : List ℕ) (t name : Trees) → is_platter_for d.who addr d.devices ≡ true → Asked (reuses e addr t name)
+  reuses_asked : (addr : List ℕ) (t name : Trees) → is_platter_for d.who addr d.devices ≡ true → Asked (reuses e addr t name)
   unfolding Asked
-  reuses_asked e addr (Put opening (In n old closing)) name listed =
+  reuses_asked addr (Put opening (In n old closing)) name listed =
       after_value (name_given e old) (λ o. name_given e name >>= (λ x. Ok (access.DataNew addr (Some o) 0 x)))
-      (λ o. after_name e name (λ x. Ok (access.DataNew addr (Some o) 0 x)) (λ x named. asks addr (access.DataNew addr (Some o) 0 x) listed refl named))
-  reuses_asked e addr t name listed = failed S18_ALPHA
+      (λ o. after_name name (λ x. Ok (access.DataNew addr (Some o) 0 x)) (λ x named. asks addr (access.DataNew addr (Some o) 0 x) listed refl named tt))
+  reuses_asked addr t name listed = failed S18_ALPHA
 
-  makes_asked : (e : Context) (addr : List ℕ) (sectors name : Trees) → is_platter_for d.who addr d.devices ≡ true → Asked (makes e addr sectors name)
+  makes_asked : (addr : List ℕ) (sectors name : Trees) → is_platter_for d.who addr d.devices ≡ true → Asked (makes e addr sectors name)
   unfolding Asked
-  makes_asked e addr sectors name listed =
-      after_count 2 e sectors (λ n. name_given e name >>= (λ x. Ok (access.DataNew addr None n x)))
-      (λ n enough. after_name e name (λ x. Ok (access.DataNew addr None n x)) (λ x named. asks addr (access.DataNew addr None n x) listed refl (enough, named)))
+  makes_asked addr sectors name listed =
+      after_count 2 sectors (λ n. name_given e name >>= (λ x. Ok (access.DataNew addr None n x)))
+      (λ n enough. after_name name (λ x. Ok (access.DataNew addr None n x)) (λ x named. asks addr (access.DataNew addr None n x) listed refl (enough, named) tt))
 
-  new_file_asked : (e : Context) (addr : List ℕ) (t : Trees) → is_platter_for d.who addr d.devices ≡ true → Asked (new_file e addr t)
+  new_file_asked : (addr : List ℕ) (t : Trees) → is_platter_for d.who addr d.devices ≡ true → Asked (new_file e addr t)
   unfolding Asked
-  new_file_asked e addr (In k what (Put comma (In n name end))) listed = either Asked (k == 1) _ _ (reuses_asked e addr what name listed) (makes_asked e addr what name listed)
-  new_file_asked e addr t listed = failed S17_NUMERIC
+  new_file_asked addr (In k what (Put comma (In n name end))) listed = either Asked (k == 1) _ _ (reuses_asked addr what name listed) (makes_asked addr what name listed)
+  new_file_asked addr t listed = failed S17_NUMERIC
 
-  new_asked : (e : Context) (t : Trees) → Asked (asks_for_new d e t)
+  new_asked : (t : Trees) → Asked (asks_for_new d e t)
   unfolding Asked
-  new_asked e (Put word (In n drive (In m slot file))) = after_drive drive (λ addr. new_file e addr file) (λ addr listed. new_file_asked e addr file listed)
-  new_asked e t = failed S17_NUMERIC
+  new_asked (Put word (In n drive (In m slot file))) = after_drive drive (λ addr. new_file e addr file) (λ addr listed. new_file_asked addr file listed)
+  new_asked t = failed S17_NUMERIC
 
-  old_file_asked : (e : Context) (addr : List ℕ) (t : Trees) → is_platter_for d.who addr d.devices ≡ true → Asked (old_file e addr t)
+  old_file_asked : (addr : List ℕ) (t : Trees) → is_platter_for d.who addr d.devices ≡ true → Asked (old_file e addr t)
   unfolding Asked
-  old_file_asked e addr (In n name end) listed = after_value (name_given e name) (λ x. Ok (access.DataOpen addr x)) (λ x. asks addr (access.DataOpen addr x) listed refl tt)
-  old_file_asked e addr t listed = failed S18_ALPHA
+  old_file_asked addr (In n name end) listed = after_value (name_given e name) (λ x. Ok (access.DataOpen addr x)) (λ x. asks addr (access.DataOpen addr x) listed refl tt tt)
+  old_file_asked addr t listed = failed S18_ALPHA
 
-  old_asked : (e : Context) (t : Trees) → Asked (asks_for_old d e t)
+  old_asked : (t : Trees) → Asked (asks_for_old d e t)
   unfolding Asked
-  old_asked e (Put word (In n drive (In m slot file))) = after_drive drive (λ addr. old_file e addr file) (λ addr listed. old_file_asked e addr file listed)
-  old_asked e t = failed S18_ALPHA
+  old_asked (Put word (In n drive (In m slot file))) = after_drive drive (λ addr. old_file e addr file) (λ addr listed. old_file_asked addr file listed)
+  old_asked t = failed S18_ALPHA
 
   -- what goes by a slot
-  saved_asked : (e : Context) (file : Slot) (t : Trees) → Used file → Asked (saved e file t)
+  saved_asked : (file : Slot) (t : Trees) → Used file → Asked (saved e file t)
   unfolding Asked Used
-  saved_asked e file (In k what end) used =
-      either Asked (k == 1) _ _ (asks file.addr (access.DataEnd file) used.0 refl used.1)
-      (after_values (all_saved e (all_listed what)) (λ xs. Ok (access.DataSave file xs)) (all_short e (all_listed what)) (λ xs short. asks file.addr (access.DataSave file xs) used.0 refl (short, used.1)))
-  saved_asked e file t used = failed S17_NUMERIC
+  saved_asked file (In k what end) used =
+      either Asked (k == 1) _ _ (asks file.addr (access.DataEnd file) used.0 refl used.1 tt)
+      (after_values (all_saved e (all_listed what)) (λ xs. Ok (access.DataSave file xs)) (all_short e (all_listed what)) (λ xs short is. asks file.addr (access.DataSave file xs) used.0 refl (short, used.1) (all_listed what, is)))
+  saved_asked file t used = failed S17_NUMERIC
 
-  saves_asked : (slots : List (Option Slot)) (e : Context) (t : Trees) → Asked (saves_in d slots e t)
+  saves_asked : (slots : List (Option Slot)) (t : Trees) → Asked (saves_in d slots e t)
   unfolding Asked
-  saves_asked slots e (In n slot what) = after_file slots (slot_in slot) (λ file. saved e file what) (λ file used. saved_asked e file what used)
-  saves_asked slots e t = failed S17_NUMERIC
+  saves_asked slots (In n slot what) = after_file slots (slot_in slot) (λ file. saved e file what) (λ file used. saved_asked file what used)
+  saves_asked slots t = failed S17_NUMERIC
 
-  save_asked : (slots : List (Option Slot)) (e : Context) (t : Trees) → Asked (asks_to_save d slots e t)
+  save_asked : (slots : List (Option Slot)) (t : Trees) → Asked (asks_to_save d slots e t)
   unfolding Asked
-  save_asked slots e (Put word (Put dc (In k operands end))) = either Asked (k == 1) _ _ (new_asked e operands) (saves_asked slots e operands)
-  save_asked slots e t = failed S17_NUMERIC
+  save_asked slots (Put word (Put dc (In k operands end))) = either Asked (k == 1) _ _ (new_asked operands) (saves_asked slots operands)
+  save_asked slots t = failed S17_NUMERIC
 
-  loads_asked : (slots : List (Option Slot)) (e : Context) (t : Trees) → Asked (loads_in d slots e t)
+  loads_asked : (slots : List (Option Slot)) (t : Trees) → Asked (loads_in d slots e t)
   unfolding Asked Used
-  loads_asked slots e (In n slot items) =
+  loads_asked slots (In n slot items) =
       after_file slots (slot_in slot) (λ file. all_kinds e.around (all_listed items) >>= (λ kinds. Ok (access.DataLoad file kinds)))
-      (λ file used. after_value (all_kinds e.around (all_listed items)) (λ kinds. Ok (access.DataLoad file kinds)) (λ kinds. asks file.addr (access.DataLoad file kinds) used.0 refl used.1))
-  loads_asked slots e t = failed S20_VARIABLE
+      (λ file used. after_value (all_kinds e.around (all_listed items)) (λ kinds. Ok (access.DataLoad file kinds)) (λ kinds. asks file.addr (access.DataLoad file kinds) used.0 refl used.1 tt))
+  loads_asked slots t = failed S20_VARIABLE
 
-  load_asked : (slots : List (Option Slot)) (e : Context) (t : Trees) → Asked (asks_to_load d slots e t)
+  load_asked : (slots : List (Option Slot)) (t : Trees) → Asked (asks_to_load d slots e t)
   unfolding Asked
-  load_asked slots e (Put word (Put dc (In k operands end))) = either Asked (k == 1) _ _ (old_asked e operands) (loads_asked slots e operands)
-  load_asked slots e t = failed S20_VARIABLE
+  load_asked slots (Put word (Put dc (In k operands end))) = either Asked (k == 1) _ _ (old_asked operands) (loads_asked slots operands)
+  load_asked slots t = failed S20_VARIABLE
 
-  skip_asked : (way : Context → Trees → Result By ℕ) (slots : List (Option Slot)) (e : Context) (t : Trees) → Asked (asks_to_skip way d slots e t)
+  skip_asked : (way : Context → Trees → Result By ℕ) (slots : List (Option Slot)) (t : Trees) → Asked (asks_to_skip way d slots e t)
   unfolding Asked Used
-  skip_asked way slots e (Put word (In n slot operand)) =
+  skip_asked way slots (Put word (In n slot operand)) =
       after_file slots (slot_in slot) (λ file. way e operand >>= (λ w. Ok (access.Skip file w)))
-      (λ file used. after_value (way e operand) (λ w. Ok (access.Skip file w)) (λ w. asks file.addr (access.Skip file w) used.0 refl used.1))
-  skip_asked way slots e t = failed S17_NUMERIC
+      (λ file used. after_value (way e operand) (λ w. Ok (access.Skip file w)) (λ w. asks file.addr (access.Skip file w) used.0 refl used.1 tt))
+  skip_asked way slots t = failed S17_NUMERIC
 
-  each_asked : (slots : List (Option Slot)) (e : Context) (r : ℕ) (t : Trees) → F (asks_or_fails (asked_of d slots e r t))
+  each_asked : (slots : List (Option Slot)) (r : ℕ) (t : Trees) → F (asks_or_fails (asked_of d slots e r t))
   unfolding Asked
-  each_asked slots e r t =
-      either Asked (r == row.DATASAVE) _ _ (save_asked slots e t)
-      (either Asked (r == row.DATALOAD) _ _ (load_asked slots e t)
-      (either Asked (r == row.DSKIP) _ _ (skip_asked forward slots e t)
-      (either Asked (r == row.DBACKSPACE) _ _ (skip_asked back slots e t) (failed S27_LEFT_OUT))))
+  each_asked slots r t =
+      either Asked (r == row.DATASAVE) _ _ (save_asked slots t)
+      (either Asked (r == row.DATALOAD) _ _ (load_asked slots t)
+      (either Asked (r == row.DSKIP) _ _ (skip_asked forward slots t)
+      (either Asked (r == row.DBACKSPACE) _ _ (skip_asked back slots t) (failed S27_LEFT_OUT))))
+
+-- what the expressions of a statement look at
+abbrev pub looked_at : Private → SeenLent → Context
+looked_at me s = context_of (work_in (setting_of me) s.home me.vars s.globals)
 
 -- so also of what the statement at a place plans
 module _ (devices : List Device) (me : Private) (s : SeenLent) (F : Planned → Type 0) (ready : F (planned.Done outcome.Ready))
     (leads : (p : Place) (g : Goal) → me.place ≡ Some p → F (planned.Done (to_goal s.home.lines p g))) (failed : (code : ℕ) → F (planned.Done (outcome.Failed code)))
-    (asks : (addr : List ℕ) (a : Access) → is_platter_for me.part addr devices ≡ true → IsAtDisk addr a → IsLegal a → F (planned.Ask a)) where
+    (asks : (addr : List ℕ) (a : Access) → is_platter_for me.part addr devices ≡ true → IsAtDisk addr a → IsLegal a → SavesItems (looked_at me s) a → F (planned.Ask a)) where
   Each : Working → Type 0
   Each k = F (planned_of k)
 
@@ -218,11 +227,17 @@ module _ (devices : List Device) (me : Private) (s : SeenLent) (F : Planned → 
   unfolding Each
   each_statement p is u =
       either Each (u.row == row.IF_END) _ _ (leads p (end_goal me.at_end p.unit (here p me s).units u.tree) is)
-      (each_asked F (drives_of devices me) failed asks me.slots (context_of (work_in (setting_of me) s.home me.vars s.globals)) u.row u.tree)
+      (each_asked F (drives_of devices me) (looked_at me s) failed asks me.slots u.row u.tree)
 
-  pub each_planned : F (planned_of (works devices me s))
+  pub each_saving_planned : F (planned_of (works devices me s))
   unfolding Each
-  each_planned = each_course is_refused stops (does devices me s) me s Each ready (failed S26_PROGRAM_ONLY) (λ p is u. each_statement p is u)
+  each_saving_planned = each_course is_refused stops (does devices me s) me s Each ready (failed S26_PROGRAM_ONLY) (λ p is u. each_statement p is u)
+
+-- whatever is saved
+pub each_planned : (devices : List Device) (me : Private) (s : SeenLent) (F : Planned → Type 0) → F (planned.Done outcome.Ready)
+    → ((p : Place) (g : Goal) → me.place ≡ Some p → F (planned.Done (to_goal s.home.lines p g))) → ((code : ℕ) → F (planned.Done (outcome.Failed code)))
+    → ((addr : List ℕ) (a : Access) → is_platter_for me.part addr devices ≡ true → IsAtDisk addr a → IsLegal a → F (planned.Ask a)) → F (planned_of (works devices me s))
+each_planned devices me s F ready leads failed asks = each_saving_planned devices me s F ready leads failed (λ addr a listed is legal of. asks addr a listed is legal)
 
 -- and of how a statement finishes
 pub each_ended : (F : FileWorked → Type 0) (x : Access) (a : Answer) (me : Private) (s : SeenLent) → ((t : Trees) → F (saving_ends x a t me)) → ((t : Trees) → F (loading_ends x a t me s))

@@ -12,3 +12,4 @@ pub mod Loading
 pub mod Ending
 pub mod Plan
 pub mod Laws
+pub mod SavedNumbers

@@ -1,5 +1,6 @@
 //! What holds of statements on data files, whatever they are: the contracts of functions without a body.
 ghost use Rattle.b2_stmt_file.specs.Laws.{AskedDevicesAreListed, OpenFilesStayOpen, StatementsLeaveTheRest, StatementsPlanLegally};
+ghost use Rattle.b2_stmt_file.specs.SavedNumbers.{SavedNumbersAreNumbers};
 
 /// A statement, as it plans over any devices and as it finishes, names no partition as a home, in a place, in a frame, where it
 /// leads or in what it asks for, but its own and those that were named before. It leaves the place of the partition, which moves
@@ -23,4 +24,10 @@ pub fn what_is_asked_is_legal()
 /// sector, that is so after a statement has planned, and after it has finished by an answer that fits an access to what is listed.
 pub fn open_files_stay_open()
     ensures { OpenFilesStayOpen }
+{}
+
+/// Each number that a statement asks to be saved is one as the machine has them, where those are that the variables hold which it
+/// sees.
+pub fn saved_numbers_are_numbers()
+    ensures { SavedNumbersAreNumbers }
 {}

@@ -1,0 +1,22 @@
+//! What holds of every log and boot: each law is the contract of a function without a body.
+ghost use Rattle.b2_boot.specs.Laws.{AloneGrantsNoMore, BootsOfFilesAreGood, LogsAreOfTheirBoot, LogsKeepToTheBound};
+
+/// The boot of a file that passes its checks is good.
+pub fn law_a_boot_of_a_file_is_good()
+    ensures { BootsOfFilesAreGood }
+{}
+
+/// A log that passes its checks grants at most five million steps in all.
+pub fn law_a_log_keeps_to_the_bound()
+    ensures { LogsKeepToTheBound }
+{}
+
+/// Each event of a log that passes its checks is of the boot.
+pub fn law_a_log_is_of_its_boot()
+    ensures { LogsAreOfTheirBoot }
+{}
+
+/// To a group alone the same events grant no more.
+pub fn law_a_group_alone_is_granted_no_more()
+    ensures { AloneGrantsNoMore }
+{}
