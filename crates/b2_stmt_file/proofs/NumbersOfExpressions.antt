@@ -56,7 +56,7 @@ there_gives l held =
     unless_gives (get_code l.element.var l.element.row l.element.column l.vars.table) (number_at cell (map.get l.vars.table l.element.var))
     (number_held cell (map.get l.vars.table l.element.var) (held l.element.var))
 
-place_gives : (r : Result Cell ℕ) → IfOk r (λ l. HoldsNumbers l.vars) → GivesNumber (element_number r)
+pub place_gives : (r : Result Cell ℕ) → IfOk r (λ l. HoldsNumbers l.vars) → GivesNumber (element_number r)
 place_gives (Ok l) held = there_gives l held
 place_gives (Err code) held = tt
 

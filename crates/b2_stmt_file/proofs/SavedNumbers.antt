@@ -1,6 +1,5 @@
 -- Each number of a record that is saved is one as the machine has them, where those of the variables are.
-use Rattle.std.proofs.Common.{ℕ, zero, suc, ◌+◌, ◌==◌, Bool, true, false, if◌then◌else◌, List, [], ◌∷◌, Option, Some, None, IfSome, Result, Ok, Err, IfOk, subst}
-use Rattle.std.specs.FinMap as map
+use Rattle.std.proofs.Common.{ℕ, zero, suc, ◌+◌, ◌==◌, Bool, true, false, if◌then◌else◌, List, [], ◌∷◌, Result, Ok, Err, IfOk, subst}
 use Rattle.std.specs.List.{All}
 use Rattle.std.proofs.lemmas.List.Elements.{All-append, All-cons, All-nil}
 use Rattle.b2_base.specs.declared.codes.TheConstants.{X72_TOO_LONG}
@@ -9,26 +8,25 @@ use Rattle.b2_dec.specs.declared.values.Value.{Value}
 use Rattle.b2_dec.specs.declared.values.Value.TheVariants as value_kind
 use Rattle.b2_atom.specs.Tree.{Trees}
 use Rattle.b2_atom.specs.Tree.Trees.{In}
-use Rattle.b2_vars.specs.declared.name.Var.{Var}
-use Rattle.b2_vars.specs.Calls.{get_code}
-use Rattle.b2_vars.specs.Shapes.{cell_at, cells}
+use Rattle.b2_vars.specs.Shapes.{cells}
 use Rattle.b2_vars.specs.Tables.{VarsState, shape_at}
-use Rattle.b2_vars.specs.Variables.{VariableState, alpha_at, number_at, value_at}
 use Rattle.b2_access.specs.Touching.{is_short}
 use Rattle.b2_access.specs.declared.accesses.Access.{Access}
 use Rattle.b2_access.specs.declared.accesses.Access.TheVariants as access
 use Rattle.b2_access.specs.declared.planned.Planned.TheVariants as planned
 use Rattle.b2_access.proofs.Working.{as_it_comes}
-use Rattle.b2_expr.specs.Answers.{◌>>=◌, unless}
+use Rattle.b2_expr.specs.Answers.{◌>>=◌, Answer, TextAnswer}
+use Rattle.b2_expr.specs.Named.{Cell}
 use Rattle.b2_expr.specs.Scope.{Context}
-use Rattle.b2_expr.specs.Value.{text, value}
+use Rattle.b2_expr.specs.Value.{element_number, text, text_of_cell, value}
 use Rattle.b2_expr.specs.declared.operators.Level.TheVariants as level
 use Rattle.b2_receiver.specs.Receivers.{whole_array}
-use Rattle.b2_stmt_file.specs.Elements.{array_values, array_variables, column_of, element_recorded, element_value, name_of, recorded, row_of, then_values, values_from}
+use Rattle.b2_receiver.specs.declared.receiver.Array.{Array}
+use Rattle.b2_stmt_file.specs.Elements.{alpha_value, array_values, array_variables, cell_of, element_recorded, name_of, number_value, recorded, then_values, value_in, values_from}
 use Rattle.b2_stmt_file.specs.Plan.{works}
-use Rattle.b2_stmt_file.specs.SavedNumbers.{HoldsNumbers, IsAnyNumber, SavedNumbersAreNumbers, SavesNumbers}
+use Rattle.b2_stmt_file.specs.SavedNumbers.{GivesNumber, HoldsNumbers, IsAnyNumber, SavedNumbersAreNumbers, SavesNumbers}
 use Rattle.b2_stmt_file.specs.SavedValues.{all_saved, array_saved, item_saved, operand_saved}
-use Rattle.b2_stmt_file.proofs.NumbersOfExpressions.{LooksAtNumbers, number_held, statement_looks_at_numbers, value_gives, variables_hold}
+use Rattle.b2_stmt_file.proofs.NumbersOfExpressions.{LooksAtNumbers, place_gives, statement_looks_at_numbers, value_gives, variables_hold}
 use Rattle.b2_stmt_file.proofs.Planned.{SavesItems, each_saving_planned, looked_at}
 
 -- the values of an answer, where there are some
@@ -60,34 +58,35 @@ whatever (Ok x) next h = h x
 whatever (Err c) next h = tt
 
 -- the elements of an array
-value_by : (alpha : Bool) (cell : ℕ) (o : Option VariableState) → IfSome o (λ x. All IsNumber x.numbers) → IsAnyNumber (if alpha then value_kind.Alpha (alpha_at cell o) else value_kind.Number (number_at cell o))
-value_by true cell o held = tt
-value_by false cell o held = number_held cell o held
+number_valued : (r : Answer) → GivesNumber r → IfOk (r >>= (λ x. Ok (value_kind.Number x))) IsAnyNumber
+number_valued (Ok x) is = is
+number_valued (Err c) is = tt
 
-unless_held : (code : Option ℕ) (x : Value) → IsAnyNumber x → IfOk (unless code x) IsAnyNumber
-unless_held None x is = is
-unless_held (Some c) x is = tt
+alpha_valued : (r : TextAnswer) → IfOk (r >>= (λ bytes. Ok (value_kind.Alpha bytes))) IsAnyNumber
+alpha_valued (Ok bytes) = tt
+alpha_valued (Err c) = tt
 
-element_held : (vars : VarsState) (v : Var) (k : ℕ) → HoldsNumbers vars → IfOk (element_value vars v k) IsAnyNumber
-element_held vars v k held =
-    let r = row_of (shape_at v vars.table) k in
-    let c = column_of (shape_at v vars.table) k in
-    let cell = cell_at (shape_at v vars.table) r c in
-    unless_held (get_code v r c vars.table) (value_at v cell (map.get vars.table v)) (value_by v.alpha cell (map.get vars.table v) (held v))
+valued_by : (alpha : Bool) (x y : Result Value ℕ) → IfOk x IsAnyNumber → IfOk y IsAnyNumber → IfOk (if alpha then x else y) IsAnyNumber
+valued_by true x y p q = p
+valued_by false x y p q = q
 
-from_saved : (vars : VarsState) (v : Var) (k n : ℕ) → HoldsNumbers vars → AreNumbers (values_from vars v k n)
+value_held : (p : Cell) → HoldsNumbers p.vars → IfOk (value_in p) IsAnyNumber
+value_held p held =
+    valued_by p.element.var.alpha (alpha_value p) (number_value p) (alpha_valued (text_of_cell (Ok p))) (number_valued (element_number (Ok p)) (place_gives (Ok p) held))
+
+from_saved : (vars : VarsState) (a : Array) (k n : ℕ) → HoldsNumbers vars → AreNumbers (values_from vars a k n)
 unfolding AreNumbers
-from_saved vars v k zero held = All-nil IsAnyNumber
-from_saved vars v k (suc n) held =
-    then_saved (element_recorded vars v k) (values_from vars v (k + 1) n) (after IsAnyNumber (element_value vars v k) recorded (element_held vars v k held) one_saved) (from_saved vars v (k + 1) n held)
+from_saved vars a k zero held = All-nil IsAnyNumber
+from_saved vars a k (suc n) held =
+    then_saved (element_recorded vars a k) (values_from vars a (k + 1) n) (after IsAnyNumber (value_in (cell_of vars a k)) recorded (value_held (cell_of vars a k) held) one_saved) (from_saved vars a (k + 1) n held)
 
 -- an item
 module _ (e : Context) (h : LooksAtNumbers e) where
   array_gives : (t : Trees) → AreNumbers (array_saved e t)
   array_gives t =
-      whatever (whole_array e.around t) (λ a. array_variables e.around a >>= (λ vars. array_values vars a.var))
-      (λ a. after HoldsNumbers (array_variables e.around a) (λ vars. array_values vars a.var) (variables_hold e.around (name_of a) h.own h.globals)
-      (λ vars held. from_saved vars a.var 0 (cells (shape_at a.var vars.table)) held))
+      whatever (whole_array e.around t) (λ a. array_variables e.around a >>= (λ vars. array_values vars a))
+      (λ a. after HoldsNumbers (array_variables e.around a) (λ vars. array_values vars a) (variables_hold e.around (name_of a) h.own h.globals)
+      (λ vars held. from_saved vars a 0 (cells (shape_at a.var vars.table)) held))
 
   by_branch : (b : Bool) (x y : Result (List Value) ℕ) → AreNumbers x → AreNumbers y → AreNumbers (if b then x else y)
   by_branch true x y p q = p
