@@ -1,5 +1,5 @@
 -- An answer that stops an access, and a code, say nothing that would have to fit; and what a disk is asked fits where its work does.
-use Rattle.std.proofs.Common.{◌≡◌, ℕ, List, Option, Some, None, Result, Ok, Err, refl}
+use Rattle.std.proofs.Common.{◌≡◌, ℕ, List, Option, Some, None, Result, Ok, Err, refl, subst}
 use Rattle.b2_access.specs.declared.accesses.Access.{Access}
 use Rattle.b2_access.specs.declared.accesses.Access.TheVariants as access
 use Rattle.b2_access.specs.declared.accesses.Answer.{Answer}
@@ -37,6 +37,12 @@ code_fits (access.DataEnd slot) c = tt
 code_fits (access.DataLoad slot kinds) c = tt
 code_fits (access.Skip slot way) c = tt
 code_fits a c = tt
+
+-- so does what stops an access
+pub stop_fits : (a : Access) (first inside : Option ℕ) (x : Answer) → stop_by first inside ≡ Some x → AnswerFits a x
+stop_fits a (Some q) inside x is = let same : answer.Wait q ≡ x = cc in subst (AnswerFits a) same (wait_fits a q)
+stop_fits a None (Some q) x is = let same : answer.Locked q ≡ x = cc in subst (AnswerFits a) same (lock_fits a q)
+stop_fits a None None x is = cc
 
 module _ (a : Access) (s : StoreState) where
   -- what fits unless the access is stopped fits

@@ -8,6 +8,7 @@ pub mod Appended
 pub mod Locality
 pub mod Causes
 pub mod Delays
+pub mod AskedAgain
 pub mod Holders
 pub mod Fitting
 pub mod Held

@@ -1,5 +1,5 @@
 -- A device that a partition holds is out of the reach of all others; and which images an access changes.
-use Rattle.std.specs.Prelude.{◌≡◌, ◌≢◌, ◌⊎◌, ℕ, Bool, true, false, is_some, List, [], ◌∷◌, Option, Some, None}
+use Rattle.std.specs.Prelude.{◌≡◌, ◌≢◌, ◌⊎◌, ◌||◌, ℕ, Bool, true, false, is_some, List, [], ◌∷◌, Option, Some, None}
 use Rattle.b2_access.specs.declared.objects.Object.{Object}
 use Rattle.b2_access.specs.declared.objects.Object.TheVariants as object
 use Rattle.b2_access.specs.declared.accesses.Access.{Access}
@@ -97,6 +97,10 @@ changes_name (access.Declare name old) = true
 changes_name (access.ClearAll name homes) = is_some name
 changes_name (access.LoadProgram addr name replace declared homes) = is_some declared
 changes_name a = false
+
+-- an access may change a device, or who holds a name
+abbrev pub ChangesDeviceOrName : Access → Type 0
+ChangesDeviceOrName a = (changes_device a || changes_name a) ≡ true
 
 abbrev pub OtherImagesStay : Type 0
 OtherImagesStay = (disks : DiskWork) (who : ℕ) (d : List ℕ) (a : Access) (s : StoreState) → image_changed a ≢ Some d → content (serves disks s who a).after (object.Platter d) ≡ content s (object.Platter d)

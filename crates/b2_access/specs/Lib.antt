@@ -18,6 +18,7 @@ pub mod Stopping
 pub mod Serving
 pub mod Answering
 pub mod Views
+pub mod AskedAgain
 pub mod Causes
 pub mod Entering
 pub mod Standing

@@ -2,16 +2,19 @@
 ghost use Rattle.std.specs.Prelude.{ℕ, List, Option};
 ghost use Rattle.b2_access.specs.Partition.{at_start, KeepsNone};
 ghost use Rattle.b2_access.specs.Answering.{AnswersByRow, RowsTellTheirAnswers};
+ghost use Rattle.b2_access.specs.AskedAgain.{OnlyDelaysAreAskedAgain};
 ghost use Rattle.b2_access.specs.Causes.{WaitsForTheFirst, LocksForTheFirst, MissesNobodyElse, RefusesWithTheCode};
 ghost use Rattle.b2_access.specs.Disks.{DiskWork};
 ghost use Rattle.b2_access.specs.Entering.{AccessesEnterAsSaid};
-ghost use Rattle.b2_access.specs.Holding.{HeldIsOutOfReach, HeldStaysAsItIs, OtherHoldersStay, OtherImagesStay, WhoAsksWaits};
+ghost use Rattle.b2_access.specs.Holding.{ChangesDeviceOrName, HeldIsOutOfReach, HeldStaysAsItIs, OtherHoldersStay, OtherImagesStay, WhoAsksWaits};
 ghost use Rattle.b2_access.specs.Leading.{AnswersLeadToHolders, AnswersLeadToWhoIsPresent, HoldersStayPresent, NamesLeadToWhoAsks};
 ghost use Rattle.b2_access.specs.Loans.{LoansEndWell};
 ghost use Rattle.b2_access.specs.Serving.{StopsUnchanged, serves, itself};
 ghost use Rattle.b2_access.specs.Sharing.{IsLocal, KeepsListed};
+ghost use Rattle.b2_access.specs.Touching.{MayWantMemory};
 ghost use Rattle.b2_access.specs.Working.{FinishesArePutBack, PlansArePutBack};
 
+use crate::accesses::Access;
 use crate::shared::Shared;
 
 /// A partition that starts keeps no place. While program text runs none is kept: that is what statements have to leave so.
@@ -123,6 +126,18 @@ pub fn law_rows_tell_their_answers()
 /// Every answer is one that may stop its access, or that its row tells.
 pub fn law_answers_are_of_their_rows()
     ensures { (disks : DiskWork) → AnswersByRow (serves disks) }
+{}
+
+/// What is answered by a store of any kind is seen by who asked for it as what came of the access, but an answer by which a step is repeated:
+/// another has to be waited for, or no key is there.
+pub fn law_only_what_delays_is_asked_for_again<S: Shared>()
+    ensures { OnlyDelaysAreAskedAgain S.serving }
+{}
+
+/// To find who holds a name is an access for which no store wants memory: neither a plain one, nor one whose devices and names are watched.
+pub fn law_finding_a_name_wants_no_memory()
+    ensures plain { (name : List ℕ) → MayWantMemory (Access.FindPart name) → ⊥ }
+    ensures watched { (name : List ℕ) → ChangesDeviceOrName (Access.FindPart name) → ⊥ }
 {}
 
 /// A loan by a store of any kind ends well. Where no `@` variables are found, all stays as it was, whatever becomes of the spare; where some

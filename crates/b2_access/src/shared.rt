@@ -1,17 +1,19 @@
 // The store that all partitions share, of any kind.
-ghost use Rattle.std.specs.Prelude.{◌≡◌, ℕ, Some, IfOk, IfErr, IsSome};
+ghost use Rattle.std.specs.Prelude.{◌≡◌, ◌⊎◌, ℕ, true, Some, IfOk, IfErr, IsSome};
 ghost use Rattle.std.specs.Borrow.{sem};
 ghost use Rattle.b2_vars.specs.Globals.{unreached};
 ghost use Rattle.b2_vars.specs.Tables.{VarsState};
 ghost use Rattle.b2_access.specs.declared.accesses.Access.{Access as AccessSpec};
 ghost use Rattle.b2_access.specs.declared.lending.At.{At as AtSpec};
-ghost use Rattle.b2_access.specs.Answering.{AnswersByRow};
+ghost use Rattle.b2_access.specs.Answering.{AnswersByRow, can_answer};
+ghost use Rattle.b2_access.specs.Fitting.{AnswerFits};
+ghost use Rattle.b2_access.specs.Holding.{ChangesDeviceOrName};
 ghost use Rattle.b2_access.specs.Leading.{AnswersLead, NamesLead};
 ghost use Rattle.b2_access.specs.Lending.{globals_lent};
 ghost use Rattle.b2_access.specs.Loans.{Loan, LendsFrom, LendsTextsAgain, LoansGlobals, NotesReached, Noting, globals_at, holder_of, left_at};
 ghost use Rattle.b2_access.specs.Sharing.{ServingOf, IsLocal, KeepsListed};
 ghost use Rattle.b2_access.specs.Store.{StoreState, content};
-ghost use Rattle.b2_access.specs.Touching.{IsLegal};
+ghost use Rattle.b2_access.specs.Touching.{IsLegal, MayWantMemory};
 
 use crate::accesses::{Access, Answer};
 use crate::lending::{At, Lent};
@@ -69,12 +71,17 @@ pub trait Shared {
     fn holder(&self, name: Name8) -> Option<Part>
         ensures held { result ≡ holder_of (store (meaning self.now)) name };
 
-    /// Serves an access of a partition. Memory fails only for one that may want it.
+    /// Serves an access of a partition. Memory fails only for one that may want it; and of any store only for one that takes memory in a
+    /// plain one, or that may change a device or who holds a name, as whoever watches a store may list those. So it never fails where who
+    /// holds a name is looked for. The answer is one that the access can have, and what it says fits what was asked.
     fn serve(&mut self, who: Part, access: &Access) -> Result<Answer, NoMemory>
         requires legal { IsLegal access.now }
         ensures same { holds self.new ≡ holds self.old }
         ensures served { IfOk result (λ a. record { after = meaning self.new; answer = a } ≡ serving (meaning self.old) who access.now) }
-        ensures memory { IfErr result (λ _. wants access.now) };
+        ensures memory { IfErr result (λ _. wants access.now) }
+        ensures sparing { IfErr result (λ _. MayWantMemory access.now ⊎ ChangesDeviceOrName access.now) }
+        ensures possible { IfOk result (λ a. can_answer access.now a ≡ true) }
+        ensures fits { IfOk result (AnswerFits access.now) };
 
     /// What an access is answered and writes depends on what it touches alone, and all else stays.
     ghost local: { IsLocal store serving };

@@ -1,5 +1,5 @@
 -- A store that is watched: it serves and lends as the store inside, and marks what partitions touch and write by that.
-use Rattle.std.specs.Prelude.{◌≡◌, ◌||◌, ℕ, Bool, true, false, List, [], Option, Some, None, refl}
+use Rattle.std.specs.Prelude.{◌≡◌, ℕ, List, [], Option, Some, None, refl}
 use Rattle.std.proofs.Common.{ap, ◌∙◌}
 use Rattle.b2_vars.specs.Globals.{unreached}
 use Rattle.b2_vars.specs.Tables.{VarsState}
@@ -7,7 +7,7 @@ use Rattle.b2_access.specs.declared.accesses.Access.{Access}
 use Rattle.b2_access.specs.declared.lending.At.{At}
 use Rattle.b2_access.specs.declared.lending.At.TheVariants as at
 use Rattle.b2_access.specs.declared.objects.Object.{Object}
-use Rattle.b2_access.specs.Holding.{changes_device, changes_name}
+use Rattle.b2_access.specs.Holding.{ChangesDeviceOrName}
 pub use Rattle.b2_access.specs.Loans.{lent_objects, reached_objects}
 use Rattle.b2_access.specs.Loans.{Loan, LoansGlobals, NotesReached, Noting, globals_objects, holder_of, lender_at, loan_touched, with_globals_at, with_globals_of}
 use Rattle.b2_access.specs.Sharing.{ServingOf, IsLocal, KeepsListed, writes}
@@ -17,7 +17,7 @@ use Rattle.b2_audit.specs.Marks.{Marks, marked, touch_all, write_all}
 
 -- an access that may write an object for whose writers no room is kept: a device, or who holds it, or a name
 abbrev pub GrowsMarks : Access → Type 0
-GrowsMarks a = (changes_device a || changes_name a) ≡ true
+GrowsMarks a = ChangesDeviceOrName a
 
 -- serving, which marks what each access touches, whatever it is answered, and what it writes
 abbrev pub watching : {M : Type 0} → (M → StoreState) → ServingOf M → ServingOf (M × Marks)

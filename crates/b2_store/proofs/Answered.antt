@@ -23,17 +23,22 @@ use Rattle.b2_datafile.specs.Loading.{agree, is_of, values_loaded}
 use Rattle.b2_datafile.specs.Moving.{Ahead, Behind, Moves}
 use Rattle.b2_datafile.specs.Slots.{file_of, open_file, open_refusal, opened, write_refusal}
 use Rattle.b2_datafile.proofs.FromFunctions.{place-goes, some-loaded}
+use Rattle.b2_access.specs.declared.accesses.Access.{Access}
 use Rattle.b2_access.specs.declared.accesses.Access.TheVariants as access
+use Rattle.b2_access.specs.declared.accesses.Answer.{Answer}
 use Rattle.b2_access.specs.declared.accesses.Answer.TheVariants as answer
 use Rattle.b2_access.specs.declared.objects.Object.TheVariants as object
-use Rattle.b2_access.specs.AccessRows.{loaded_answer, no_file, row}
+use Rattle.b2_access.specs.AccessRows.{holder_at, loaded_answer, no_file, reach, row}
 use Rattle.b2_access.specs.Disks.{Loaded, Made}
 use Rattle.b2_access.specs.Fitting.{AnswerFits, AnswersFit, AreOfKinds, IsOfKind, IsOpenOn}
-use Rattle.b2_access.specs.Serving.{itself}
-use Rattle.b2_access.specs.Stopping.{first_other, first_there, inside_edited}
-use Rattle.b2_access.specs.Store.{content}
+use Rattle.b2_access.specs.Serving.{itself, performs, unless_stopped}
+use Rattle.b2_access.specs.Sharing.{Gives}
+use Rattle.b2_access.specs.Stopping.{first_other, first_there, inside_edited, stop}
+use Rattle.b2_access.specs.Store.{StoreState, content}
+use Rattle.b2_access.specs.Touching.{IsLegal}
 use Rattle.b2_access.proofs.Fitting.{change_fits, finding_fits, unless_fits}
-use Rattle.b2_store.specs.DiskWork.{serves}
+use Rattle.b2_store.specs.Asked.{IsGoodIfSkipped}
+use Rattle.b2_store.specs.DiskWork.{disks, serves}
 use Rattle.b2_store.specs.FileWork.{as_made, entry_ended, entry_opened, file_ended, file_opened, loaded_or, new_file, place_skipped, record_loaded, record_saved}
 
 pub ok-same : {A : Type 0} (x y : A) → ◌≡◌ {A = Result A ℕ} (Ok x) (Ok y) → x ≡ y
@@ -171,37 +176,54 @@ load-fits slot kinds image (Some l) low h =
     let after = r.after in
     (subst (AreOfKinds kinds) (sym r.first_ones) (kinds-are kinds r.values r.fit r.enough), omega (arith, low, after))
 
--- ---- each access
+-- ---- each access, where the platter is good on which a place is moved
 
-pub answers-fit : AnswersFit itself (Good Narrow) serves
-answers-fit s who (access.DataNew addr old sectors name) legal images =
+pub served-fits : (s : StoreState) (who : ℕ) (a : Access) → IsLegal a → IsGoodIfSkipped a s → AnswerFits a (serves s who a).answer
+served-fits s who (access.DataNew addr old sectors name) legal good =
     let a = access.DataNew addr old sectors name in
     unless_fits a s (first_other who (first_there (row a).reach s)) (inside_edited who (row a).reach.text s) _
     (change_fits a s addr (answer.Opened (no_file addr name)) (refl, omega arith) (λ m. m.image) (λ m. answer.Opened m.told) (new_file addr old sectors name) (content s (object.Platter addr))
     (λ image there m is. (let p = new-parts image addr old sectors name m.image m.told (as-made-is (new_opened image addr old sectors name) m is) in is-open addr m.told p.0.1 p.3)))
-answers-fit s who (access.DataOpen addr name) legal images =
+served-fits s who (access.DataOpen addr name) legal good =
     let a = access.DataOpen addr name in
     unless_fits a s (first_other who (first_there (row a).reach s)) (inside_edited who (row a).reach.text s) _
     (finding_fits a s addr (answer.Opened (no_file addr name)) (refl, omega arith) answer.Opened (file_opened addr name) (content s (object.Platter addr))
     (λ image there slot is. found-open addr (get (catalogue image) name) slot is))
-answers-fit s who (access.DataSave slot values) legal images =
+served-fits s who (access.DataSave slot values) legal good =
     let a = access.DataSave slot values in
     unless_fits a s (first_other who (first_there (row a).reach s)) (inside_edited who (row a).reach.text s) _
     (change_fits a s slot.addr (answer.Moved slot.pos) legal.1 (λ m. m.image) (λ m. answer.Moved m.told) (record_saved slot values) (content s (object.Platter slot.addr))
     (λ image there m is. save-low slot values image m legal.1 is))
-answers-fit s who (access.DataEnd slot) legal images =
+served-fits s who (access.DataEnd slot) legal good =
     let a = access.DataEnd slot in
     unless_fits a s (first_other who (first_there (row a).reach s)) (inside_edited who (row a).reach.text s) _
     (change_fits a s slot.addr (answer.Moved slot.pos) legal (λ m. m.image) (λ m. answer.Moved m.told) (file_ended slot) (content s (object.Platter slot.addr))
     (λ image there m is. end-low slot image m legal is))
-answers-fit s who (access.DataLoad slot kinds) legal images =
+served-fits s who (access.DataLoad slot kinds) legal good =
     let a = access.DataLoad slot kinds in
     unless_fits a s (first_other who (first_there (row a).reach s)) (inside_edited who (row a).reach.text s) _
     (finding_fits a s slot.addr answer.AtEnd tt loaded_answer (record_loaded slot kinds) (content s (object.Platter slot.addr))
     (λ image there o is. load-fits slot kinds image o legal is))
-answers-fit s who (access.Skip slot way) legal images =
+served-fits s who (access.Skip slot way) legal good =
     let a = access.Skip slot way in
     unless_fits a s (first_other who (first_there (row a).reach s)) (inside_edited who (row a).reach.text s) _
     (finding_fits a s slot.addr (answer.Moved slot.pos) legal answer.Moved (place_skipped slot way) (content s (object.Platter slot.addr))
-    (λ image there to is. skip-low image slot way to (images slot.addr image there) legal is))
-answers-fit s who a legal images = tt
+    (λ image there to is. skip-low image slot way to (good slot way refl image there) legal is))
+served-fits s who a legal good = tt
+
+pub answers-fit : AnswersFit itself (Good Narrow) serves
+answers-fit s who a legal images = served-fits s who a legal (λ slot way is image there. images slot.addr image there)
+
+-- What is so of the answer that is given is so of what stops the access, and where nothing does of what its row does.
+module _ (s : StoreState) (who : ℕ) (a : Access) (IsSo : Answer → Type 0) (given : IsSo (serves s who a).answer) where
+  abbrev pub performed : Gives StoreState
+  performed = performs ((row a).does disks who (holder_at a s)) s
+
+  stopped-by : (o : Option Answer) → stop who (reach a) s ≡ o → IsSo (unless_stopped o performed s).answer
+  stopped-by o is = subst (λ (x : Option Answer). IsSo (unless_stopped x performed s).answer) is given
+
+  pub stopped-so : (x : Answer) → stop who (reach a) s ≡ Some x → IsSo x
+  stopped-so x is = stopped-by (Some x) is
+
+  pub done-so : (g : Gives StoreState) → stop who (reach a) s ≡ None → g ≡ performed → IsSo g.answer
+  done-so g none is = subst (λ (y : Gives StoreState). IsSo y.answer) (sym is) (stopped-by None none)

@@ -2,7 +2,7 @@
 ghost use Rattle.std.specs.Prelude.{◌≡◌, ◌≢◌, ◌≤◌, ℕ, true, None, IfOk, IfErr};
 ghost use Rattle.std.specs.List.{list_all};
 ghost use Rattle.b2_access.specs.Touching.{is_short};
-ghost use Rattle.b2_store.specs.Asked.{moving};
+ghost use Rattle.b2_store.specs.Asked.{IsGoodToSkip, moving};
 
 use crate::data_files::{
     end_file, load_record, moved_answer, new_file, no_file, open_file, opened_answer, save_record,
@@ -127,10 +127,11 @@ impl Stores {
         }
     }
 
-    /// Moves the place in a file.
+    /// Moves the place in a file, on a platter that is good by its type.
     pub(crate) fn skip(&self, slot: &Slot, by: By) -> Result<Answer, NoMemory>
         requires { slot.now.start ≤ slot.now.pos }
-        ensures { (who : ℕ) → IfOk result (Does who (Access.Skip slot.now by) self.now self.now) }
+        ensures good { IsGoodToSkip slot.now (store_of self.now) }
+        ensures done { (who : ℕ) → IfOk result (Does who (Access.Skip slot.now by) self.now self.now) }
     {
         match self.platters.get(slot.addr) {
             Some(platter) => skip_records(self.alloc, platter, slot, by),

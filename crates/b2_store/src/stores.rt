@@ -3,6 +3,7 @@ ghost use Rattle.std.specs.Prelude.{◌≡◌, length, IfOk, IfErr, option_copie
 ghost use Rattle.b2_access.specs.Loans.{lender_at};
 ghost use Rattle.b2_access.specs.Store.{StoreState, content};
 ghost use Rattle.b2_access.specs.Touching.{IsLegal, MayWantMemory};
+ghost use Rattle.b2_store.specs.Asked.{IsGoodIfSkipped};
 ghost use Rattle.b2_store.specs.Changes.{keyed_at, front_at, room_at};
 ghost use Rattle.b2_store.specs.Start.{store_at_start};
 
@@ -120,6 +121,7 @@ impl Stores {
         requires legal { IsLegal access.now }
         ensures done { IfOk result (Does who access.now self.old self.new) }
         ensures memory { IfErr result (λ _. MayWantMemory access.now) }
+        ensures good { IsGoodIfSkipped access.now (store_of self.old) }
     {
         match access {
             Access::Show { term, bytes, .. } => self.show(*term, bytes.bytes()),
