@@ -1,11 +1,11 @@
 // The store: its rows, how each access is served, and what is lent.
-ghost use Rattle.std.specs.Prelude.{◌≡◌, length, IfOk, IfErr, option_copied};
+ghost use Rattle.std.specs.Prelude.{◌≡◌, ◌++◌, map, length, IfOk, IfErr, option_copied};
 ghost use Rattle.b2_access.specs.Loans.{lender_at};
 ghost use Rattle.b2_access.specs.Store.{StoreState, content};
 ghost use Rattle.b2_access.specs.Touching.{IsLegal, MayWantMemory};
 ghost use Rattle.b2_store.specs.Asked.{IsGoodIfSkipped};
 ghost use Rattle.b2_store.specs.Changes.{keyed_at, front_at, room_at};
-ghost use Rattle.b2_store.specs.Start.{store_at_start};
+ghost use Rattle.b2_store.specs.Start.{store_at_start, text_row, borrow_row, globals_row, idle_row, blank_row, free_row, with_keys};
 
 use crate::boot::StoreBoot;
 use crate::borrows::Borrows;
@@ -39,6 +39,57 @@ pub struct Stores {
     pub(crate) names: Names,
 }
 
+/// What belongs to partitions at the start.
+#[derive(Drop)]
+struct Homes {
+    texts: Rows<Part, Text>,
+    borrows: Borrows,
+    globals: Spared,
+}
+
+/// The devices at the start.
+#[derive(Drop)]
+struct Devices {
+    terminals: Rows<Term, Terminal>,
+    printers: Rows<Addr, Printer>,
+    platters: Rows<Addr, Platter>,
+    hogs: Rows<Addr, Option<Part>>,
+}
+
+fn homes_of(alloc: Global, b: &StoreBoot) -> Result<Homes, NoMemory>
+    ensures texts { IfOk result (λ h. h.texts ≡ map text_row b.now.partitions.items) }
+    ensures borrows { IfOk result (λ h. h.borrows ≡ map borrow_row b.now.partitions.items) }
+    ensures globals { IfOk result (λ h. h.globals ≡ map globals_row b.now.partitions.items) }
+{
+    let texts = texts_of(alloc, &b.partitions)?;
+    let borrows = Borrows::new(borrows_of(alloc, &b.partitions)?);
+    let globals = Spared::new(globals_of(alloc, &b.partitions)?, Vars::new(alloc, 0)?)?;
+    Ok(Homes {
+        texts,
+        borrows,
+        globals,
+    })
+}
+
+fn devices_of(alloc: Global, b: &StoreBoot, platters: Vec<Platter>) -> Result<Devices, NoMemory>
+    requires as_many { length b.now.platters.items ≡ length platters.items }
+    ensures terminals { IfOk result (λ d. d.terminals ≡ map idle_row b.now.terminals.items) }
+    ensures printers { IfOk result (λ d. d.printers ≡ map blank_row b.now.printers.items) }
+    ensures platters { IfOk result (λ d. d.platters ≡ with_keys b.now.platters.items platters.items) }
+    ensures hogs { IfOk result (λ d. d.hogs ≡ map free_row b.now.printers.items ++ map free_row b.now.platters.items) }
+{
+    let terminals = terminals_of(alloc, &b.terminals)?;
+    let printers = printers_of(alloc, &b.printers)?;
+    let platters = platters_of(alloc, &b.platters, platters)?;
+    let hogs = holders_of(alloc, &b.printers, &b.platters)?;
+    Ok(Devices {
+        terminals,
+        printers,
+        platters,
+        hogs,
+    })
+}
+
 impl Stores {
     ghost use Rattle.b2_store.specs.Meaning.{store_of, Does};
 
@@ -48,15 +99,17 @@ impl Stores {
         requires as_many { length b.now.platters.items ≡ length platters.items }
         ensures at_start { IfOk result (λ s. store_of s ≡ store_at_start b.now platters.items) }
     {
+        let homes = homes_of(alloc, b)?;
+        let devices = devices_of(alloc, b, platters)?;
         Ok(Stores {
             alloc,
-            texts: texts_of(alloc, &b.partitions)?,
-            borrows: Borrows::new(borrows_of(alloc, &b.partitions)?),
-            globals: Spared::new(globals_of(alloc, &b.partitions)?, Vars::new(alloc, 0)?)?,
-            terminals: terminals_of(alloc, &b.terminals)?,
-            printers: printers_of(alloc, &b.printers)?,
-            platters: platters_of(alloc, &b.platters, platters)?,
-            hogs: holders_of(alloc, &b.printers, &b.platters)?,
+            texts: homes.texts,
+            borrows: homes.borrows,
+            globals: homes.globals,
+            terminals: devices.terminals,
+            printers: devices.printers,
+            platters: devices.platters,
+            hogs: devices.hogs,
             names: Names::new(alloc),
         })
     }
