@@ -88,7 +88,11 @@ fn names_alike(rt: &HostRuntime) -> io::Result<()> {
     for name in ["b2_value_alike_b.tmp", "b2_value_alike_a.tmp"] {
         let mut into = Vec::new(rt.alloc());
         let fetched = shelf.fetch(name.as_bytes(), 9, &mut into);
-        println!(rt; "fetch {name}: {}, {} bytes", name_of_fetch(fetched), into.len())?;
+        println!(rt;
+            "fetch {name}: {}, {} bytes",
+            name_of_fetch(fetched),
+            into.len()
+        )?;
         put(rt, &into)?;
     }
     fetch(rt, "b2_value_alike_c.tmp", 9)?;
