@@ -29,21 +29,43 @@ type_refuses() {
         gives 2 "type $words" ./b2 type $words
         is_empty "type $words" "$work/out"
     done
-    printf '10 PRINT "OK"\n20 PRINT "\303\244"\n' >listing.bas
+    printf '10 PRINT "OK"\n20 PRINT "\344"\n' >listing.bas
     gives 2 "type: a byte that no key gives" ./b2 type 1 listing.bas
     is_empty "type: a byte that no key gives" "$work/out"
     is_text "type: a byte that no key gives" "$work/err" \
-        'type: listing.bas: line 2 has a byte that no key gives: hexadecimal C3 at byte 11\n'
+        'type: listing.bas:2: the line has a byte that no key gives: hexadecimal E4 at byte 11\n'
+    printf '10 PRINT "\303\244\342\202\254"\n' >listing.bas
+    gives 2 "type: a sign that stands for nothing" ./b2 type 1 listing.bas
+    has "type: a sign that stands for nothing" "$work/err" 'listing.bas:1: the line has a byte that no key gives: hexadecimal E2 at byte 13'
     printf '10 A\000B\n' >listing.bas
     gives 2 "type: the byte 00" ./b2 type 1 listing.bas
-    has "type: the byte 00" "$work/err" 'line 1 has a byte that no key gives: hexadecimal 00 at byte 5'
+    has "type: the byte 00" "$work/err" 'listing.bas:1: the line has a byte that no key gives: hexadecimal 00 at byte 5'
     printf '10 A\rB\n' >listing.bas
     gives 2 "type: a carriage return inside of a line" ./b2 type 1 listing.bas
     printf '10 END\n20 REM %s\n' "$(bytes 250)" >listing.bas
     gives 2 "type: a line of 257 bytes" ./b2 type 1 listing.bas
     is_empty "type: a line of 257 bytes" "$work/out"
-    is_text "type: a line of 257 bytes" "$work/err" 'type: listing.bas: line 2 has 257 bytes; at most 256 can be typed\n'
+    is_text "type: a line of 257 bytes" "$work/err" \
+        'type: listing.bas:2: the line has 257 bytes; at most 256 can be typed, so part it in two\n'
     gives 0 "type --help" ./b2 type --help
+}
+
+# What editors make of a listing is typed as it was meant, and told once with its places.
+type_tells_what_it_understood() {
+    printf '\357\273\27710 PRINT \342\200\234CAF\303\251\342\200\235\n20 A=5\342\210\2223\n30 PRINT \342\200\234A\342\200\235\n40 B=2\n40 B=3\n\032' >listing.bas
+    gives 0 "type: signs of editors" ./b2 type 1 listing.bas
+    is_text "type: signs of editors" "$work/err" "type: listing.bas:1: the mark of UTF-8 is read as nothing
+type: listing.bas:1: \342\200\234 is read as \", also in line 3
+type: listing.bas:1: \303\251 is read as e
+type: listing.bas:1: \342\200\235 is read as \", also in line 3
+type: listing.bas:2: \342\210\222 is read as -
+type: listing.bas:5: the number 40 stands in line 4 of the file already; this one takes its place\n"
+    grep '^type' "$work/out" >"$work/typed"
+    is_text "type: what is typed" "$work/typed" \
+        'type 1 10 PRINT "CAFe"\ntype 1 20 A=5-3\ntype 1 30 PRINT "A"\ntype 1 40 B=2\ntype 1 40 B=3\n'
+    printf '10 A=1\n10\n10 A=2\nCLEAR\n10 A=3\n' >listing.bas
+    gives 0 "type: numbers that stand twice on purpose" ./b2 type 1 listing.bas
+    is_empty "type: numbers that stand twice on purpose" "$work/err"
 }
 
 # Lines about the size of the queue, each after a line without a number, come back whole.
@@ -96,8 +118,15 @@ try_runs_a_listing() {
     is_empty "try: every statement that runs" "$work/err"
     # An error ends a run as END does.
     echo '10 PRINT 1/0' >listing.bas
-    gives 0 "try: an error" ./b2 try listing.bas
+    gives 23 "try: an error" ./b2 try listing.bas
     is_text "try: an error" "$work/out" 'RUN\nERR C62 AT 10\n:'
+    is_text "try: an error" "$work/err" 'try: listing.bas:1: 10 PRINT 1/0: C62 when it ran: a number is divided by zero\n'
+    printf '10 PRINT "A"\n\n20 GOSUB 40\n30 END\n40 READ A\n' >listing.bas
+    gives 23 "try: an error in a line further down" ./b2 try listing.bas
+    has "try: an error in a line further down" "$work/err" 'try: listing.bas:5: 40 READ A: X70 when it ran: `READ` finds no further value'
+    printf '10 X=1/0:ERROR PRINT ERR\n' >listing.bas
+    gives 0 "try: an error that is taken" ./b2 try listing.bas
+    is_empty "try: an error that is taken" "$work/err"
     : >listing.bas
     gives 0 "try: an empty listing" ./b2 try listing.bas
     printf '10 FOR I=1 TO 20000:NEXT I\n20 PRINT I\n' >listing.bas
@@ -151,8 +180,11 @@ try_ends_with_its_status() {
     printf '10 PRINT "A"\n20 PRIMT\n30 PRINT SIN(1)\n' >listing.bas
     gives 22 "try: lines that are not taken" ./b2 try listing.bas
     is_text "try: lines that are not taken" "$work/out" 'RUN\nA\n:'
-    is_text "try: lines that are not taken" "$work/err" \
-        'try: not taken: 20 PRIMT: ERR S12 COL 5\ntry: not taken: 30 PRINT SIN(1): ERR S27 COL 10\n'
+    has "try: lines that are not taken" "$work/err" 'try: listing.bas:2: 20 PRIMT: S12 at column 5: an equals sign is missing; also where a word is misspelled'
+    has "try: lines that are not taken" "$work/err" 'try: listing.bas:3: 30 PRINT SIN(1): S27 at column 10: a word of the real machine that this one leaves out'
+    printf '10 GOSUB 30\n20 END\n30 PRIMT\n' >listing.bas
+    gives 23 "try: a line that is not taken, and an error" ./b2 try listing.bas
+    has "try: a line that is not taken, and an error" "$work/err" 'try: listing.bas:1: 10 GOSUB 30: P36 when it ran: there is no line of this number'
     echo '10 GOTO 10' >listing.bas
     gives 20 "try: an endless loop" ./b2 try --steps 3000 listing.bas
     is_text "try: an endless loop" "$work/out" 'RUN\n'
@@ -160,6 +192,10 @@ try_ends_with_its_status() {
         'try: the steps ran out; --steps N grants more, and a log has at most 5000000\n'
     printf '10 PRINT "A":INPUT B:GOTO 10\n' >listing.bas
     answered 20 "try: too few steps" '1\n2\n3\n4\n5\n' ./b2 try --steps 20 listing.bas
+    echo '10 FOR I=1 TO 2000:NEXT I:PRINT "DONE"' >loop.bas
+    gives 0 "try: all the steps that a log has" ./b2 try --steps 5000000 loop.bas
+    echo '10 GOTO 10' >loop.bas
+    gives 20 "try: an endless loop with all steps" ./b2 try --steps 5000000 loop.bas
     # The line is read, RUN executed, a PRINT executed and the colon shown.
     echo '10 PRINT "A"' >listing.bas
     gives 0 "try: few steps are enough" ./b2 try --steps 20 listing.bas
@@ -185,7 +221,7 @@ try_refuses() {
     done
     printf '10 END\n20 \201\n' >listing.bas
     gives 2 "try: a listing that can't be typed" ./b2 try listing.bas
-    has "try: a listing that can't be typed" "$work/err" 'listing.bas: line 2 has a byte that no key gives'
+    has "try: a listing that can't be typed" "$work/err" 'listing.bas:2: the line has a byte that no key gives'
     gives 0 "try --help" ./b2 try --help
     gives 0 "live --help" ./b2 live --help
     gives 2 "live without a terminal" ./b2 live
@@ -194,6 +230,13 @@ try_refuses() {
     gives 2 "live --disk without a file" ./b2 live --disk
     gives 2 "live --disk with a boot file" ./b2 live --disk my.disk examples/two.toml
     is_text "live --disk with a boot file" "$work/err" 'live: a boot file says itself which disks and printers there are\n'
+    gives 2 "live with a listing" ./b2 live examples/stock.bas
+    has "live with a listing" "$work/err" 'examples/stock.bas is a listing and no boot file; b2 try examples/stock.bas types it and runs it'
+    mkdir -p folder
+    gives 2 "try of a folder" ./b2 try folder
+    has "try of a folder" "$work/err" 'try: folder is no file that can be read'
+    [ ! -e /dev/full ] || gives 7 "try: what it shows can't be put" bash -c './b2 try examples/chart.bas <examples/chart.in >/dev/full'
+    if [ -z "$(find /dev/shm -maxdepth 1 -name 'b2.*' -newer listing.bas ! -path "$work")" ]; then ok; else bad "try: folders" "a folder is left"; fi
 }
 
 # What is kept shows the same again, up to the RUN and from there on.
@@ -415,7 +458,7 @@ try_has_devices() {
     same "try --disk --keep leaves the same disk" again.D11 my.disk
     echo x >bad.disk
     gives 6 "try --disk of no image" ./b2 try --disk bad.disk listing.bas
-    is_text "try --disk of no image" "$work/err" 'try: bad image D11 1\n'
+    is_text "try --disk of no image" "$work/err" "try: bad image D11 1\ntry: bad.disk: the length isn't 256 times 16 to 32,512\n"
     is_text "try --disk of no image leaves it" bad.disk 'x\n'
     gives 2 "try --disk of a folder" ./b2 try --disk kept listing.bas
     gives 2 "try --disk in no folder" ./b2 try --disk nofolder/my.disk listing.bas
@@ -424,8 +467,62 @@ try_has_devices() {
     gives 2 "try --keep of a disk in a folder of another form" ./b2 try --disk my.disk --keep 'a b' listing.bas
 }
 
+# Runs try with a program that changes the disk's file before its first run.
+try_while_changing() { # WORD..
+    rm -f is_changed
+    printf '%s\n' '#!/bin/sh' '[ -e "$CHANGING" ] || { : >"$CHANGING"; echo other >"$DISK"; }' \
+        'exec "$PROGRAM" "$@"' >changing
+    chmod +x changing
+    CHANGING=$PWD/is_changed DISK=$PWD/my.disk PROGRAM=$top/crates/b2_mvp/out/b2_mvp B2_PROGRAM=$PWD/changing "$top/tools/try" "$@"
+}
+
+# A user's disk is written where something changed on it, and where nobody else wrote to it meanwhile.
+try_keeps_disks_whole() {
+    rm -f my.disk* report.txt
+    printf '10 DATASAVE DC OPEN T,#1,5,"KEPT":DATASAVE DC #1,7:DATASAVE DC #1,END\n' >saves.bas
+    printf '10 DATALOAD DC OPEN T,#1,"KEPT":DATALOAD DC #1,N:PRINT N\n' >reads.bas
+    printf '10 SCRATCH T,"KEPT"\n' >scratches.bas
+    printf '10 DATASAVE DC OPEN T,5,"MORE"\n' >more.bas
+    ./b2 try --disk my.disk saves.bas >/dev/null
+    chmod 640 my.disk
+    stat -c '%i %Y %a' my.disk >before.stat
+    gives 0 "try --disk: a run that only reads" ./b2 try --disk my.disk reads.bas
+    stat -c '%i %Y %a' my.disk >after.stat
+    same "try --disk: a disk on which nothing changed isn't written" after.stat before.stat
+    gives 0 "try --disk: a run that writes" ./b2 try --disk my.disk scratches.bas
+    stat -c '%u:%g %a' my.disk >after.stat
+    is_text "try --disk: the mode and the owner stay" after.stat "$(id -u):$(id -g) 640\n"
+    if [ "$(id -u)" -eq 0 ]; then
+        chown 1234:1234 my.disk
+        gives 0 "try --disk of another owner" ./b2 try --disk my.disk more.bas
+        stat -c '%u:%g %a' my.disk >after.stat
+        is_text "try --disk of another owner" after.stat '1234:1234 640\n'
+    fi
+    cp my.disk before.disk
+    chmod 444 my.disk
+    gives 2 "try --disk that can't be written" ./b2 try --disk my.disk scratches.bas
+    is_empty "try --disk that can't be written" "$work/out"
+    has "try --disk that can't be written" "$work/err" "my.disk can't be written"
+    chmod 644 my.disk
+    printf '10 DATASAVE DC OPEN T,5,"LEAST"\n' >least.bas
+    same "try --disk that can't be written" my.disk before.disk
+    gives 2 "try --disk that is changed meanwhile" try_while_changing --disk my.disk least.bas
+    has "try --disk that is changed meanwhile" "$work/err" 'my.disk was changed by another command meanwhile and stays so; what was left here is'
+    is_text "try --disk that is changed meanwhile" my.disk 'other\n'
+    if grep -aq LEAST my.disk.lost; then ok; else bad "try --disk that is changed meanwhile" "what was left isn't kept"; fi
+    printf '10 PRINT "RAN"\n' >listing.bas
+    mkdir -p folder
+    gives 2 "try --printer of a folder" ./b2 try --printer folder listing.bas
+    is_empty "try --printer of a folder: nothing is run" "$work/out"
+    has "try --printer of a folder" "$work/err" 'folder is a folder'
+    mkdir -p kept/folder/log
+    gives 2 "try --keep where a folder stands" ./b2 try --keep kept/folder listing.bas
+    is_empty "try --keep where a folder stands: nothing is run" "$work/out"
+}
+
 type_spells_a_log
 type_refuses
+type_tells_what_it_understood
 long_lines_are_typed
 run_tells_dropped
 try_runs_a_listing
@@ -435,6 +532,7 @@ try_ends_with_its_status
 try_refuses
 try_keeps
 try_has_devices
+try_keeps_disks_whole
 vary_finds_what_depends_on_the_order
 vary_shows_an_order
 vary_leaves_alone_what_is_apart
