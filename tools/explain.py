@@ -1,8 +1,10 @@
 """What the numbers in `bad boot`, `bad log` and `bad image` mean, by the tables of docs/FORMATS.md, with the file and, where one can
 be found, the line."""
 import re
+import sys
 import tomllib
 
+sys.dont_write_bytecode = True
 from listing import page
 from machine import Refused, bytes_of
 
@@ -130,3 +132,9 @@ def first_odd_value(rows, check):
 
 def in_range(value, low, high):
     return value.isdigit() and low <= int(value) <= high
+
+
+if __name__ == "__main__":
+    meaning = explained(*sys.argv[1:4])
+    if meaning:
+        print(f"b2: {meaning}")

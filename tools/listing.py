@@ -19,7 +19,7 @@ class Line:
     """A line of a listing: its number in the file, and what is typed."""
 
     def __init__(self, place, text):
-        self.place, self.text = place, text
+        self.place, self.text, self.is_taken = place, text, True
         found = re.match(" *([0-9]+)", text)
         self.number = int(found[1]) if found else None
 
@@ -107,7 +107,7 @@ class Listing:
 
     def of_number(self, wanted):
         """The line of the program with this number."""
-        return next((line for line in reversed(self.lines) if line.number == wanted), None)
+        return next((line for line in reversed(self.lines) if line.number == wanted and line.is_taken), None)
 
     def refused_lines(self, transcript):
         """The lines that were not taken, with the code and the column that were shown: each line comes back after a colon."""
@@ -118,6 +118,7 @@ class Listing:
                 continue
             found = re.fullmatch(r"ERR ([A-Z]\d\d)(?: COL (\d+)| AT \d+)?", row)
             if found and typed:
+                self.lines[typed - 1].is_taken = False
                 yield self.lines[typed - 1], found[1], found[2]
 
     def told(self, line, code, column=None, when=""):

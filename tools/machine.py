@@ -64,10 +64,6 @@ def is_image_name(name):
     return re.fullmatch(r"[A-Za-z0-9._/-]{1,190}", name) is not None
 
 
-def keys(terminal, text):
-    return f"keys {terminal} {text}\n".encode()
-
-
 def turn(part, steps):
     return b"turn %d %d\n" % (part, steps)
 
@@ -104,6 +100,21 @@ class Boot:
                     row["image"] = images[row["address"]]
                 lines += ["", f"[[{kind}]]", *(f"{key} = {toml_value(value)}" for key, value in row.items())]
         return "\n".join(lines).encode() + b"\n"
+
+
+def fronts_after(boot, log):
+    """Who is in front at each terminal at the end of a log."""
+    fronts = dict(boot.fronts)
+    for terminal, part in re.findall(rb"^front (\d+) (\d+)\r?$", log, re.MULTILINE):
+        fronts[int(terminal)] = int(part)
+    return fronts
+
+
+def granted_by(log, a_round):
+    """The steps that a log grants; `a_round` is what a round does."""
+    turns = re.findall(rb"^turn \d+ (\d+)\r?$", log, re.MULTILINE)
+    rounds = re.findall(rb"^rounds (\d+)\r?$", log, re.MULTILINE)
+    return sum(map(int, turns)) + a_round * sum(map(int, rounds))
 
 
 def toml_value(value):
