@@ -236,7 +236,12 @@ try_refuses() {
     gives 2 "try of a folder" ./b2 try folder
     has "try of a folder" "$work/err" 'try: folder is no file that can be read'
     [ ! -e /dev/full ] || gives 7 "try: what it shows can't be put" bash -c './b2 try examples/chart.bas <examples/chart.in >/dev/full'
-    if [ -z "$(find /dev/shm -maxdepth 1 -name 'b2.*' -newer listing.bas ! -path "$work")" ]; then ok; else bad "try: folders" "a folder is left"; fi
+    # The folder for the outputs goes, also where a signal ends the command.
+    printf '%s\n' '#!/bin/sh' 'pwd >"$PLACE"' 'kill -TERM $PPID' 'sleep 1' >ending
+    chmod +x ending
+    echo '10 END' >listing.bas
+    gives 143 "try: ended by a signal" env PLACE="$PWD/place" B2_PROGRAM="$PWD/ending" "$top/tools/try" listing.bas
+    if [ -s place ] && [ ! -e "$(cat place)" ]; then ok; else bad "try: ended by a signal" "the folder $(cat place) is left"; fi
 }
 
 # What is kept shows the same again, up to the RUN and from there on.
@@ -271,6 +276,8 @@ vary_finds_what_depends_on_the_order() {
     if [ "$(otherwise_in 'terminal 1')" -gt 25 ]; then ok; else bad "vary: a lost update" "not in most orders: $(cat "$work/out")"; fi
     if [ "$(otherwise_in 'terminal 2')" = 0 ]; then ok; else bad "vary: a lost update" "$(cat "$work/out")"; fi
     has "vary: a lost update" "$work/out" 'vary.log is the first log under which something came out otherwise'
+    if grep -qE '^in order 1 the first line that differs at terminal 1 is line [0-9]+:$' "$work/out" && grep -q '^  the log:   THERE ARE 10 $' "$work/out" &&
+        grep -qE '^  the order: THERE ARE [1-9] $' "$work/out"; then ok; else bad "vary: the line that differs" "$(cat "$work/out")"; fi
     cp vary.log first.log && cp "$work/out" told
     gives 20 "vary: the same orders once more" ./b2 vary examples/orders.toml examples/lost.log 50
     same "vary: the same seed, the same orders" "$work/out" told
@@ -281,8 +288,9 @@ vary_finds_what_depends_on_the_order() {
     gives 0 "vary: what is kept runs" ./b2 run examples/orders.toml vary.log out
     if grep -q '^THERE ARE [1-9] $' out.t01; then ok; else bad "vary: what is kept shows the loss" "$(tail -n 3 out.t01)"; fi
     gives 0 "vary: a disk that is taken" ./b2 vary examples/orders.toml examples/counted.log 50
-    is_text "vary: a disk that is taken" "$work/out" \
-        'terminal 1: otherwise in 0 of 50\nterminal 2: otherwise in 0 of 50\ndisk D11: otherwise in 0 of 50\n'
+    is_text "vary: a disk that is taken" "$work/out" '41 rounds and 0 turns of the log come in another order
+terminal 1: otherwise in 0 of 50\nterminal 2: otherwise in 0 of 50\ndisk D11: otherwise in 0 of 50\n'
+    if [ -e vary.log ]; then bad "vary: an older log" "it is left"; else ok; fi
     gives 20 "vary: a printer" ./b2 vary examples/printers.toml examples/mixed.log 50
     if [ "$(otherwise_in 'printer 215')" -gt 25 ]; then ok; else bad "vary: a printer" "$(cat "$work/out")"; fi
 }
@@ -309,14 +317,52 @@ vary_leaves_alone_what_is_apart() {
             'turn 2 3' 'rounds 2' 'type 1 PRINT SGN(X)' 'type 2 PRINT SGN(X)' 'rounds 2'; do echo "$line"; done
     } >loops.log
     gives 0 "vary: nothing in common" ./b2 vary examples/two.toml loops.log 40
-    is_text "vary: nothing in common" "$work/out" 'terminal 1: otherwise in 0 of 40\nterminal 2: otherwise in 0 of 40\n'
-    gives 0 "vary: one partition" ./b2 vary examples/first.toml examples/count.log 5
+    is_text "vary: nothing in common" "$work/out" '44 rounds and 3 turns of the log come in another order
+terminal 1: otherwise in 0 of 40\nterminal 2: otherwise in 0 of 40\n'
+    gives 2 "vary: one partition" ./b2 vary examples/first.toml examples/count.log 5
+    is_text "vary: one partition" "$work/err" \
+        'vary: nothing of the log can come in another order: no turns or rounds of two partitions stand together in it\n'
+    is_empty "vary: one partition" "$work/out"
     gives 0 "vary: a shared terminal" ./b2 vary examples/front.toml examples/front.log 5
-    printf 'turn 1 1\nturn 2 1\ntype 1 PRINT 1\nturn 1 9\n' >turns.log
-    gives 0 "vary: turns alone" ./b2 vary examples/two.toml turns.log 5
-    is_text "vary: turns alone" "$work/out" 'terminal 1: otherwise in 0 of 5\nterminal 2: otherwise in 0 of 5\n'
-    gives 0 "vary --show: turns alone" ./b2 vary --show 1 examples/two.toml turns.log
-    same "vary: turns alone stay" vary.log turns.log
+    printf 'turn 1 1\ntype 1 PRINT 1\nturn 1 9\ntype 2 PRINT 2\nturn 2 9\n' >turns.log
+    gives 2 "vary: turns that stand alone" ./b2 vary examples/two.toml turns.log 5
+}
+
+# Turns that stand one after another come in another order as rounds do, each partition's in its own order.
+vary_moves_single_turns() {
+    local line count
+    while read -r line; do
+        case $line in
+            rounds*) for ((count = ${line#rounds }; count > 0; count--)); do printf 'turn 1 20\nturn 2 20\n'; done ;;
+            *) printf '%s\n' "$line" ;;
+        esac
+    done <examples/lost.log >turns.log
+    gives 0 "vary: single turns, as they stand" ./b2 run examples/orders.toml turns.log out
+    has "vary: single turns, as they stand" out.t01 'THERE ARE 10'
+    gives 20 "vary: single turns" ./b2 vary examples/orders.toml turns.log 50
+    has "vary: single turns" "$work/out" '0 rounds and 50 turns of the log come in another order'
+    if [ "$(otherwise_in 'terminal 1')" -gt 10 ]; then ok; else bad "vary: single turns" "$(cat "$work/out")"; fi
+    printf '%s\n' 'turn 1 1' 'turn 1 2' 'turn 2 3' 'turn 1 4' 'turn 2 5' 'type 1 10 PRIMT' 'turn 1 4' 'turn 9 9' 'turn 2 6' >own.log
+    gives 0 "vary: turns of one partition" ./b2 vary --show 3 examples/two.toml own.log
+    # Each partition has the steps that it had, before each of the other lines.
+    awk '/^turn/ { steps[$2] += $3; next } { print steps[1], steps[2]; print } END { print steps[1], steps[2] }' own.log >wanted
+    awk '/^turn/ { steps[$2] += $3; next } /^rounds/ { next } { print steps[1], steps[2]; print } END { print steps[1], steps[2] }' vary.log >"$work/got"
+    same "vary: turns of one partition" "$work/got" wanted
+}
+
+# What can't be written, and what ends a run, is told in a line.
+vary_ends_in_a_message() {
+    local place=$PWD
+    mkdir -p closed/vary.log
+    cd closed || return
+    gives 2 "vary: a folder in the place of its log" ../b2 vary ../examples/orders.toml ../examples/lost.log 5
+    has "vary: a folder in the place of its log" "$work/err" "vary: vary.log can't be written here"
+    if grep -q Traceback "$work/err"; then bad "vary: a message" "$(cat "$work/err")"; else ok; fi
+    cd "$place" || return
+    printf '%s\n' 'rounds 2' 'type 1 RUN' 'rounds 9' >rounds.log
+    write_stand_in - 'kill -INT $PPID; sleep 1; cksum'
+    gives 130 "vary: Ctrl-C" env --default-signal=INT B2_PROGRAM="$PWD/stand_in" "$top/tools/vary" examples/two.toml rounds.log 3
+    is_text "vary: Ctrl-C" "$work/err" 'vary: ended by Ctrl-C; nothing is told of the orders that were tried\n'
 }
 
 # A log in which two partitions want one disk, and the second has it just in time.
@@ -331,7 +377,7 @@ vary_gives_more_turns() {
     local turns=4999
     write_tight_log ''
     gives 0 "vary: more turns" ./b2 vary examples/orders.toml tight.log 20
-    is_text "vary: more turns" "$work/out" \
+    is_text "vary: more turns" <(sed 1d "$work/out") \
         'terminal 1: otherwise in 0 of 20\nterminal 2: otherwise in 0 of 20\ndisk D11: otherwise in 0 of 20\n'
     gives 0 "vary: an order that wants eight rounds more" ./b2 vary --show 6 examples/orders.toml tight.log
     has "vary: an order that wants eight rounds more" vary.log 'rounds 8'
@@ -389,7 +435,7 @@ vary_keeps_what_else_happens() {
     } >halts.log
     gives 0 "vary: halts and fronts run" ./b2 run examples/apart.toml halts.log first
     gives 0 "vary: halts and fronts" ./b2 vary examples/apart.toml halts.log 20
-    is_text "vary: halts and fronts" "$work/out" 'terminal 1: otherwise in 0 of 20\nterminal 2: otherwise in 0 of 20\n'
+    is_text "vary: halts and fronts" <(sed 1d "$work/out") 'terminal 1: otherwise in 0 of 20\nterminal 2: otherwise in 0 of 20\n'
     gives 0 "vary: an order with halts and fronts" ./b2 vary --show 2 examples/apart.toml halts.log
     { printf -- '-- terminal 1\n' && cat first.t01 && printf '\n-- terminal 2\n' && cat first.t02 && echo; } >wanted
     same "vary: an order with halts and fronts" "$work/out" wanted
@@ -416,7 +462,7 @@ vary_refuses() {
     gives 0 "vary --help" ./b2 vary --help
     echo 'sing 1' >bad.log
     gives 5 "vary: a bad log" ./b2 vary examples/two.toml bad.log
-    is_text "vary: a bad log" "$work/err" 'vary: bad log 1 2\n'
+    is_text "vary: a bad log" "$work/err" 'vary: bad log 1 2\nvary: bad.log:1: the first word is unknown: sing 1\n'
     printf '%s\n' 'rounds 100000' 'rounds 30000' >long.log
     gives 5 "vary: a log that grants too much" ./b2 vary examples/two.toml long.log
 }
@@ -665,7 +711,7 @@ building_tells_each_crate() {
     export XDG_CACHE_HOME=$PWD/cache
     gives 0 "building" env PATH="$PWD/small/bin:$PATH" small/b2 run a b c
     is_text "building" "$work/out" 'turns 1 steps 1 dropped 0 apart 1\n'
-    is_text "building" <(sed 's/some .* on four/.../' "$work/err") 'b2: proving and building the program, 3 crates; from nothing it takes ..., and later what has changed
+    is_text "building" <(sed 's/some .* on four processors/.../' "$work/err") 'b2: proving and building the program, 3 crates; from nothing it takes ..., and later what has changed
 b2: crate 1 of 3: b2_base
 b2: crate 2 of 3: b2_text
 b2: crate 3 of 3: b2_mvp is being proved, as the last one\n'
@@ -742,6 +788,8 @@ vary_finds_what_depends_on_the_order
 vary_shows_an_order
 vary_leaves_alone_what_is_apart
 vary_gives_more_turns
+vary_moves_single_turns
+vary_ends_in_a_message
 vary_reports_a_fault_of_the_machine
 vary_asks_little
 vary_keeps_what_else_happens
