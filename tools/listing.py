@@ -141,10 +141,9 @@ def named(what, places):
 
 def instead_of(text, code, column):
     """What docs/PORTING.md says to write, where a line is of one of its habits."""
-    from_column = text[int(column) - 1:] if column else text
     for habit in HABITS:
-        if habit.code == code and re.search(habit.pattern, from_column if habit.is_at_column else text, re.IGNORECASE):
-            return f"{habit.instead} (docs/PORTING.md)"
+        if habit.is_of(text, code, column):
+            return f"instead: {habit.instead} (docs/PORTING.md)"
     return None
 
 

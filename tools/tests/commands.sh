@@ -760,6 +760,11 @@ packing_takes_all_that_is_wanted() {
     for tool in lint list vary type live pack; do
         gives 0 "pack: $tool" env PATH="$PWD/bin" bash -c "cd unpacked/$name && exec ./b2 $tool --help"
     done
+    # The commands of the page, with the names that it leaves open.
+    awk '/^```sh/ { block = 1; next } /^```/ { block = 0 } block' "$top/docs/PACKED.md" |
+        sed "s/VERSION/${name#b2_mvp-}/; s#/where/it/was/unpacked#$PWD/packs/$name#; s#crates/b2_mvp#$top/&#" >page.sh
+    gives 0 "pack: the commands of PACKED.md" bash -ec 'cd packs && . ../page.sh'
+    same "pack: the commands of PACKED.md" "$work/out" examples/mortgage.out
     rm bin/python3
     gives 0 "pack: run without python3" env PATH="$PWD/bin" bash -c "cd unpacked/$name && exec ./b2 run examples/first.toml examples/first.log out"
     gives 2 "pack: no folder" ./b2 pack nofolder

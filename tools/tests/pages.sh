@@ -129,7 +129,11 @@ examples_run
 consoles_run docs/USING.md
 consoles_run README.md
 consoles_run examples/README.md
-for page in README.md docs/USING.md docs/CODES.md examples/README.md; do commands_in_text_run "$page"; done
+consoles_run docs/PORTING.md
+for page in README.md docs/USING.md docs/CODES.md docs/PORTING.md examples/README.md; do commands_in_text_run "$page"; done
 codes_are_shown
+gives 0 "PORTING.md has the table of tools/habits.py" "$top/tools/habits.py" --check
+gives 0 "PORTING.md: its tables" "$top/tools/tests/porting.py" "$top/crates/b2_mvp/out/b2_mvp" "$work"
+is_empty "PORTING.md: its tables" "$work/out"
 examples_under_other_orders
 gives 0 "ARCHITECTURE.md has the picture of crates.txt" "$top/tools/picture" --check
