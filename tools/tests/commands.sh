@@ -29,21 +29,43 @@ type_refuses() {
         gives 2 "type $words" ./b2 type $words
         is_empty "type $words" "$work/out"
     done
-    printf '10 PRINT "OK"\n20 PRINT "\303\244"\n' >listing.bas
+    printf '10 PRINT "OK"\n20 PRINT "\344"\n' >listing.bas
     gives 2 "type: a byte that no key gives" ./b2 type 1 listing.bas
     is_empty "type: a byte that no key gives" "$work/out"
     is_text "type: a byte that no key gives" "$work/err" \
-        'type: listing.bas: line 2 has a byte that no key gives: hexadecimal C3 at byte 11\n'
+        'type: listing.bas:2: the line has a byte that no key gives: hexadecimal E4 at byte 11\n'
+    printf '10 PRINT "\303\244\342\202\254"\n' >listing.bas
+    gives 2 "type: a sign that stands for nothing" ./b2 type 1 listing.bas
+    has "type: a sign that stands for nothing" "$work/err" 'listing.bas:1: the line has a byte that no key gives: hexadecimal E2 at byte 13'
     printf '10 A\000B\n' >listing.bas
     gives 2 "type: the byte 00" ./b2 type 1 listing.bas
-    has "type: the byte 00" "$work/err" 'line 1 has a byte that no key gives: hexadecimal 00 at byte 5'
+    has "type: the byte 00" "$work/err" 'listing.bas:1: the line has a byte that no key gives: hexadecimal 00 at byte 5'
     printf '10 A\rB\n' >listing.bas
     gives 2 "type: a carriage return inside of a line" ./b2 type 1 listing.bas
     printf '10 END\n20 REM %s\n' "$(bytes 250)" >listing.bas
     gives 2 "type: a line of 257 bytes" ./b2 type 1 listing.bas
     is_empty "type: a line of 257 bytes" "$work/out"
-    is_text "type: a line of 257 bytes" "$work/err" 'type: listing.bas: line 2 has 257 bytes; at most 256 can be typed\n'
+    is_text "type: a line of 257 bytes" "$work/err" \
+        'type: listing.bas:2: the line has 257 bytes; at most 256 can be typed, so part it in two\n'
     gives 0 "type --help" ./b2 type --help
+}
+
+# What editors make of a listing is typed as it was meant, and told once with its places.
+type_tells_what_it_understood() {
+    printf '\357\273\27710 PRINT \342\200\234CAF\303\251\342\200\235\n20 A=5\342\210\2223\n30 PRINT \342\200\234A\342\200\235\n40 B=2\n40 B=3\n\032' >listing.bas
+    gives 0 "type: signs of editors" ./b2 type 1 listing.bas
+    is_text "type: signs of editors" "$work/err" "type: listing.bas:1: the mark of UTF-8 is read as nothing
+type: listing.bas:1: \342\200\234 is read as \", also in line 3
+type: listing.bas:1: \303\251 is read as e
+type: listing.bas:1: \342\200\235 is read as \", also in line 3
+type: listing.bas:2: \342\210\222 is read as -
+type: listing.bas:5: the number 40 stands in line 4 of the file already; this one takes its place\n"
+    grep '^type' "$work/out" >"$work/typed"
+    is_text "type: what is typed" "$work/typed" \
+        'type 1 10 PRINT "CAFe"\ntype 1 20 A=5-3\ntype 1 30 PRINT "A"\ntype 1 40 B=2\ntype 1 40 B=3\n'
+    printf '10 A=1\n10\n10 A=2\nCLEAR\n10 A=3\n' >listing.bas
+    gives 0 "type: numbers that stand twice on purpose" ./b2 type 1 listing.bas
+    is_empty "type: numbers that stand twice on purpose" "$work/err"
 }
 
 # Lines about the size of the queue, each after a line without a number, come back whole.
@@ -96,8 +118,15 @@ try_runs_a_listing() {
     is_empty "try: every statement that runs" "$work/err"
     # An error ends a run as END does.
     echo '10 PRINT 1/0' >listing.bas
-    gives 0 "try: an error" ./b2 try listing.bas
+    gives 23 "try: an error" ./b2 try listing.bas
     is_text "try: an error" "$work/out" 'RUN\nERR C62 AT 10\n:'
+    is_text "try: an error" "$work/err" 'try: listing.bas:1: 10 PRINT 1/0: C62 when it ran: a number is divided by zero\n'
+    printf '10 PRINT "A"\n\n20 GOSUB 40\n30 END\n40 READ A\n' >listing.bas
+    gives 23 "try: an error in a line further down" ./b2 try listing.bas
+    has "try: an error in a line further down" "$work/err" 'try: listing.bas:5: 40 READ A: X70 when it ran: `READ` finds no further value'
+    printf '10 X=1/0:ERROR PRINT ERR\n' >listing.bas
+    gives 0 "try: an error that is taken" ./b2 try listing.bas
+    is_empty "try: an error that is taken" "$work/err"
     : >listing.bas
     gives 0 "try: an empty listing" ./b2 try listing.bas
     printf '10 FOR I=1 TO 20000:NEXT I\n20 PRINT I\n' >listing.bas
@@ -151,8 +180,11 @@ try_ends_with_its_status() {
     printf '10 PRINT "A"\n20 PRIMT\n30 PRINT SIN(1)\n' >listing.bas
     gives 22 "try: lines that are not taken" ./b2 try listing.bas
     is_text "try: lines that are not taken" "$work/out" 'RUN\nA\n:'
-    is_text "try: lines that are not taken" "$work/err" \
-        'try: not taken: 20 PRIMT: ERR S12 COL 5\ntry: not taken: 30 PRINT SIN(1): ERR S27 COL 10\n'
+    has "try: lines that are not taken" "$work/err" 'try: listing.bas:2: 20 PRIMT: S12 at column 5: an equals sign is missing; also where a word is misspelled'
+    has "try: lines that are not taken" "$work/err" 'try: listing.bas:3: 30 PRINT SIN(1): S27 at column 10: a word of the real machine that this one leaves out'
+    printf '10 GOSUB 30\n20 END\n30 PRIMT\n' >listing.bas
+    gives 23 "try: a line that is not taken, and an error" ./b2 try listing.bas
+    has "try: a line that is not taken, and an error" "$work/err" 'try: listing.bas:1: 10 GOSUB 30: P36 when it ran: there is no line of this number'
     echo '10 GOTO 10' >listing.bas
     gives 20 "try: an endless loop" ./b2 try --steps 3000 listing.bas
     is_text "try: an endless loop" "$work/out" 'RUN\n'
@@ -160,6 +192,10 @@ try_ends_with_its_status() {
         'try: the steps ran out; --steps N grants more, and a log has at most 5000000\n'
     printf '10 PRINT "A":INPUT B:GOTO 10\n' >listing.bas
     answered 20 "try: too few steps" '1\n2\n3\n4\n5\n' ./b2 try --steps 20 listing.bas
+    echo '10 FOR I=1 TO 2000:NEXT I:PRINT "DONE"' >loop.bas
+    gives 0 "try: all the steps that a log has" ./b2 try --steps 5000000 loop.bas
+    echo '10 GOTO 10' >loop.bas
+    gives 20 "try: an endless loop with all steps" ./b2 try --steps 5000000 loop.bas
     # The line is read, RUN executed, a PRINT executed and the colon shown.
     echo '10 PRINT "A"' >listing.bas
     gives 0 "try: few steps are enough" ./b2 try --steps 20 listing.bas
@@ -185,7 +221,7 @@ try_refuses() {
     done
     printf '10 END\n20 \201\n' >listing.bas
     gives 2 "try: a listing that can't be typed" ./b2 try listing.bas
-    has "try: a listing that can't be typed" "$work/err" 'listing.bas: line 2 has a byte that no key gives'
+    has "try: a listing that can't be typed" "$work/err" 'listing.bas:2: the line has a byte that no key gives'
     gives 0 "try --help" ./b2 try --help
     gives 0 "live --help" ./b2 live --help
     gives 2 "live without a terminal" ./b2 live
@@ -194,6 +230,18 @@ try_refuses() {
     gives 2 "live --disk without a file" ./b2 live --disk
     gives 2 "live --disk with a boot file" ./b2 live --disk my.disk examples/two.toml
     is_text "live --disk with a boot file" "$work/err" 'live: a boot file says itself which disks and printers there are\n'
+    gives 2 "live with a listing" ./b2 live examples/stock.bas
+    has "live with a listing" "$work/err" 'examples/stock.bas is a listing and no boot file; b2 try examples/stock.bas types it and runs it'
+    mkdir -p folder
+    gives 2 "try of a folder" ./b2 try folder
+    has "try of a folder" "$work/err" 'try: folder is no file that can be read'
+    [ ! -e /dev/full ] || gives 7 "try: what it shows can't be put" bash -c './b2 try examples/chart.bas <examples/chart.in >/dev/full'
+    # The folder for the outputs goes, also where a signal ends the command.
+    printf '%s\n' '#!/bin/sh' 'pwd >"$PLACE"' 'kill -TERM $PPID' 'sleep 1' >ending
+    chmod +x ending
+    echo '10 END' >listing.bas
+    gives 143 "try: ended by a signal" env PLACE="$PWD/place" B2_PROGRAM="$PWD/ending" "$top/tools/try" listing.bas
+    if [ -s place ] && [ ! -e "$(cat place)" ]; then ok; else bad "try: ended by a signal" "the folder $(cat place) is left"; fi
 }
 
 # What is kept shows the same again, up to the RUN and from there on.
@@ -228,6 +276,8 @@ vary_finds_what_depends_on_the_order() {
     if [ "$(otherwise_in 'terminal 1')" -gt 25 ]; then ok; else bad "vary: a lost update" "not in most orders: $(cat "$work/out")"; fi
     if [ "$(otherwise_in 'terminal 2')" = 0 ]; then ok; else bad "vary: a lost update" "$(cat "$work/out")"; fi
     has "vary: a lost update" "$work/out" 'vary.log is the first log under which something came out otherwise'
+    if grep -qE '^in order 1 the first line that differs at terminal 1 is line [0-9]+:$' "$work/out" && grep -q '^  the log:   THERE ARE 10 $' "$work/out" &&
+        grep -qE '^  the order: THERE ARE [1-9] $' "$work/out"; then ok; else bad "vary: the line that differs" "$(cat "$work/out")"; fi
     cp vary.log first.log && cp "$work/out" told
     gives 20 "vary: the same orders once more" ./b2 vary examples/orders.toml examples/lost.log 50
     same "vary: the same seed, the same orders" "$work/out" told
@@ -238,8 +288,9 @@ vary_finds_what_depends_on_the_order() {
     gives 0 "vary: what is kept runs" ./b2 run examples/orders.toml vary.log out
     if grep -q '^THERE ARE [1-9] $' out.t01; then ok; else bad "vary: what is kept shows the loss" "$(tail -n 3 out.t01)"; fi
     gives 0 "vary: a disk that is taken" ./b2 vary examples/orders.toml examples/counted.log 50
-    is_text "vary: a disk that is taken" "$work/out" \
-        'terminal 1: otherwise in 0 of 50\nterminal 2: otherwise in 0 of 50\ndisk D11: otherwise in 0 of 50\n'
+    is_text "vary: a disk that is taken" "$work/out" '41 rounds and 0 turns of the log come in another order
+terminal 1: otherwise in 0 of 50\nterminal 2: otherwise in 0 of 50\ndisk D11: otherwise in 0 of 50\n'
+    if [ -e vary.log ]; then bad "vary: an older log" "it is left"; else ok; fi
     gives 20 "vary: a printer" ./b2 vary examples/printers.toml examples/mixed.log 50
     if [ "$(otherwise_in 'printer 215')" -gt 25 ]; then ok; else bad "vary: a printer" "$(cat "$work/out")"; fi
 }
@@ -266,14 +317,52 @@ vary_leaves_alone_what_is_apart() {
             'turn 2 3' 'rounds 2' 'type 1 PRINT SGN(X)' 'type 2 PRINT SGN(X)' 'rounds 2'; do echo "$line"; done
     } >loops.log
     gives 0 "vary: nothing in common" ./b2 vary examples/two.toml loops.log 40
-    is_text "vary: nothing in common" "$work/out" 'terminal 1: otherwise in 0 of 40\nterminal 2: otherwise in 0 of 40\n'
-    gives 0 "vary: one partition" ./b2 vary examples/first.toml examples/count.log 5
+    is_text "vary: nothing in common" "$work/out" '44 rounds and 3 turns of the log come in another order
+terminal 1: otherwise in 0 of 40\nterminal 2: otherwise in 0 of 40\n'
+    gives 2 "vary: one partition" ./b2 vary examples/first.toml examples/count.log 5
+    is_text "vary: one partition" "$work/err" \
+        'vary: nothing of the log can come in another order: no turns or rounds of two partitions stand together in it\n'
+    is_empty "vary: one partition" "$work/out"
     gives 0 "vary: a shared terminal" ./b2 vary examples/front.toml examples/front.log 5
-    printf 'turn 1 1\nturn 2 1\ntype 1 PRINT 1\nturn 1 9\n' >turns.log
-    gives 0 "vary: turns alone" ./b2 vary examples/two.toml turns.log 5
-    is_text "vary: turns alone" "$work/out" 'terminal 1: otherwise in 0 of 5\nterminal 2: otherwise in 0 of 5\n'
-    gives 0 "vary --show: turns alone" ./b2 vary --show 1 examples/two.toml turns.log
-    same "vary: turns alone stay" vary.log turns.log
+    printf 'turn 1 1\ntype 1 PRINT 1\nturn 1 9\ntype 2 PRINT 2\nturn 2 9\n' >turns.log
+    gives 2 "vary: turns that stand alone" ./b2 vary examples/two.toml turns.log 5
+}
+
+# Turns that stand one after another come in another order as rounds do, each partition's in its own order.
+vary_moves_single_turns() {
+    local line count
+    while read -r line; do
+        case $line in
+            rounds*) for ((count = ${line#rounds }; count > 0; count--)); do printf 'turn 1 20\nturn 2 20\n'; done ;;
+            *) printf '%s\n' "$line" ;;
+        esac
+    done <examples/lost.log >turns.log
+    gives 0 "vary: single turns, as they stand" ./b2 run examples/orders.toml turns.log out
+    has "vary: single turns, as they stand" out.t01 'THERE ARE 10'
+    gives 20 "vary: single turns" ./b2 vary examples/orders.toml turns.log 50
+    has "vary: single turns" "$work/out" '0 rounds and 50 turns of the log come in another order'
+    if [ "$(otherwise_in 'terminal 1')" -gt 10 ]; then ok; else bad "vary: single turns" "$(cat "$work/out")"; fi
+    printf '%s\n' 'turn 1 1' 'turn 1 2' 'turn 2 3' 'turn 1 4' 'turn 2 5' 'type 1 10 PRIMT' 'turn 1 4' 'turn 9 9' 'turn 2 6' >own.log
+    gives 0 "vary: turns of one partition" ./b2 vary --show 3 examples/two.toml own.log
+    # Each partition has the steps that it had, before each of the other lines.
+    awk '/^turn/ { steps[$2] += $3; next } { print steps[1], steps[2]; print } END { print steps[1], steps[2] }' own.log >wanted
+    awk '/^turn/ { steps[$2] += $3; next } /^rounds/ { next } { print steps[1], steps[2]; print } END { print steps[1], steps[2] }' vary.log >"$work/got"
+    same "vary: turns of one partition" "$work/got" wanted
+}
+
+# What can't be written, and what ends a run, is told in a line.
+vary_ends_in_a_message() {
+    local place=$PWD
+    mkdir -p closed/vary.log
+    cd closed || return
+    gives 2 "vary: a folder in the place of its log" ../b2 vary ../examples/orders.toml ../examples/lost.log 5
+    has "vary: a folder in the place of its log" "$work/err" "vary: vary.log can't be written here"
+    if grep -q Traceback "$work/err"; then bad "vary: a message" "$(cat "$work/err")"; else ok; fi
+    cd "$place" || return
+    printf '%s\n' 'rounds 2' 'type 1 RUN' 'rounds 9' >rounds.log
+    write_stand_in - 'kill -INT $PPID; sleep 1; cksum'
+    gives 130 "vary: Ctrl-C" env --default-signal=INT B2_PROGRAM="$PWD/stand_in" "$top/tools/vary" examples/two.toml rounds.log 3
+    is_text "vary: Ctrl-C" "$work/err" 'vary: ended by Ctrl-C; nothing is told of the orders that were tried\n'
 }
 
 # A log in which two partitions want one disk, and the second has it just in time.
@@ -288,7 +377,7 @@ vary_gives_more_turns() {
     local turns=4999
     write_tight_log ''
     gives 0 "vary: more turns" ./b2 vary examples/orders.toml tight.log 20
-    is_text "vary: more turns" "$work/out" \
+    is_text "vary: more turns" <(sed 1d "$work/out") \
         'terminal 1: otherwise in 0 of 20\nterminal 2: otherwise in 0 of 20\ndisk D11: otherwise in 0 of 20\n'
     gives 0 "vary: an order that wants eight rounds more" ./b2 vary --show 6 examples/orders.toml tight.log
     has "vary: an order that wants eight rounds more" vary.log 'rounds 8'
@@ -346,7 +435,7 @@ vary_keeps_what_else_happens() {
     } >halts.log
     gives 0 "vary: halts and fronts run" ./b2 run examples/apart.toml halts.log first
     gives 0 "vary: halts and fronts" ./b2 vary examples/apart.toml halts.log 20
-    is_text "vary: halts and fronts" "$work/out" 'terminal 1: otherwise in 0 of 20\nterminal 2: otherwise in 0 of 20\n'
+    is_text "vary: halts and fronts" <(sed 1d "$work/out") 'terminal 1: otherwise in 0 of 20\nterminal 2: otherwise in 0 of 20\n'
     gives 0 "vary: an order with halts and fronts" ./b2 vary --show 2 examples/apart.toml halts.log
     { printf -- '-- terminal 1\n' && cat first.t01 && printf '\n-- terminal 2\n' && cat first.t02 && echo; } >wanted
     same "vary: an order with halts and fronts" "$work/out" wanted
@@ -373,7 +462,7 @@ vary_refuses() {
     gives 0 "vary --help" ./b2 vary --help
     echo 'sing 1' >bad.log
     gives 5 "vary: a bad log" ./b2 vary examples/two.toml bad.log
-    is_text "vary: a bad log" "$work/err" 'vary: bad log 1 2\n'
+    is_text "vary: a bad log" "$work/err" 'vary: bad log 1 2\nvary: bad.log:1: the first word is unknown: sing 1\n'
     printf '%s\n' 'rounds 100000' 'rounds 30000' >long.log
     gives 5 "vary: a log that grants too much" ./b2 vary examples/two.toml long.log
 }
@@ -415,7 +504,7 @@ try_has_devices() {
     same "try --disk --keep leaves the same disk" again.D11 my.disk
     echo x >bad.disk
     gives 6 "try --disk of no image" ./b2 try --disk bad.disk listing.bas
-    is_text "try --disk of no image" "$work/err" 'try: bad image D11 1\n'
+    is_text "try --disk of no image" "$work/err" "try: bad image D11 1\ntry: bad.disk: the length isn't 256 times 16 to 32,512\n"
     is_text "try --disk of no image leaves it" bad.disk 'x\n'
     gives 2 "try --disk of a folder" ./b2 try --disk kept listing.bas
     gives 2 "try --disk in no folder" ./b2 try --disk nofolder/my.disk listing.bas
@@ -424,8 +513,272 @@ try_has_devices() {
     gives 2 "try --keep of a disk in a folder of another form" ./b2 try --disk my.disk --keep 'a b' listing.bas
 }
 
+# Runs try with a program that changes the disk's file before its first run.
+try_while_changing() { # WORD..
+    rm -f is_changed
+    printf '%s\n' '#!/bin/sh' '[ -e "$CHANGING" ] || { : >"$CHANGING"; echo other >"$DISK"; }' \
+        'exec "$PROGRAM" "$@"' >changing
+    chmod +x changing
+    CHANGING=$PWD/is_changed DISK=$PWD/my.disk PROGRAM=$top/crates/b2_mvp/out/b2_mvp B2_PROGRAM=$PWD/changing "$top/tools/try" "$@"
+}
+
+# A user's disk is written where something changed on it, and where nobody else wrote to it meanwhile.
+try_keeps_disks_whole() {
+    rm -f my.disk* report.txt
+    printf '10 DATASAVE DC OPEN T,#1,5,"KEPT":DATASAVE DC #1,7:DATASAVE DC #1,END\n' >saves.bas
+    printf '10 DATALOAD DC OPEN T,#1,"KEPT":DATALOAD DC #1,N:PRINT N\n' >reads.bas
+    printf '10 SCRATCH T,"KEPT"\n' >scratches.bas
+    printf '10 DATASAVE DC OPEN T,5,"MORE"\n' >more.bas
+    ./b2 try --disk my.disk saves.bas >/dev/null
+    chmod 640 my.disk
+    stat -c '%i %Y %a' my.disk >before.stat
+    gives 0 "try --disk: a run that only reads" ./b2 try --disk my.disk reads.bas
+    stat -c '%i %Y %a' my.disk >after.stat
+    same "try --disk: a disk on which nothing changed isn't written" after.stat before.stat
+    gives 0 "try --disk: a run that writes" ./b2 try --disk my.disk scratches.bas
+    stat -c '%u:%g %a' my.disk >after.stat
+    is_text "try --disk: the mode and the owner stay" after.stat "$(id -u):$(id -g) 640\n"
+    if [ "$(id -u)" -eq 0 ]; then
+        chown 1234:1234 my.disk
+        gives 0 "try --disk of another owner" ./b2 try --disk my.disk more.bas
+        stat -c '%u:%g %a' my.disk >after.stat
+        is_text "try --disk of another owner" after.stat '1234:1234 640\n'
+    fi
+    cp my.disk before.disk
+    chmod 444 my.disk
+    gives 2 "try --disk that can't be written" ./b2 try --disk my.disk scratches.bas
+    is_empty "try --disk that can't be written" "$work/out"
+    has "try --disk that can't be written" "$work/err" "my.disk can't be written"
+    chmod 644 my.disk
+    printf '10 DATASAVE DC OPEN T,5,"LEAST"\n' >least.bas
+    same "try --disk that can't be written" my.disk before.disk
+    gives 2 "try --disk that is changed meanwhile" try_while_changing --disk my.disk least.bas
+    has "try --disk that is changed meanwhile" "$work/err" 'my.disk was changed by another command meanwhile and stays so; what was left here is'
+    is_text "try --disk that is changed meanwhile" my.disk 'other\n'
+    if grep -aq LEAST my.disk.lost; then ok; else bad "try --disk that is changed meanwhile" "what was left isn't kept"; fi
+    printf '10 PRINT "RAN"\n' >listing.bas
+    mkdir -p folder
+    gives 2 "try --printer of a folder" ./b2 try --printer folder listing.bas
+    is_empty "try --printer of a folder: nothing is run" "$work/out"
+    has "try --printer of a folder" "$work/err" 'folder is a folder'
+    mkdir -p kept/folder/log
+    gives 2 "try --keep where a folder stands" ./b2 try --keep kept/folder listing.bas
+    is_empty "try --keep where a folder stands: nothing is run" "$work/out"
+}
+
+lint_tells() {
+    local listing
+    cat >lint.bas <<'LISTING'
+10 FOR I=1 TO 3:PRINT "GOTO 999":NEXT I
+20 REM GOTO 888:GOTO 777
+30 IF A=1 THEN 500:GOSUB 600:REM GOSUB 700
+40 ON B GOTO 10,20,45
+50 PRINTUSING 60,A:PRINTUSING 70,B:PRINTUSING 65,C
+60 %GOTO 20 ##:NEXT K
+70 PRINT 1
+80 NEXT J
+80 PRIMT
+90 KEYIN A$,10,95:$OPEN 97,/D11
+RUN
+100 RESTORE LINE 105:IF END THEN 106:ELSE 107
+LISTING
+    gives 22 "lint" ./b2 lint lint.bas
+    sed 's/^lint.bas:\([0-9]*\): .*: /\1: /' "$work/out" >"$work/told"
+    is_text "lint" "$work/told" '3: there is no line 500
+3: there is no line 600
+4: there is no line 45
+5: line 70 is no image
+5: there is no image 65
+8: NEXT J, and no FOR has J
+lint.bas:9: the number 80 stands in line 8 of the file already; this one takes its place
+9: an equals sign is missing; also where a word is misspelled, which is then read as a variable'"'"'s name
+10: there is no line 95
+10: there is no line 97
+11: the line has no number; try executes it at once
+12: there is no line 105
+12: there is no line 106
+12: there is no line 107\n'
+    for listing in examples/*.bas; do
+        gives 0 "lint $listing" ./b2 lint "$listing"
+        is_empty "lint $listing" "$work/out"
+    done
+    for ((line = 1; line <= 50; line++)); do echo "$line REM $(bytes 50)"; done >large.bas
+    gives 22 "lint: too large" ./b2 lint --area 2 large.bas
+    # A line takes its atoms and 5 bytes: REM, a blank or none, and 50 bytes of text, of 2,048.
+    if grep -qE '^large.bas:3[5-8]: A01: the program has no room in its area of 2 KiB from here on$' "$work/out" && [ "$(wc -l <"$work/out")" = 1 ]; then
+        ok
+    else
+        bad "lint: too large" "$(cat "$work/out")"
+    fi
+    gives 0 "lint: large enough" ./b2 lint large.bas
+    for listing in '' 'nofile' 'large.bas large.bas' '--area 1 large.bas' '--area 25 large.bas' '--area'; do
+        # shellcheck disable=SC2086
+        gives 2 "lint $listing" ./b2 lint $listing
+    done
+}
+
+list_gives_a_listing() {
+    gives 0 "list: a log" ./b2 list examples/listing.log
+    cp "$work/out" listed.bas
+    is_text "list: a log" listed.bas '10 A,B=7:REM both\n20 PRINT A*B\n'
+    gives 0 "list: what is listed is tried again" ./b2 try listed.bas
+    is_text "list: what is listed is tried again" "$work/out" 'RUN\n 49 \n:'
+    # What runs is halted, and what is half typed taken back.
+    printf '%s\n' 'turn 1 2' 'type 1 10 INPUT "N",N:GOTO 10' 'turn 1 4' 'type 1 RUN' 'turn 1 9' 'keys 1 12' 'turn 1 1' >asks.log
+    gives 0 "list: a log that ends in an answer" ./b2 list asks.log
+    is_text "list: a log that ends in an answer" "$work/out" '10 INPUT "N",N:GOTO 10\n'
+    printf '%s\n' 'turn 1 2' 'type 1 10 GOTO 10' 'turn 1 4' 'type 1 RUN' 'turn 1 9' >runs.log
+    gives 0 "list: a log that ends in a loop" ./b2 list runs.log
+    is_text "list: a log that ends in a loop" "$work/out" '10 GOTO 10\n'
+    gives 0 "list: a terminal" ./b2 list --boot examples/two.toml examples/clerks.log 2
+    grep '^type 2 [0-9]' examples/clerks.log | sed 's/^type 2 //' | head -n 1 >"$work/first"
+    has "list: a terminal" "$work/out" "$(cut -d' ' -f1 "$work/first")"
+    gives 0 "list: the log of the disk" ./b2 run examples/disk.toml examples/articles.log out
+    cp out.D11 before.disk
+    gives 0 "list: a program of a disk" ./b2 list out.D11 STOCK
+    cp "$work/out" saved.bas
+    gives 0 "list: the program that was saved" ./b2 list --boot examples/disk.toml examples/articles.log
+    same "list: a program of a disk" saved.bas "$work/out"
+    same "list: the disk stays" out.D11 before.disk
+    gives 2 "list: no such program" ./b2 list out.D11 NONE
+    has "list: no such program" "$work/err" 'out.D11: NONE: D82: the disk has no such file'
+    gives 2 "list: a disk and no name" ./b2 list out.D11
+    echo 'turn 1 2' >empty.log
+    gives 0 "list: no program" ./b2 list empty.log
+    is_text "list: no program" "$work/err" 'list: there is no line of a program\n'
+    echo 'sing' >bad.log
+    gives 5 "list: a bad log" ./b2 list bad.log
+    has "list: a bad log" "$work/err" 'bad.log:1: the first word is unknown: sing'
+    for listing in '' 'nofile' 'empty.log 2' 'empty.log x' '--boot' '--boot nofile empty.log' 'a b c'; do
+        # shellcheck disable=SC2086
+        gives 2 "list $listing" ./b2 list $listing
+    done
+}
+
+# What the program says of a file stands there as it is promised, and what it means comes after it.
+numbers_are_explained() {
+    local boot place what
+    sed 's/^quota = 20/colour = 3\n&/' examples/two.toml >bad.toml
+    gives 4 "run: a key that is not known" ./b2 run bad.toml examples/clerks.log out
+    is_text "run: a key that is not known" <(head -n 1 "$work/err") 'bad boot 2\n'
+    place=$(grep -n colour bad.toml | cut -d: -f1)
+    has "run: a key that is not known" "$work/err" "b2: bad.toml:$place: no key is called colour: a key is unknown, missing or of another kind"
+    while read -r place what; do
+        sed "$place" examples/two.toml >bad.toml
+        gives 4 "run: a boot file, $place" ./b2 run bad.toml examples/clerks.log out
+        if grep -qE "^b2: bad.toml:$what" "$work/err"; then ok; else bad "run: a boot file, $place" "$(cat "$work/err")"; fi
+    done <<'BOOTS'
+s/^quota.*/quota/ [0-9]+: the file isn't a TOML document
+s/^quota.*// 1: quota is missing: a key is unknown
+s/^data.*// [0-9]+: data is missing: a key is unknown
+s/^quota.*/quota=1001/ [0-9]+: quota is of another kind or out of its range: a key
+s/^text.*/text=25/ [0-9]+: text = 25: a size is out of its range
+s/^number.*/number=1/ [0-9]+: number = 1: a terminal's number
+s/^front.*/front=9/ [0-9]+: front = 9: the front of a terminal
+BOOTS
+    printf 'turn 1 1\nturn 1 1001\n' >bad.log
+    gives 5 "run: a line of a log" ./b2 run examples/two.toml bad.log out
+    is_text "run: a line of a log" "$work/err" 'bad log 2 4
+b2: bad.log:2: a number is out of its range: a terminal from 1 to 12, a partition from 1 to 16, and the numbers above: turn 1 1001\n'
+    head -c 4096 /dev/zero >out.D11
+    gives 6 "run: an image" ./b2 run examples/kept.toml examples/kept.log next
+    is_text "run: an image" "$work/err" 'bad image D11 2\nb2: out.D11: version, index count, total or the eight 00 differ\n'
+    gives 1 "test with a word" ./b2 test fun
+}
+
+# A checkout of three crates, and a toolchain that only leaves files where the real one does.
+make_small_checkout() { # FOLDER
+    local name
+    mkdir -p "$1/crates" "$1/bin" "$1/docs"
+    cp -r "$top/b2" "$top/tools" "$1"
+    cp "$top/docs/CODES.md" "$top/docs/FORMATS.md" "$1/docs"
+    printf '%s\n' 'b2_base:' 'b2_text: b2_base' 'b2_mvp: b2_text' >"$1/crates.txt"
+    echo 'Handles allowed: none.' >"$1/HANDLES"
+    for name in b2_base b2_text b2_mvp; do mkdir -p "$1/crates/$name/src"; echo "// $name" >"$1/crates/$name/src/lib.rt"; done
+    cat >"$1/bin/rt" <<'RT'
+#!/bin/sh
+case $1 in
+    all) for name in b2_base b2_text; do mkdir -p "crates/$name/out/rlib"; touch "crates/$name/out/rlib/stamp"; echo "proved $name"; sleep 1.2; done ;;
+    run) [ ! -e ../../is_broken ] || { echo 'not proved'; exit 1; }
+        mkdir -p out; printf '#!/bin/sh\necho turns 1 steps 1 dropped 0 apart 1\n' >out/b2_mvp; chmod +x out/b2_mvp ;;
+esac
+RT
+    chmod +x "$1/bin/rt"
+}
+
+building_tells_each_crate() {
+    make_small_checkout small
+    export XDG_CACHE_HOME=$PWD/cache
+    gives 0 "building" env PATH="$PWD/small/bin:$PATH" small/b2 run a b c
+    is_text "building" "$work/out" 'turns 1 steps 1 dropped 0 apart 1\n'
+    is_text "building" <(sed 's/some .* on four processors/.../' "$work/err") 'b2: proving and building the program, 3 crates; from nothing it takes ..., and later what has changed
+b2: crate 1 of 3: b2_base
+b2: crate 2 of 3: b2_text
+b2: crate 3 of 3: b2_mvp is being proved, as the last one\n'
+    gives 0 "building: what is built" env PATH="$PWD/small/bin:$PATH" small/b2 run a b c
+    is_empty "building: what is built" "$work/err"
+    sleep 1
+    echo '// changed' >>small/crates/b2_mvp/src/lib.rt
+    gives 0 "building: what changed" env PATH="$PWD/small/bin:$PATH" small/b2 run a b c
+    has "building: how long it took here" "$work/err" "from nothing it takes 1 minutes on the $(nproc) processors here, and later what has changed"
+    sleep 1
+    echo '// changed' >>small/crates/b2_mvp/src/lib.rt
+    : >small/is_broken
+    gives 127 "building: what isn't proved" env PATH="$PWD/small/bin:$PATH" TMPDIR="$work" small/b2 run a b c
+    has "building: what isn't proved" "$work/err" 'not proved'
+    has "building: what isn't proved" "$work/err" 'b2: the program could not be built'
+    gives 127 "building: no toolchain" env PATH=/usr/bin:/bin small/b2 run a b c
+    has "building: no toolchain" "$work/err" 'the command rt of the Rattle toolchain is not on the PATH'
+    if [ -z "$(find "$work" -maxdepth 1 -name 'tmp.*')" ]; then ok; else bad "building: files" "a file is left"; fi
+    unset XDG_CACHE_HOME
+}
+
+# What is packed runs in an empty folder, where there is no toolchain.
+packing_takes_all_that_is_wanted() {
+    local name
+    mkdir packs
+    gives 0 "pack" ./b2 pack packs
+    name=$(basename "$(cat "$work/out")" .tar.gz)
+    has "pack" "$work/out" "packs/b2_mvp-$(git -C "$top" log -1 --format=%cd-%h --date=format:%Y%m%d 2>/dev/null)"
+    cp "packs/$name.tar.gz" first.tar.gz
+    gives 0 "pack: once more" ./b2 pack packs
+    same "pack: the same files give the same bytes" "packs/$name.tar.gz" first.tar.gz
+    mkdir -p unpacked && tar xzf "packs/$name.tar.gz" -C unpacked
+    mkdir -p bin
+    for tool in sh bash env dirname readlink find head cat sha256sum; do ln -sf "$(command -v "$tool")" bin; done
+    ln -sf "$(python3 -c 'import sys; print(sys.executable)')" bin/python3
+    (cd "unpacked/$name" && PATH=$OLDPWD/bin sha256sum -c --quiet b2_mvp.sha256) && ok || bad "pack: the sum" "another"
+    same "pack: the program" "unpacked/$name/b2_mvp" "$top/crates/b2_mvp/out/b2_mvp"
+    gives 0 "pack: try" env PATH="$PWD/bin" bash -c "cd unpacked/$name && exec ./b2 try examples/stock.bas <examples/stock.in"
+    same "pack: try" "$work/out" examples/stock.out
+    has "pack: try" "$work/err" 'b2: the toolchain is not here, so the program'
+    gives 0 "pack: run" env PATH="$PWD/bin" bash -c "cd unpacked/$name && exec ./b2 run examples/first.toml examples/first.log out"
+    is_text "pack: run" "$work/out" 'turns 5 steps 4 dropped 0 apart 1\n'
+    is_empty "pack: said once" "$work/err"
+    gives 23 "pack: the pages are there" env PATH="$PWD/bin" bash -c "cd unpacked/$name && echo '10 PRINT 1/0' >a.bas && exec ./b2 try a.bas"
+    has "pack: the pages are there" "$work/err" 'a number is divided by zero'
+    for tool in lint list vary type live pack; do
+        gives 0 "pack: $tool" env PATH="$PWD/bin" bash -c "cd unpacked/$name && exec ./b2 $tool --help"
+    done
+    # The commands of the page, with the names that it leaves open.
+    awk '/^```sh/ { block = 1; next } /^```/ { block = 0 } block' "$top/docs/PACKED.md" |
+        sed "s/VERSION/${name#b2_mvp-}/; s#/where/it/was/unpacked#$PWD/packs/$name#; s#crates/b2_mvp#$top/&#" >page.sh
+    gives 0 "pack: the commands of PACKED.md" bash -ec 'cd packs && . ../page.sh'
+    same "pack: the commands of PACKED.md" "$work/out" examples/mortgage.out
+    rm bin/python3
+    gives 0 "pack: run without python3" env PATH="$PWD/bin" bash -c "cd unpacked/$name && exec ./b2 run examples/first.toml examples/first.log out"
+    gives 2 "pack: no folder" ./b2 pack nofolder
+    gives 2 "pack: words" ./b2 pack a b
+}
+
 type_spells_a_log
+building_tells_each_crate
+packing_takes_all_that_is_wanted
+lint_tells
+list_gives_a_listing
+numbers_are_explained
 type_refuses
+type_tells_what_it_understood
 long_lines_are_typed
 run_tells_dropped
 try_runs_a_listing
@@ -435,10 +788,13 @@ try_ends_with_its_status
 try_refuses
 try_keeps
 try_has_devices
+try_keeps_disks_whole
 vary_finds_what_depends_on_the_order
 vary_shows_an_order
 vary_leaves_alone_what_is_apart
 vary_gives_more_turns
+vary_moves_single_turns
+vary_ends_in_a_message
 vary_reports_a_fault_of_the_machine
 vary_asks_little
 vary_keeps_what_else_happens
