@@ -71,14 +71,14 @@ has "other sources are proved, and rt is wanted" "$work/err" "there is no progra
 if [ -n "$kept_cache" ]; then export XDG_CACHE_HOME=$kept_cache; else unset XDG_CACHE_HOME; fi
 
 # The same program and sources give the same release.
-mkdir "$work/first"
-cp "$top"/release/* "$work/first"
+mkdir "$work/kept_release"
+cp "$top"/release/* "$work/kept_release"
 mkdir -p "$clone/crates/b2_mvp/out"
 cp "$top/crates/b2_mvp/out/b2_mvp" "$clone/crates/b2_mvp/out"
 cp "$top/crates/b2_base/src/lib.rt" "$clone/crates/b2_base/src/lib.rt"
 gives 0 "a release is made" "$clone/tools/release"
-same "the same program gives the same bytes" "$clone/release/b2_mvp.xz" "$work/first/b2_mvp.xz"
-same "and the same manifest" "$clone/release/RELEASE" "$work/first/RELEASE"
+same "the same program gives the same bytes" "$clone/release/b2_mvp.xz" "$work/kept_release/b2_mvp.xz"
+same "and the same manifest" "$clone/release/RELEASE" "$work/kept_release/RELEASE"
 gives 0 "the release is that of the gate" "$top/tools/release" check
 printf 'X' >>"$clone/crates/b2_mvp/out/b2_mvp"
 gives 1 "a program of other bytes isn't" "$clone/tools/release" check
