@@ -85,6 +85,13 @@ long_lines_are_typed() {
     done
 }
 
+# A write past the size that files may have fails with its status, and leaves nothing beside the file.
+run_meets_a_limit_of_files() {
+    gives 7 "run under a limit of files' sizes" bash -c 'ulimit -f 1; ./b2 run examples/disk.toml examples/articles.log limited'
+    has "run names the file that is too long" "$work/err" "write fault limited.D11"
+    if [ -e limited.D11 ] || [ -e limited.D11~ ]; then bad "run under a limit" "a part of the file is left"; else ok; fi
+}
+
 run_tells_dropped() {
     printf 'type 1 %s\ntype 1 %s\nrounds 1\n' "$(bytes 100)" "$(bytes 100)" >full.log
     gives 0 "run: a full queue" ./b2 run examples/first.toml full.log out
@@ -781,6 +788,7 @@ type_refuses
 type_tells_what_it_understood
 long_lines_are_typed
 run_tells_dropped
+run_meets_a_limit_of_files
 try_runs_a_listing
 try_answers
 try_gives_special_keys
