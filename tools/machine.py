@@ -281,6 +281,8 @@ class Lock:
         except OSError:
             raise Refused(f"the process {holder or 'of another session'} has {name.removesuffix('.lock')}; "
                           "--log FILE begins another session") from None
+        if not os.path.exists(name) or os.stat(name).st_ino != os.fstat(self.file).st_ino:
+            raise Refused(f"another session at {name.removesuffix('.lock')} ended just now; try once more")
         if holder:
             self.stale = holder
         os.ftruncate(self.file, 0)

@@ -164,6 +164,23 @@ devices() {
     is_text "$session: the disk stays" my.disk 'other\n'
     ./b2 run s.log.toml s.log again >/dev/null
     same "$session: what the session left" my.disk.lost again.D11
+    session="a session that only looks at its disk"
+    rm -f s.log* my.disk
+    printf '%s\n' '10 DATASAVE DC OPEN T,5,"KEPT"' >saves.bas
+    ./b2 try --disk my.disk saves.bas >/dev/null
+    stat -c '%i %y' my.disk >before.stat
+    begin_session --disk my.disk
+    see READY && see : && send 'LIST DC T\r' && see KEPT && see '\n:'
+    send '\004'
+    end_session 0
+    stat -c '%i %y' my.disk >after.stat
+    same "$session: it isn't written" after.stat before.stat
+    session="a session whose disk can't be written"
+    rm -f s.log*
+    chmod 444 my.disk
+    begin_session --disk my.disk
+    see "my.disk can't be written"
+    end_session 2
     session="a session without a printer"
     rm -f s.log*
     begin_session
