@@ -393,11 +393,6 @@ numbers_and_status() {
     rows=24
 }
 
-# A text of N bytes.
-bytes() { # N
-    printf "%${1}s" '' | tr ' ' x
-}
-
 if command -v script >/dev/null 2>&1; then
     one_terminal
     two_terminals
