@@ -223,6 +223,13 @@ limits() {
     end_session 20
     replays
     if [ "$(grep -c "steps are used up: programs" seen)" = 1 ]; then ok; else bad "$session" "not told once"; fi
+    session="a session near the log's limit of bytes"
+    yes "# $(bytes 97)" | head -c 4094400 >s.log
+    begin_session
+    see READY && see : && send '10 GOTO 10\rRUN\r' && see "the log's bytes are used up" && send 'LIST\r' && see '\n10 GOTO 10' && see '\n:'
+    send '\004'
+    end_session 20
+    replays
     session="a log that is refused"
     echo 'turn' >s.log
     begin_session
@@ -247,6 +254,14 @@ boots() {
     end_session 2
     same "$session: its boot file stays" s.log.toml first.toml
     same "$session: its log stays" s.log first.log
+    session="a session whose boot file is refused"
+    sed 's/^quota/colour = 3\n&/' examples/first.toml >bad.toml
+    mkdir -p kept && mv s.log* kept
+    begin_session bad.toml
+    see 'live: bad boot 2' && see "live: bad.toml:$(grep -n colour bad.toml | cut -d: -f1): no key is called colour"
+    end_session 4
+    if [ -n "$(ls s.log* 2>/dev/null)" ]; then bad "$session" "$(ls s.log*) is left"; else ok; fi
+    mv kept/* .
     session="a session that goes on with its boot file"
     begin_session examples/first.toml
     see 'goes on with s.log (8 keys, ' && see ' 5 '
