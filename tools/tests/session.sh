@@ -394,7 +394,8 @@ numbers_and_status() {
     rm -f s.log*
     rows=30
     begin_session
-    see READY && see : && see '\033[30;1H\033[7m terminal 1   partition 1   READY' && send '10 GOTO 10\rRUN\r' && see '\033[30;1H\033[7m terminal 1   partition 1   RUN ' &&
+    see READY && see : && see '\033[30;1H\033[7m terminal 1   partition 1   READY' && send 'PRINT (1\r' && see 'ERR S11 COL 9' &&
+        see '\033[30;1H\033[7m terminal 1   partition 1   READY   S11: a closing parenthesis is missing ' && send '10 GOTO 10\rRUN\r' && see '\033[30;1H\033[7m terminal 1   partition 1   RUN ' &&
         send "$(bytes 300)" && see 'partition 1   RUN   172 keys dropped' && send '\003' && see 'partition 1   READY   172 keys dropped'
     send '\004' && see '\033[r'
     end_session 0
