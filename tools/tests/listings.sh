@@ -248,7 +248,7 @@ packing_takes_all_that_is_wanted() {
     same "pack: the program" "unpacked/$name/b2_mvp" "$top/crates/b2_mvp/out/b2_mvp"
     gives 0 "pack: try" env PATH="$PWD/bin" bash -c "cd unpacked/$name && exec ./b2 try examples/stock.bas <examples/stock.in"
     same "pack: try" "$work/out" examples/stock.out
-    has "pack: try" "$work/err" 'b2: the toolchain is not here, so the program'
+    has "pack: try" "$work/err" 'b2: nothing can be proved and built here, so the program'
     gives 0 "pack: run" env PATH="$PWD/bin" bash -c "cd unpacked/$name && exec ./b2 run examples/first.toml examples/first.log out"
     is_text "pack: run" "$work/out" 'turns 5 steps 4 dropped 0 apart 1\n'
     is_empty "pack: said once" "$work/err"
@@ -264,6 +264,8 @@ packing_takes_all_that_is_wanted() {
     same "pack: the commands of PACKED.md" "$work/out" examples/mortgage.out
     rm bin/python3
     gives 0 "pack: run without python3" env PATH="$PWD/bin" bash -c "cd unpacked/$name && exec ./b2 run examples/first.toml examples/first.log out"
+    gives 2 "pack: test" "unpacked/$name/b2" test
+    has "pack: test" "$work/err" 'what proves and tests is not packed'
     gives 2 "pack: no folder" ./b2 pack nofolder
     gives 2 "pack: words" ./b2 pack a b
 }
