@@ -160,7 +160,9 @@ class Machine:
     def run(self, log):
         """Runs a log from the boot file of the folder."""
         words = [self.program, "run", "boot", "/dev/stdin", "out"]
-        done = subprocess.run(words, cwd=self.folder, input=log, stdout=subprocess.PIPE, stderr=subprocess.STDOUT, check=False)
+        # What Python leaves ignored stays so, so that a write past a limit on files is a status and no signal.
+        done = subprocess.run(words, cwd=self.folder, input=log, stdout=subprocess.PIPE, stderr=subprocess.STDOUT, check=False,
+                              restore_signals=False)
         if done.returncode != 0:
             raise Stopped(done.stdout.decode("latin-1").strip() or "the program was ended", done.returncode % 256)
         return Run(done.stdout)

@@ -175,6 +175,9 @@ try_refuses() {
     gives 2 "try of a folder" ./b2 try folder
     has "try of a folder" "$work/err" 'try: folder is no file that can be read'
     [ ! -e /dev/full ] || gives 7 "try: what it shows can't be put" bash -c './b2 try examples/chart.bas <examples/chart.in >/dev/full'
+    printf '10 FOR I=1 TO 400:PRINT "A LINE OF THIRTY BYTES OR SO, ALL":NEXT I\n' >long.bas
+    gives 7 "try: a limit on the size of files" bash -c 'ulimit -f 4; ./b2 try long.bas'
+    is_text "try: a limit on the size of files" "$work/err" 'try: write fault out.t01\n'
     # The folder for the outputs goes, also where a signal ends the command.
     printf '%s\n' '#!/bin/sh' 'pwd >"$PLACE"' 'kill -TERM $PPID' 'sleep 1' >ending
     chmod +x ending
