@@ -51,7 +51,7 @@ examples_under_other_orders() {
 
 # Whether a command is one for the tests of sessions, or these tests themselves.
 is_tried_elsewhere() { # COMMAND
-    [[ $1 == './b2 live'* || $1 == *live.log* || $1 == './b2 test' ]]
+    [[ $1 == './b2 live'* || $1 == *live.log* || $1 == './b2 test' || $1 == './b2 prove' ]]
 }
 
 # Runs one command of a page. What it says may come before or after what it puts.
