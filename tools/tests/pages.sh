@@ -139,3 +139,4 @@ examples_under_other_orders
 counted "names in pages" pages.py
 counted "forms that sessions execute" forms.py
 gives 0 "ARCHITECTURE.md has the picture of crates.txt" "$top/tools/picture" --check
+gives 0 "LAWS.md is made of the laws of the crates" "$top/tools/laws" --check
