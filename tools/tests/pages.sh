@@ -130,7 +130,7 @@ consoles_run docs/USING.md
 consoles_run README.md
 consoles_run examples/README.md
 consoles_run docs/PORTING.md
-for page in README.md docs/USING.md docs/CODES.md docs/PORTING.md examples/README.md; do commands_in_text_run "$page"; done
+for page in README.md CONTRIBUTING.md docs/USING.md docs/CODES.md docs/PORTING.md examples/README.md; do commands_in_text_run "$page"; done
 codes_are_shown
 gives 0 "PORTING.md has the table of tools/habits.py" "$top/tools/habits.py" --check
 gives 0 "PORTING.md: its tables" "$top/tools/tests/porting.py" "$top/crates/b2_mvp/out/b2_mvp" "$work"
