@@ -26,19 +26,19 @@ class Habit:
 
 HABITS = [Habit(*row) for row in [
     # Numbers
-    ("X=RND(1)", "S27", r"^RND\(", "draw numbers by a rule of your own, as below", "S=1:S=MOD(S*30103,99999989):X=S/99999989"),
-    ("X=SIN(1)", "S27", r"^(SIN|COS|TAN)\(", "a series as FNS and FNC below; the tangent is FNS(X)/FNC(X)",
+    ("X=RND(1)", "S27", r"^RND\(", "draw numbers by a rule of your own", "S=1:S=MOD(S*30103,99999989):X=S/99999989"),
+    ("X=SIN(1)", "S27", r"^(SIN|COS|TAN)\(", "a series: FNS and FNC of examples/functions.bas; the tangent is FNS(X)/FNC(X)",
      "DEFFNS(X)=X*(1-X^2/6*(1-X^2/20*(1-X^2/42))) / PRINT FNS(.5)"),
-    ("X=ARCTAN(1)", "S27", r"^ARC(SIN|COS|TAN)\(", "a series as FNT below; ARCSIN(X) is FNT(X/SQR(1-X^2))",
+    ("X=ARCTAN(1)", "S27", r"^ARC(SIN|COS|TAN)\(", "a series: FNT of examples/functions.bas; ARCSIN(X) is FNT(X/SQR(1-X^2))",
      "DEFFNH(X)=X/(1+SQR(1+X^2)) / PRINT FNH(1)"),
-    ("X=EXP(1)", "S27", r"^EXP\(", "a series as FNE below", "DEFFNE(X)=(1+X/64*(1+X/128*(1+X/192)))^64 / PRINT FNE(1)"),
-    ("X=LOG(2)", "S27", r"^LOG\(", "a series as FNL below", "DEFFNZ(X)=(X-1)/(X+1) / PRINT FNZ(2)"),
+    ("X=EXP(1)", "S27", r"^EXP\(", "a series: FNE of examples/functions.bas", "DEFFNE(X)=(1+X/64*(1+X/128*(1+X/192)))^64 / PRINT FNE(1)"),
+    ("X=LOG(2)", "S27", r"^LOG\(", "a series: FNL of examples/functions.bas", "DEFFNZ(X)=(X-1)/(X+1) / PRINT FNZ(2)"),
     ("X=#PI", "S27", r"^#PI", "the number itself, 3.14159265359", "X=3.14159265359"),
     ("X=2^(-3)", "C65", r"\^ *\(? *-", "1 over the power: 1/2^3", "X=1/2^3"),
     ("X=1/1.01^360", "C65", r"\^", "a power of a power, since exponents go to 255: 1/(1.01^12)^30", "X=1/(1.01^12)^30"),
     ("PRINT 2**3", "S17", r"^\*", "2^3", "PRINT 2^3"),
     ("A=B=0", "S25", r"^= *", "several receivers stand before one sign: A,B=0", "A,B=0"),
-    ("X=ATN(1)", "S25", r"\b(ATN|ASC|INSTR)\b", "the words of other BASICs are not read: ARCTAN is a series below, ASC(A$) is VAL(A$), INSTR is POS(",
+    ("X=ATN(1)", "S25", r"\b(ATN|ASC|INSTR)\b", "the words of other BASICs are not read: ARCTAN is a series, ASC(A$) is VAL(A$), INSTR is POS(",
      'A$="B":X=VAL(A$):Y=POS(A$="B")'),
     # Strings
     ('A$=""', "S18", r'^""', 'a blank, for which unset and blank strings stand: A$=" ", and IF A$=" "', 'A$=" " / IF A$=" " THEN 30 / END'),

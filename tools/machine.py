@@ -93,6 +93,8 @@ class Boot:
     def spelled(self, images):
         """The boot file once more, with these names of images by their addresses."""
         lines = [f"quota = {self.quota}"]
+        # A key that isn't known stays one.
+        lines += [f"{key} = 0" for key in self.table if key not in ("quota", "terminal", "partition", "platter", "printer")]
         for kind in ("terminal", "partition", "platter", "printer"):
             for row in self.table.get(kind, []):
                 row = dict(row)
@@ -120,7 +122,7 @@ def granted_by(log, a_round):
 def toml_value(value):
     if isinstance(value, str):
         return '"' + re.sub(r'["\\\x00-\x1f\x7f]', lambda found: f"\\u{ord(found[0]):04X}", value) + '"'
-    return str(value)
+    return str(value).lower() if isinstance(value, bool) else str(value)
 
 
 def own_boot(quota, disk, printer, area=24):
@@ -281,6 +283,8 @@ class Lock:
         except OSError:
             raise Refused(f"the process {holder or 'of another session'} has {name.removesuffix('.lock')}; "
                           "--log FILE begins another session") from None
+        if not os.path.exists(name) or os.stat(name).st_ino != os.fstat(self.file).st_ino:
+            raise Refused(f"another session at {name.removesuffix('.lock')} ended just now; try once more")
         if holder:
             self.stale = holder
         os.ftruncate(self.file, 0)
@@ -294,7 +298,10 @@ class Lock:
 def run_command(name, command):
     """Runs a command, and ends with its status or with a message."""
     sys.stderr.reconfigure(encoding="utf-8", errors="backslashreplace")
+    sys.stdin = sys.stdin or open(os.devnull, encoding="ascii")
     try:
+        if sys.stdout is None:
+            raise Refused("standard output is closed", 7)
         status = command(sys.argv[1:])
         sys.stdout.flush()
     except BrokenPipeError:

@@ -132,6 +132,8 @@ consoles_run examples/README.md
 consoles_run docs/PORTING.md
 for page in README.md CONTRIBUTING.md docs/USING.md docs/CODES.md docs/PORTING.md examples/README.md; do commands_in_text_run "$page"; done
 codes_are_shown
+gives 0 "LANGUAGE.md: its examples" "$top/tools/tests/language.py" "$top/crates/b2_mvp/out/b2_mvp" "$work/pages"
+is_empty "LANGUAGE.md: its examples" "$work/out"
 gives 0 "PORTING.md has the table of tools/habits.py" "$top/tools/habits.py" --check
 gives 0 "PORTING.md: its tables" "$top/tools/tests/porting.py" "$top/crates/b2_mvp/out/b2_mvp" "$work"
 is_empty "PORTING.md: its tables" "$work/out"

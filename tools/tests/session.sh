@@ -164,6 +164,23 @@ devices() {
     is_text "$session: the disk stays" my.disk 'other\n'
     ./b2 run s.log.toml s.log again >/dev/null
     same "$session: what the session left" my.disk.lost again.D11
+    session="a session that only looks at its disk"
+    rm -f s.log* my.disk
+    printf '%s\n' '10 DATASAVE DC OPEN T,5,"KEPT"' >saves.bas
+    ./b2 try --disk my.disk saves.bas >/dev/null
+    stat -c '%i %y' my.disk >before.stat
+    begin_session --disk my.disk
+    see READY && see : && send 'LIST DC T\r' && see KEPT && see '\n:'
+    send '\004'
+    end_session 0
+    stat -c '%i %y' my.disk >after.stat
+    same "$session: it isn't written" after.stat before.stat
+    session="a session whose disk can't be written"
+    rm -f s.log*
+    chmod 444 my.disk
+    begin_session --disk my.disk
+    see "my.disk can't be written"
+    end_session 2
     session="a session without a printer"
     rm -f s.log*
     begin_session
@@ -206,6 +223,13 @@ limits() {
     end_session 20
     replays
     if [ "$(grep -c "steps are used up: programs" seen)" = 1 ]; then ok; else bad "$session" "not told once"; fi
+    session="a session near the log's limit of bytes"
+    yes "# $(bytes 97)" | head -c 4094400 >s.log
+    begin_session
+    see READY && see : && send '10 GOTO 10\rRUN\r' && see "the log's bytes are used up" && send 'LIST\r' && see '\n10 GOTO 10' && see '\n:'
+    send '\004'
+    end_session 20
+    replays
     session="a log that is refused"
     echo 'turn' >s.log
     begin_session
@@ -230,6 +254,14 @@ boots() {
     end_session 2
     same "$session: its boot file stays" s.log.toml first.toml
     same "$session: its log stays" s.log first.log
+    session="a session whose boot file is refused"
+    sed 's/^quota/colour = 3\n&/' examples/first.toml >bad.toml
+    mkdir -p kept && mv s.log* kept
+    begin_session bad.toml
+    see 'live: bad boot 2' && see "live: bad.toml:$(grep -n colour bad.toml | cut -d: -f1): no key is called colour"
+    end_session 4
+    if [ -n "$(ls s.log* 2>/dev/null)" ]; then bad "$session" "$(ls s.log*) is left"; else ok; fi
+    mv kept/* .
     session="a session that goes on with its boot file"
     begin_session examples/first.toml
     see 'goes on with s.log (8 keys, ' && see ' 5 '
@@ -362,7 +394,8 @@ numbers_and_status() {
     rm -f s.log*
     rows=30
     begin_session
-    see READY && see : && see '\033[30;1H\033[7m terminal 1   partition 1   READY' && send '10 GOTO 10\rRUN\r' && see '\033[30;1H\033[7m terminal 1   partition 1   RUN ' &&
+    see READY && see : && see '\033[30;1H\033[7m terminal 1   partition 1   READY' && send 'PRINT (1\r' && see 'ERR S11 COL 9' &&
+        see '\033[30;1H\033[7m terminal 1   partition 1   READY   S11: a closing parenthesis is missing ' && send '10 GOTO 10\rRUN\r' && see '\033[30;1H\033[7m terminal 1   partition 1   RUN ' &&
         send "$(bytes 300)" && see 'partition 1   RUN   172 keys dropped' && send '\003' && see 'partition 1   READY   172 keys dropped'
     send '\004' && see '\033[r'
     end_session 0
@@ -374,11 +407,6 @@ numbers_and_status() {
     end_session 0
     if grep -q 'partition 1   ' seen; then bad "$session" "a row is shown"; else ok; fi
     rows=24
-}
-
-# A text of N bytes.
-bytes() { # N
-    printf "%${1}s" '' | tr ' ' x
 }
 
 if command -v script >/dev/null 2>&1; then

@@ -48,3 +48,5 @@ pub mod EnteredFamilies
 pub mod InsideTexts
 pub mod InsideWorlds
 pub mod SoundRuns
+pub mod NoneSaved
+pub mod SavedRecords

@@ -18,3 +18,4 @@ pub mod Files
 pub mod OpenFiles
 pub mod Clean
 pub mod Sound
+pub mod Saving

@@ -11,6 +11,7 @@ ghost use Rattle.b2_sched.specs.Inside.{AreInsideAsEntered, StepsEnterAsSaid, Te
 ghost use Rattle.b2_sched.specs.Laws.{RunsByActions, LeavesOthers, KeepsPresent, RoundsAscend, CountsTurns, NoPlaceIsKept, RunsKeepToTheirGrant, TurnsCountAllButOne};
 ghost use Rattle.b2_sched.specs.Marking.{TurnsMarkTheirSteps};
 ghost use Rattle.b2_sched.specs.OpenFiles.{OpenFilesAreListed};
+ghost use Rattle.b2_sched.specs.Saving.{StepsSaveRecords, StepsSaveStorable};
 ghost use Rattle.b2_sched.specs.Sound.{RunsStaySound};
 ghost use Rattle.b2_sched.specs.Start.{CanStart};
 
@@ -130,6 +131,13 @@ pub fn law_a_file_outlasts_turns()
 /// So it does on a disk that a partition holds, whatever others ask for.
 pub fn law_files_on_a_held_disk_stay()
     ensures { HeldFilesStay }
+{}
+
+/// Where variables hold numbers as the machine has them, each value that a step asks to be saved is such as a record may hold; and the
+/// record that it saves follows the records up to its place.
+pub fn law_steps_save_records()
+    ensures storable { StepsSaveStorable }
+    ensures follow { StepsSaveRecords }
 {}
 
 /// A device that a partition holds is held by it still, has the same image, and printed the same, after whatever others did.

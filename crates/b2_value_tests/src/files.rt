@@ -1,5 +1,7 @@
 // Files of the file system and standard output. No row can hold what is outside: the program itself makes these calls, and
 // the file `stdout` holds what each gives.
+ghost use Rattle.std.specs.Prelude.{◌<◌, ◌^◌};
+
 use crate::outside::{name_of_fetch, name_of_keep};
 use b2_base::{FileShelf, HostFiles, OutSink, Shelf, Sink};
 use std::{fs, io};
@@ -26,7 +28,9 @@ fn keep(rt: &HostRuntime, name: &str, bytes: &[u8]) -> io::Result<()> {
 }
 
 /// Fetches a file, and says how it went and how many bytes there are; gives them.
-fn fetch(rt: &HostRuntime, name: &str, limit: u32) -> io::Result<Vec<u8>> {
+fn fetch(rt: &HostRuntime, name: &str, limit: u32) -> io::Result<Vec<u8>>
+    requires limit { limit < 2 ^ 31 }
+{
     let mut shelf = FileShelf::new(HostFiles::new(rt));
     let mut into = Vec::new(rt.alloc());
     let fetched = shelf.fetch(name.as_bytes(), limit as usize, &mut into);
