@@ -51,7 +51,7 @@ examples_under_other_orders() {
 
 # Whether a command is one for the tests of sessions, or these tests themselves.
 is_tried_elsewhere() { # COMMAND
-    [[ $1 == './b2 live'* || $1 == *live.log* || $1 == './b2 test' ]]
+    [[ $1 == './b2 live'* || $1 == *live.log* || $1 == './b2 test' || $1 == './b2 prove' ]]
 }
 
 # Runs one command of a page. What it says may come before or after what it puts.
@@ -130,7 +130,7 @@ consoles_run docs/USING.md
 consoles_run README.md
 consoles_run examples/README.md
 consoles_run docs/PORTING.md
-for page in README.md docs/USING.md docs/CODES.md docs/PORTING.md examples/README.md; do commands_in_text_run "$page"; done
+for page in README.md CONTRIBUTING.md docs/USING.md docs/CODES.md docs/PORTING.md examples/README.md; do commands_in_text_run "$page"; done
 codes_are_shown
 gives 0 "LANGUAGE.md: its examples" "$top/tools/tests/language.py" "$top/crates/b2_mvp/out/b2_mvp" "$work/pages"
 is_empty "LANGUAGE.md: its examples" "$work/out"
@@ -141,3 +141,4 @@ examples_under_other_orders
 counted "names in pages" pages.py
 counted "forms that sessions execute" forms.py
 gives 0 "ARCHITECTURE.md has the picture of crates.txt" "$top/tools/picture" --check
+gives 0 "LAWS.md is made of the laws of the crates" "$top/tools/laws" --check
