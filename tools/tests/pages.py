@@ -160,6 +160,17 @@ def lists_are_whole():
     yield [f'CONTRIBUTING.md: {name} has {named.count(name)} rows among the scripts' for name in sorted(there) if named.count(name) != 1]
 
 
+def commands_are_run():
+    """Each page with blocks of commands is one that the tests run."""
+    tests = ''.join(path.read_text() for path in sorted((TOP / 'tools/tests').glob('*.sh')))
+    for page in pages():
+        for block, run in (('console', r'consoles_run (\S+)$'), ('sh', r'(\S+\.md)\b')):
+            if re.search(rf'^```{block}$', page.read_text(), re.M):
+                name = str(page.relative_to(TOP))
+                tried = {word.replace('$top/', '').strip('"') for word in re.findall(run, tests, re.M)}
+                yield [] if name in tried else [f'{name}: nothing runs its blocks for {block}']
+
+
 def sentences(text):
     """The sentences of a page, without what only lays them out."""
     for line in without_blocks(text).split('\n'):
@@ -182,7 +193,8 @@ def sentences_stand_once():
 
 def main():
     passed, failed = 0, []
-    for test in (names_are_there, files_of_crates_are_there, pages_are_short, lists_are_whole, sentences_stand_once):
+    for test in (names_are_there, files_of_crates_are_there, pages_are_short, lists_are_whole, commands_are_run,
+                 sentences_stand_once):
         for told in test():
             passed += not told
             failed += [f'FAILED {what}' for what in told]
