@@ -17,6 +17,8 @@ OPEN = TOP / 'docs/OPEN.md'
 LAW = re.compile(r'\blaw_\w+')
 CRATE = re.compile(r'\bb2_[a-z_]+[a-z]\b')
 FILE = re.compile(r'`(b2_\w+)/((?:src|specs|proofs)/[\w/.]+\.(?:rt|antt))`')
+# A file of the crate that a page or a section of docs/crates is about.
+FILE_HERE = re.compile(r'`((?:src|specs|proofs)/[\w/+]+(?:\.rt|\.antt)?)`')
 # A file or a folder of the repository beside its crates.
 PLACE = re.compile(r'`((?:tools|tests|examples|docs)/[\w./-]+)`')
 # Codes of errors; one of class D is told from the address of a disk by its first digit.
@@ -104,6 +106,19 @@ def names_are_there():
         yield told
 
 
+def files_of_crates_are_there():
+    """For each page of docs/crates which of the files of its crate, or of that of a section, aren't there."""
+    for page in sorted((TOP / 'docs/crates').glob('*.md')):
+        told, crate = [], page.stem
+        for number, line in enumerate(page.read_text().split('\n'), 1):
+            section = re.match(r'## (b2_\w+)', line)
+            crate = section[1] if section else crate
+            folder = TOP / 'crates' / crate
+            told += [f'{page.relative_to(TOP)}, line {number}: no file {path} in {crate}' for path in FILE_HERE.findall(line)
+                     if folder.is_dir() and not (folder / path).exists() and not list(folder.glob(path + '.*'))]
+        yield told
+
+
 def beside_tables(text):
     """How many words stand beside the tables and the blocks of a page."""
     return sum(len(line.split()) for line in without_blocks(text).split('\n') if not line.startswith('|'))
@@ -145,6 +160,17 @@ def lists_are_whole():
     yield [f'CONTRIBUTING.md: {name} has {named.count(name)} rows among the scripts' for name in sorted(there) if named.count(name) != 1]
 
 
+def commands_are_run():
+    """Each page with blocks of commands is one that the tests run."""
+    tests = ''.join(path.read_text() for path in sorted((TOP / 'tools/tests').glob('*.sh')))
+    for page in pages():
+        for block, run in (('console', r'consoles_run (\S+)$'), ('sh', r'(\S+\.md)\b')):
+            if re.search(rf'^```{block}$', page.read_text(), re.M):
+                name = str(page.relative_to(TOP))
+                tried = {word.replace('$top/', '').strip('"') for word in re.findall(run, tests, re.M)}
+                yield [] if name in tried else [f'{name}: nothing runs its blocks for {block}']
+
+
 def sentences(text):
     """The sentences of a page, without what only lays them out."""
     for line in without_blocks(text).split('\n'):
@@ -167,7 +193,8 @@ def sentences_stand_once():
 
 def main():
     passed, failed = 0, []
-    for test in (names_are_there, pages_are_short, lists_are_whole, sentences_stand_once):
+    for test in (names_are_there, files_of_crates_are_there, pages_are_short, lists_are_whole, commands_are_run,
+                 sentences_stand_once):
         for told in test():
             passed += not told
             failed += [f'FAILED {what}' for what in told]
