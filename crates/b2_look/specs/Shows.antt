@@ -1,7 +1,6 @@
 -- What is shown of a file, and when each status comes.
-use Rattle.std.specs.Prelude.{◌≡◌, ℕ, List, ◌++◌}
-use Rattle.b2_base.specs.Counts.{Rose}
-use Rattle.b2_base.specs.Files.{Files, IsFetched}
+use Rattle.std.specs.Prelude.{◌≡◌, ℕ, List}
+use Rattle.b2_base.specs.Files.{IsFetched}
 use Rattle.b2_base.specs.Seen.{ShelfSeen, SinkSeen}
 use Rattle.b2_raw.specs.Report.{report_of}
 use Rattle.b2_screen.specs.Shown.{screen_after}
