@@ -24,7 +24,7 @@ class Case:
     is_full: bool = False                           # whether nothing can be put
     status: int = 0
     said: bytes = b''                               # the line for the status
-    put: bytes = None                               # the summary, or how it ends
+    put: bytes = None                               # what is put, or how it ends
     put_is_end: bool = False
     wanted: dict = field(default_factory=dict)      # what outputs are to have, by name
     parts: list = field(default_factory=list)       # an output, a place and the bytes that are to stand there
@@ -158,8 +158,9 @@ def given(case, name, text):
 
 
 def read_put(case, text):
+    """A line that is put, after those that came before."""
     case.put_is_end = text.startswith('..')
-    case.put = shown(text.removeprefix('..'))
+    case.put = (case.put or b'') + shown(text.removeprefix('..'))
 
 
 def read_status(case, text):
@@ -189,6 +190,8 @@ def read_word(case, word, text):
             case.words = [shown(word + '\\-') for word in shlex.split(text)]
         case 'status':
             read_status(case, text)
+        case 'empty':
+            case.put = (case.put or b'') + b'\n' * int(text)
         case 'kept':
             case.kept = words
         case 'image':

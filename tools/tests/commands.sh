@@ -1,4 +1,4 @@
-# The commands try, vary, run and alone, on good and bad input.
+# The commands try, vary, run, alone, screen and check, on good and bad input.
 
 # Lines about the size of the queue, each after a line without a number, come back whole.
 long_lines_are_typed() {
@@ -508,7 +508,27 @@ try_keeps_disks_whole() {
     is_empty "try --keep where a folder stands: nothing is run" "$work/out"
 }
 
+# What is put is handed on as it is, with the empty lines at its end.
+screen_and_check_hand_on() {
+    printf 'READY\n:' >shot
+    gives 0 "screen: a transcript" ./b2 screen shot
+    is_text "screen: a transcript" "$work/out" 'READY\n:\n\n\n\n\n\n\n\n\n\n\n\n\n\n\n\n\n\n\n\n\n\n\n'
+    is_empty "screen: a transcript" "$work/err"
+    gives 0 "check: no image" ./b2 check shot
+    is_text "check: no image" "$work/out" 'bad 1\n'
+    gives 2 "screen: a file that isn't there" ./b2 screen nofile
+    is_text "screen: a file that isn't there" "$work/err" 'missing nofile\n'
+    gives 3 "check: a folder" ./b2 check .
+    gives 1 "screen: no word" ./b2 screen
+    is_empty "screen: no word" "$work/out"
+    has "screen: no word" "$work/err" './b2 screen out.t01'
+    gives 1 "check: two words" ./b2 check shot shot
+    has "check: two words" "$work/err" './b2 check out.D11'
+    [ ! -e /dev/full ] || gives 7 "screen: lines that can't be put" bash -c './b2 screen shot >/dev/full'
+}
+
 long_lines_are_typed
+screen_and_check_hand_on
 run_tells_dropped
 run_meets_a_limit_of_files
 try_runs_a_listing

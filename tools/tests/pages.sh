@@ -60,9 +60,10 @@ try_command() { # PAGE COMMAND WANTED
     (exit "$last")
     eval "$2" >"$work/out" 2>"$work/err" </dev/null
     last=$?
-    out=$(sed 's/ *$//' "$work/out")
-    err=$(sed 's/ *$//' "$work/err")
-    out=${out:+$out$'\n'} err=${err:+$err$'\n'}
+    # The dot keeps empty lines at the end.
+    out=$(awk '{ sub(/ *$/, ""); print } END { print "." }' "$work/out")
+    err=$(awk '{ sub(/ *$/, ""); print } END { print "." }' "$work/err")
+    out=${out%.} err=${err%.}
     if [ "$out$err" = "$3" ] || [ "$err$out" = "$3" ]; then
         ok
     else

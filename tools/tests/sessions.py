@@ -18,6 +18,7 @@ from cases import all_cases, runs_of, sessions_of  # noqa: E402
 
 # What stands after OUT. in the names of outputs: terminals, printers and platters.
 OUTPUT = re.compile('t[0-9]{2}|p?[0-9A-F]{3}')
+IMAGE = re.compile('[0-9A-F]{3}')
 
 # Seconds after which a run has failed.
 PATIENCE = 60
@@ -27,8 +28,8 @@ WRONG_SESSION = ('= A session\n:PRINT 2\n 3 \\\n', "out.t01, line 3: ' 2 ' and n
 WRONG_RUNS = [
     ('boot one\n= A run\n! rounds 1\nt01|READY\nt01|\\-\n', "out.t01, line 2: ':' and not ''"),
     ('boot one\n= A run\n! rounds 1\n> turns 1 steps 2 dropped 0 apart 1\n',
-     "the summary, line 1: 'turns 1 steps 1 dropped 0 apart 1' and not 'turns 1 steps 2 dropped 0 apart 1'"),
-    ('boot one\n= A run\n! rounds 1\n> .. apart -\n', "the summary, line 1: ' apart 1' and not ' apart -'"),
+     "what is put, line 1: 'turns 1 steps 1 dropped 0 apart 1' and not 'turns 1 steps 2 dropped 0 apart 1'"),
+    ('boot one\n= A run\n! rounds 1\n> .. apart -\n', "what is put, line 1: ' apart 1' and not ' apart -'"),
     ('boot one\n= A run\n! jump 1\nstatus 5 bad log 1 3\n', "the line, line 1: 'bad log 1 2' and not 'bad log 1 3'"),
     ('boot one\n= A run\n! jump 1\nstatus 4 bad log 1 2\n', 'status 5 and not 4: bad log 1 2'),
     ('boot one\n= A run\nt02|\\-\n', 'no out.t02'),
@@ -97,9 +98,9 @@ def tell_status(case, status, put, said):
         return [f'status {status} and not {case.status}: {said.decode("latin-1").strip()}']
     told = compare('the line', said, case.said)
     if status != 0:
-        return told + compare('the summary', put, b'')
+        return told + compare('what is put', put, b'')
     if case.put is not None:
-        told += compare('the summary', put[-len(case.put):] if case.put_is_end else put, case.put)
+        told += compare('what is put', put[-len(case.put):] if case.put_is_end else put, case.put)
     return told
 
 
@@ -137,6 +138,17 @@ def tell_outputs(case, folder):
     return told
 
 
+def tell_images(program, folder, front):
+    """What is to be told of the images that a run wrote: each is good."""
+    told = []
+    for path in folder.glob(front + '*') if front else []:
+        if path.is_file() and IMAGE.fullmatch(path.name[len(front):]):
+            status, put, said = start(program, ['check', path.name], folder)
+            if status != 0 or not put.startswith(b'good\n'):
+                told.append(f'check {path.name}: status {status}: {(put + said).decode("latin-1").strip()}')
+    return told
+
+
 def tell_alone(program, case, folder):
     """What is to be told of runs with a group alone: they show the same, and more than a prompt."""
     told = []
@@ -165,7 +177,7 @@ def tell(program, case):
         told = tell_status(case, status, put, said)
         if not told:
             told = tell_outputs(case, folder) + tell_names(case, folder, front) + tell_others(folder, case.files, front)
-        return told or tell_alone(program, case, folder)
+        return told or tell_images(program, folder, front) or tell_alone(program, case, folder)
 
 
 def check_itself(program):

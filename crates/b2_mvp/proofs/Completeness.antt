@@ -14,14 +14,19 @@ use Rattle.b2_boot.specs.declared.log.Event.{Event}
 use Rattle.b2_platter.specs.Checks.{first_check}
 use Rattle.b2_platter.specs.declared.layout.Layout.TheVariants.{Narrow}
 use Rattle.b2_sched.specs.Start.{Images}
-use Rattle.b2_mvp.specs.Inputs.{boot_limit, log_limit, image_limit, HasBoot, HasSource, HaveImages, FailsImage, IsLonger}
-use Rattle.b2_mvp.specs.Top.{command_of, Input, HasInputs, Runs, name_of, limit_of, IsReached, Comes}
+use Rattle.b2_mvp.specs.Inputs.{boot_limit, log_limit, image_limit, HasBoot, HasSource, HaveImages, FailsImage}
+use Rattle.b2_mvp.specs.Top.{command_of, Input, HasInputs, Runs, name_of, limit_of, IsReached, RunComes, ComesBy, Comes}
 use Rattle.b2_mvp.specs.Top.Input.{TheBoot, TheLog, TheImage}
-use Rattle.b2_mvp.specs.Complete.{Expected, expected, by_command, by_boot_file, by_boot, by_log_file, by_log, by_images, by_platters, by_platter, by_source, by_image_file, by_check, one_more, Answers, IsComplete}
-use Rattle.b2_mvp.specs.Complete.Expected.{IsMissing, IsLong, FailsImageCheck}
-use Rattle.b2_mvp.specs.declared.status.Status.{Status}
-use Rattle.b2_mvp.specs.declared.status.Status.TheVariants as status
+use Rattle.b2_mvp.specs.Complete.{Expected, expected, by_command, by_boot_file, by_boot, by_log_file, by_log, by_images, by_platters, by_platter, by_source, by_image_file, by_check, by_view, one_more, Answers, IsComplete}
+use Rattle.b2_mvp.specs.Complete.Expected.{IsMissing, IsLong, FailsImageCheck, Puts}
+use Rattle.b2_look.specs.Shows.{file_limit, shown, Shows}
+use Rattle.b2_look.specs.declared.shows.View.{View}
+use Rattle.b2_status.specs.Fetches.{IsLonger}
+use Rattle.b2_status.specs.declared.status.Status.{Status}
+use Rattle.b2_status.specs.declared.status.Status.TheVariants as status
 use Rattle.b2_mvp.specs.declared.top.Command.{Command}
+use Rattle.b2_mvp.specs.declared.top.Command.TheVariants as command
+use Rattle.b2_mvp.specs.declared.top.Job.{Job}
 
 -- a file within its limit, and one above it
 within_limit : (A : Type 0) (size limit : ℕ) (x y : A) → size ≤ limit → (if nat_le size limit then x else y) ≡ x
@@ -31,26 +36,26 @@ above_limit : (A : Type 0) (size limit : ℕ) (x y : A) → limit < size → (if
 above_limit A size limit x y h = let e : nat_le size limit ≡ false = grind (arith, nat_tests) in ap (λ (b : Bool). if b then x else y) e
 
 -- what is expected of a boot file that is there, and of a log
-by_boot_within : (m : Files) (c : Command) (bytes : List ℕ) → length bytes ≤ boot_limit → by_boot_file m c (Some bytes) ≡ by_boot m c (boot_of bytes)
+by_boot_within : (m : Files) (c : Job) (bytes : List ℕ) → length bytes ≤ boot_limit → by_boot_file m c (Some bytes) ≡ by_boot m c (boot_of bytes)
 by_boot_within m c bytes h = within_limit Expected (length bytes) boot_limit _ _ h
 
-by_log_within : (m : Files) (c : Command) (boot : BootState) (bytes : List ℕ) → length bytes ≤ log_limit → by_log_file m c boot (Some bytes) ≡ by_log m c boot (log_of boot bytes)
+by_log_within : (m : Files) (c : Job) (boot : BootState) (bytes : List ℕ) → length bytes ≤ log_limit → by_log_file m c boot (Some bytes) ≡ by_log m c boot (log_of boot bytes)
 by_log_within m c boot bytes h = within_limit Expected (length bytes) log_limit _ _ h
 
 -- where the words are a command, and the boot file says this
-expected_boot : (words : List (List ℕ)) (m : Files) (c : Command) (bytes : List ℕ) (r : Result BootState ℕ) → command_of words ≡ Some c
+expected_boot : (words : List (List ℕ)) (m : Files) (c : Job) (bytes : List ℕ) (r : Result BootState ℕ) → command_of words ≡ Some (command.Run c)
     → IsFetched (Some m) c.boot boot_limit bytes → boot_of bytes ≡ r → expected words m ≡ by_boot m c r
 expected_boot words m c bytes r is h says =
     ap (by_command m) is ∙ ap (by_boot_file m c) h.told ∙ by_boot_within m c bytes h.within ∙ ap (by_boot m c) says
 
 -- and the log says this
-expected_log : (words : List (List ℕ)) (m : Files) (c : Command) (boot : BootState) (bytes : List ℕ) (r : LogRead) → command_of words ≡ Some c
+expected_log : (words : List (List ℕ)) (m : Files) (c : Job) (boot : BootState) (bytes : List ℕ) (r : LogRead) → command_of words ≡ Some (command.Run c)
     → HasBoot c.boot (Some m) boot → IsFetched (Some m) c.log log_limit bytes → log_of boot bytes ≡ r → expected words m ≡ by_log m c boot r
 expected_log words m c boot bytes r is has h says =
     expected_boot words m c has.bytes (Ok boot) is has.fetched has.passes ∙ ap (by_log_file m c boot) h.told ∙ by_log_within m c boot bytes h.within ∙ ap (by_log m c boot) says
 
 -- and both pass
-expected_events : (words : List (List ℕ)) (m : Files) (c : Command) (inputs : HasInputs c (Some m)) → command_of words ≡ Some c
+expected_events : (words : List (List ℕ)) (m : Files) (c : Job) (inputs : HasInputs c (Some m)) → command_of words ≡ Some (command.Run c)
     → expected words m ≡ by_images c inputs.boot inputs.events (by_platters m inputs.boot.platters)
 expected_events words m c inputs is = expected_log words m c inputs.boot inputs.has_log.bytes (Events inputs.events) is inputs.has_boot inputs.has_log.fetched inputs.has_log.passes
 
@@ -84,12 +89,12 @@ prepend_refused [] e = refl
 prepend_refused (image ∷ images) e = ap (one_more (Ok image)) (prepend_refused images e)
 
 -- an input that is reached, by the file of its name
-abbrev by_input : (m : Files) (c : Command) (input : Input) → IsReached c (Some m) input → Option (List ℕ) → Expected
+abbrev by_input : (m : Files) (c : Job) (input : Input) → IsReached c (Some m) input → Option (List ℕ) → Expected
 by_input m c TheBoot r file = by_boot_file m c file
 by_input m c TheLog r file = by_log_file m c r.0 file
 by_input m c (TheImage p name) r file = by_images c r.0.boot r.0.events (prepend r.1.images (one_more (by_image_file p.address name file) (by_platters m r.1.after)))
 
-expected_input : (words : List (List ℕ)) (m : Files) (c : Command) (input : Input) (r : IsReached c (Some m) input) → command_of words ≡ Some c
+expected_input : (words : List (List ℕ)) (m : Files) (c : Job) (input : Input) (r : IsReached c (Some m) input) → command_of words ≡ Some (command.Run c)
     → expected words m ≡ by_input m c input r (get m (name_of c input))
 expected_input words m c TheBoot r is = ap (by_command m) is
 expected_input words m c TheLog r is = expected_boot words m c r.1.bytes (Ok r.0) is r.1.fetched r.1.passes
@@ -99,12 +104,12 @@ expected_input words m c (TheImage p name) r is =
     (ap (by_platters m) r.1.in_order ∙ images_then m r.1.before r.1.images p r.1.after r.1.have_images
     ∙ ap (λ source. prepend r.1.images (one_more (by_source m p.address source p.blank) (by_platters m r.1.after))) r.1.named)
 
-missing_input : (m : Files) (c : Command) (input : Input) (r : IsReached c (Some m) input) → by_input m c input r None ≡ IsMissing (name_of c input)
+missing_input : (m : Files) (c : Job) (input : Input) (r : IsReached c (Some m) input) → by_input m c input r None ≡ IsMissing (name_of c input)
 missing_input m c TheBoot r = refl
 missing_input m c TheLog r = refl
 missing_input m c (TheImage p name) r = ap (by_images c r.0.boot r.0.events) (prepend_refused r.1.images (IsMissing name))
 
-long_input : (m : Files) (c : Command) (input : Input) (r : IsReached c (Some m) input) (file : Option (List ℕ)) → IsSomeAnd file (λ f. limit_of input < length f)
+long_input : (m : Files) (c : Job) (input : Input) (r : IsReached c (Some m) input) (file : Option (List ℕ)) → IsSomeAnd file (λ f. limit_of input < length f)
     → by_input m c input r file ≡ IsLong (name_of c input) (limit_of input)
 long_input m c TheBoot r None h = absurd h
 long_input m c TheBoot r (Some bytes) h = above_limit Expected (length bytes) boot_limit _ _ h
@@ -117,7 +122,7 @@ long_input m c (TheImage p name) r (Some bytes) h =
     ∙ ap (by_images c r.0.boot r.0.events) (prepend_refused r.1.images (IsLong name image_limit))
 
 -- an image that isn't good
-expected_bad : (words : List (List ℕ)) (m : Files) (c : Command) (inputs : HasInputs c (Some m)) (address : List ℕ) (check : ℕ) → command_of words ≡ Some c
+expected_bad : (words : List (List ℕ)) (m : Files) (c : Job) (inputs : HasInputs c (Some m)) (address : List ℕ) (check : ℕ) → command_of words ≡ Some (command.Run c)
     → FailsImage inputs.boot.platters (Some m) address check → expected words m ≡ FailsImageCheck address check
 expected_bad words m c inputs address check is h =
     let r : IsReached c (Some m) (TheImage h.platter h.name) = (inputs, h.next) in
@@ -130,9 +135,9 @@ expected_bad words m c inputs address check is h =
     ∙ ap (λ (a : List ℕ). FailsImageCheck a check) h.is_at
 
 -- a run to its end
-expected_run : (words : List (List ℕ)) (m : Files) (r : Runs words (Some m)) → expected words m ≡ by_images r.command r.inputs.boot r.inputs.events (Ok r.images)
+expected_run : (words : List (List ℕ)) (m : Files) (r : Runs words (Some m)) → expected words m ≡ by_images r.job r.inputs.boot r.inputs.events (Ok r.images)
 expected_run words m r =
-    expected_events words m r.command r.inputs r.is_command ∙ ap (by_images r.command r.inputs.boot r.inputs.events) (images_there m r.inputs.boot.platters r.images r.have_images)
+    expected_events words m r.job r.inputs r.is_command ∙ ap (by_images r.job r.inputs.boot r.inputs.events) (images_there m r.inputs.boot.platters r.images r.have_images)
 
 -- where memory fails, a command is answered
 abbrev IsFine : {A : Type 0} → Result A Expected → Type 0
@@ -165,91 +170,128 @@ platters_fine : (m : Files) (ps : List BootPlatter) → IsFine (by_platters m ps
 platters_fine m [] = tt
 platters_fine m (p ∷ ps) = more_fine (by_platter m p) (by_platters m ps) (source_fine m p.address p.image p.blank) (platters_fine m ps)
 
-images_answered : (c : Command) (boot : BootState) (events : List Event) (r : Result Images Expected) → IsFine r → Answers (by_images c boot events r) status.NoMemory
+images_answered : (c : Job) (boot : BootState) (events : List Event) (r : Result Images Expected) → IsFine r → Answers (by_images c boot events r) status.NoMemory
 images_answered c boot events (Ok images) h = inr (inl refl)
 images_answered c boot events (Err e) h = h
 
-log_answered : (m : Files) (c : Command) (boot : BootState) (b : Bool) (r : LogRead) → Answers (if b then by_log m c boot r else IsLong c.log log_limit) status.NoMemory
+log_answered : (m : Files) (c : Job) (boot : BootState) (b : Bool) (r : LogRead) → Answers (if b then by_log m c boot r else IsLong c.log log_limit) status.NoMemory
 log_answered m c boot true (Events events) = images_answered c boot events (by_platters m boot.platters) (platters_fine m boot.platters)
 log_answered m c boot true (Refused line check) = inr refl
 log_answered m c boot false r = inr refl
 
-log_file_answered : (m : Files) (c : Command) (boot : BootState) (file : Option (List ℕ)) → Answers (by_log_file m c boot file) status.NoMemory
+log_file_answered : (m : Files) (c : Job) (boot : BootState) (file : Option (List ℕ)) → Answers (by_log_file m c boot file) status.NoMemory
 log_file_answered m c boot None = inr refl
 log_file_answered m c boot (Some bytes) = log_answered m c boot (nat_le (length bytes) log_limit) (log_of boot bytes)
 
-boot_answered : (m : Files) (c : Command) (b : Bool) (r : Result BootState ℕ) → Answers (if b then by_boot m c r else IsLong c.boot boot_limit) status.NoMemory
+boot_answered : (m : Files) (c : Job) (b : Bool) (r : Result BootState ℕ) → Answers (if b then by_boot m c r else IsLong c.boot boot_limit) status.NoMemory
 boot_answered m c true (Ok boot) = log_file_answered m c boot (get m c.log)
 boot_answered m c true (Err check) = inr refl
 boot_answered m c false r = inr refl
 
-boot_file_answered : (m : Files) (c : Command) (file : Option (List ℕ)) → Answers (by_boot_file m c file) status.NoMemory
+boot_file_answered : (m : Files) (c : Job) (file : Option (List ℕ)) → Answers (by_boot_file m c file) status.NoMemory
 boot_file_answered m c None = inr refl
 boot_file_answered m c (Some bytes) = boot_answered m c (nat_le (length bytes) boot_limit) (boot_of bytes)
 
--- each status is the expected one
+-- each status of a run is the expected one
 complete : (words : List (List ℕ)) (m : Files) (old new : ShelfSeen) (before after : SinkSeen) (s : Status) → old.files ≡ Some m
-    → Comes words old new before after s → (Rose old.faults new.faults → ⊥) → (Rose before.faults after.faults → ⊥) → Answers (expected words m) s
+    → RunComes words old new before after s → (Rose old.faults new.faults → ⊥) → (Rose before.faults after.faults → ⊥) → Answers (expected words m) s
 complete words m old new before after status.Ok told h shelf_well sink_well =
     subst (λ e. Answers e status.Ok) (sym (expected_run words m (subst (Runs words) told h.run))) (inl refl)
-complete words m old new before after status.Usage told h shelf_well sink_well = subst (λ e. Answers e status.Usage) (sym (ap (by_command m) h.0)) refl
+complete words m old new before after status.Usage told h shelf_well sink_well = absurd h
 complete words m old new before after (status.Missing name) told h shelf_well sink_well =
     let f = h.refuses in
-    let r : IsReached h.command (Some m) f.input = subst (λ files. IsReached h.command files f.input) told f.reached in
+    let r : IsReached h.job (Some m) f.input = subst (λ files. IsReached h.job files f.input) told f.reached in
     let absent : get m name ≡ None = subst (λ files. IsAbsent files name) told f.fails.2 in
     subst (λ e. Answers e (status.Missing name))
-    (sym (expected_input words m h.command f.input r h.is_command ∙ ap (by_input m h.command f.input r) (ap (get m) (sym f.fails.0) ∙ absent) ∙ missing_input m h.command f.input r))
+    (sym (expected_input words m h.job f.input r h.is_command ∙ ap (by_input m h.job f.input r) (ap (get m) (sym f.fails.0) ∙ absent) ∙ missing_input m h.job f.input r))
     (inl (ap status.Missing f.fails.0))
 complete words m old new before after (status.ReadFault name) told h shelf_well sink_well = absurd (shelf_well h.refuses.fails.1)
 complete words m old new before after (status.TooLong name limit) told h shelf_well sink_well =
     let f = h.refuses in
-    let r : IsReached h.command (Some m) f.input = subst (λ files. IsReached h.command files f.input) told f.reached in
+    let r : IsReached h.job (Some m) f.input = subst (λ files. IsReached h.job files f.input) told f.reached in
     let long : IsSomeAnd (get m name) (λ file. limit < length file) = subst (λ files. IsLonger files name limit) told f.fails.3 in
-    let there : IsSomeAnd (get m (name_of h.command f.input)) (λ file. limit_of f.input < length file) =
+    let there : IsSomeAnd (get m (name_of h.job f.input)) (λ file. limit_of f.input < length file) =
     subst (λ (n : List ℕ). IsSomeAnd (get m n) (λ file. limit_of f.input < length file)) f.fails.0 (subst (λ (l : ℕ). IsSomeAnd (get m name) (λ file. l < length file)) f.fails.1 long) in
     subst (λ e. Answers e (status.TooLong name limit))
-    (sym (expected_input words m h.command f.input r h.is_command ∙ long_input m h.command f.input r _ there))
+    (sym (expected_input words m h.job f.input r h.is_command ∙ long_input m h.job f.input r _ there))
     (inl (λ i. status.TooLong (f.fails.0 i) (f.fails.1 i)))
 complete words m old new before after (status.BadBoot check) told h shelf_well sink_well =
     let b = h.refuses in
     subst (λ e. Answers e (status.BadBoot check))
-    (sym (expected_boot words m h.command b.bytes (Err check) h.is_command (subst (λ f. IsFetched f h.command.boot boot_limit b.bytes) told b.fetched) b.fails)) (inl refl)
+    (sym (expected_boot words m h.job b.bytes (Err check) h.is_command (subst (λ f. IsFetched f h.job.boot boot_limit b.bytes) told b.fetched) b.fails)) (inl refl)
 complete words m old new before after (status.BadLog line check) told h shelf_well sink_well =
     let l = h.refuses in
     subst (λ e. Answers e (status.BadLog line check))
-    (sym (expected_log words m h.command l.0 l.2.bytes (Refused line check) h.is_command (subst (λ f. HasBoot h.command.boot f l.0) told l.1)
-    (subst (λ f. IsFetched f h.command.log log_limit l.2.bytes) told l.2.fetched) l.2.fails)) (inl refl)
+    (sym (expected_log words m h.job l.0 l.2.bytes (Refused line check) h.is_command (subst (λ f. HasBoot h.job.boot f l.0) told l.1)
+    (subst (λ f. IsFetched f h.job.log log_limit l.2.bytes) told l.2.fetched) l.2.fails)) (inl refl)
 complete words m old new before after (status.BadImage address check) told h shelf_well sink_well =
-    let r = subst (λ files. (inputs : HasInputs h.command files) × FailsImage inputs.boot.platters files address check) told h.refuses in
-    subst (λ e. Answers e (status.BadImage address check)) (sym (expected_bad words m h.command r.0 address check h.is_command r.1)) (inl refl)
+    let r = subst (λ files. (inputs : HasInputs h.job files) × FailsImage inputs.boot.platters files address check) told h.refuses in
+    subst (λ e. Answers e (status.BadImage address check)) (sym (expected_bad words m h.job r.0 address check h.is_command r.1)) (inl refl)
 complete words m old new before after (status.WriteFault name) told h shelf_well sink_well =
     elim (h.left) as (λ _. Answers (expected words m) (status.WriteFault name)) [
       | inl a ↦ absurd (shelf_well a.1)
       | inr b ↦ absurd (sink_well b.1)
     ]
 complete words m old new before after status.NoMemory told h shelf_well sink_well =
-    subst (λ e. Answers e status.NoMemory) (sym (ap (by_command m) h.is_command)) (boot_file_answered m h.command (get m h.command.boot))
+    subst (λ e. Answers e status.NoMemory) (sym (ap (by_command m) h.is_command)) (boot_file_answered m h.job (get m h.job.boot))
 complete words m old new before after (status.KeepNoMemory name) told h shelf_well sink_well =
     subst (λ e. Answers e (status.KeepNoMemory name)) (sym (expected_run words m (subst (Runs words) told h.run))) (inr (inr (name, refl)))
+
+-- what is expected of a view of a file that is there, and where memory fails
+view_within : (v : View) (name : List ℕ) (m : Files) (bytes : List ℕ) → IsFetched (Some m) name file_limit bytes → by_view v name (get m name) ≡ Puts (shown v bytes)
+view_within v name m bytes h = ap (by_view v name) h.told ∙ within_limit Expected (length bytes) file_limit _ _ h.within
+
+limited_answered : (v : View) (name bytes : List ℕ) (b : Bool) → Answers (if b then Puts (shown v bytes) else IsLong name file_limit) status.NoMemory
+limited_answered v name bytes true = inr (inl refl)
+limited_answered v name bytes false = inr refl
+
+view_answered : (v : View) (name : List ℕ) (file : Option (List ℕ)) → Answers (by_view v name file) status.NoMemory
+view_answered v name None = inr refl
+view_answered v name (Some bytes) = limited_answered v name bytes (nat_le (length bytes) file_limit)
+
+view_long : (v : View) (name : List ℕ) (file : Option (List ℕ)) → IsSomeAnd file (λ f. file_limit < length f) → by_view v name file ≡ IsLong name file_limit
+view_long v name None h = absurd h
+view_long v name (Some bytes) h = above_limit Expected (length bytes) file_limit _ _ h
+
+-- each status of a view is the expected one
+view_complete : (v : View) (name : List ℕ) (m : Files) (old new : ShelfSeen) (before after : SinkSeen) (s : Status) → old.files ≡ Some m
+    → Shows v name old new before after s → (Rose old.faults new.faults → ⊥) → (Rose before.faults after.faults → ⊥) → Answers (by_view v name (get m name)) s
+view_complete v name m old new before after status.Ok told h shelf_well sink_well =
+    subst (λ e. Answers e status.Ok) (sym (view_within v name m h.bytes (subst (λ f. IsFetched f name file_limit h.bytes) told h.fetched))) (inl refl)
+view_complete v name m old new before after status.Usage told h shelf_well sink_well = absurd h
+view_complete v name m old new before after (status.Missing at) told h shelf_well sink_well =
+    let absent : get m at ≡ None = subst (λ files. IsAbsent files at) told h.fails.2 in
+    subst (λ e. Answers e (status.Missing at)) (sym (ap (by_view v name) (ap (get m) (sym h.fails.0) ∙ absent))) (inl (ap status.Missing h.fails.0))
+view_complete v name m old new before after (status.ReadFault at) told h shelf_well sink_well = absurd (shelf_well h.fails.1)
+view_complete v name m old new before after (status.TooLong at limit) told h shelf_well sink_well =
+    let long : IsSomeAnd (get m at) (λ file. limit < length file) = subst (λ files. IsLonger files at limit) told h.fails.3 in
+    let there : IsSomeAnd (get m name) (λ file. file_limit < length file) =
+    subst (λ (n : List ℕ). IsSomeAnd (get m n) (λ file. file_limit < length file)) h.fails.0 (subst (λ (l : ℕ). IsSomeAnd (get m at) (λ file. l < length file)) h.fails.1 long) in
+    subst (λ e. Answers e (status.TooLong at limit)) (sym (view_long v name (get m name) there)) (inl (λ i. status.TooLong (h.fails.0 i) (h.fails.1 i)))
+view_complete v name m old new before after (status.BadBoot check) told h shelf_well sink_well = absurd h
+view_complete v name m old new before after (status.BadLog line check) told h shelf_well sink_well = absurd h
+view_complete v name m old new before after (status.BadImage address check) told h shelf_well sink_well = absurd h
+view_complete v name m old new before after (status.WriteFault at) told h shelf_well sink_well = absurd (sink_well h.ends.1)
+view_complete v name m old new before after status.NoMemory told h shelf_well sink_well = view_answered v name (get m name)
+view_complete v name m old new before after (status.KeepNoMemory at) told h shelf_well sink_well =
+    subst (λ e. Answers e (status.KeepNoMemory at)) (sym (view_within v name m h.bytes (subst (λ f. IsFetched f name file_limit h.bytes) told h.fetched))) (inr (inr (at, refl)))
+
+-- so is each of a command
+complete_by : (words : List (List ℕ)) (said : Option Command) (m : Files) (old new : ShelfSeen) (before after : SinkSeen) (s : Status) → command_of words ≡ said → old.files ≡ Some m
+    → ComesBy said words old new before after s → (Rose old.faults new.faults → ⊥) → (Rose before.faults after.faults → ⊥) → Answers (by_command m said) s
+complete_by words None m old new before after s is told h shelf_well sink_well = h.0
+complete_by words (Some (command.Run job)) m old new before after s is told h shelf_well sink_well =
+    subst (λ said. Answers (by_command m said) s) is (complete words m old new before after s told h shelf_well sink_well)
+complete_by words (Some (command.Show v name)) m old new before after s is told h shelf_well sink_well = view_complete v name m old new before after s told h shelf_well sink_well
 
 is_complete : (words : List (List ℕ)) (old new : ShelfSeen) (before after : SinkSeen) (s : Status) (files : Option Files) → old.files ≡ files
     → Comes words old new before after s → IfSome files (λ m. (Rose old.faults new.faults → ⊥) → (Rose before.faults after.faults → ⊥) → Answers (expected words m) s)
 is_complete words old new before after s None told h = tt
-is_complete words old new before after s (Some m) told h = complete words m old new before after s told h
+is_complete words old new before after s (Some m) told h = complete_by words (command_of words) m old new before after s refl told h
 
 pub completeness : (words : List (List ℕ)) (old new : ShelfSeen) (before after : SinkSeen) (s : Status) → Comes words old new before after s → IsComplete words old new before after s
 completeness words old new before after s h = is_complete words old new before after s old.files refl h
 
--- no words, no other status
+-- words that are no command
 pub only_usage : (words : List (List ℕ)) (old new : ShelfSeen) (before after : SinkSeen) (s : Status) → Comes words old new before after s → command_of words ≡ None → s ≡ status.Usage
-only_usage words old new before after status.Ok h none = absurd (let is = h.run.is_command in cc)
-only_usage words old new before after status.Usage h none = refl
-only_usage words old new before after (status.Missing name) h none = absurd (let is = h.is_command in cc)
-only_usage words old new before after (status.ReadFault name) h none = absurd (let is = h.is_command in cc)
-only_usage words old new before after (status.TooLong name limit) h none = absurd (let is = h.is_command in cc)
-only_usage words old new before after (status.BadBoot check) h none = absurd (let is = h.is_command in cc)
-only_usage words old new before after (status.BadLog line check) h none = absurd (let is = h.is_command in cc)
-only_usage words old new before after (status.BadImage address check) h none = absurd (let is = h.is_command in cc)
-only_usage words old new before after (status.WriteFault name) h none = absurd (let is = h.run.is_command in cc)
-only_usage words old new before after status.NoMemory h none = absurd (let is = h.is_command in cc)
-only_usage words old new before after (status.KeepNoMemory name) h none = absurd (let is = h.run.is_command in cc)
+only_usage words old new before after s h none = (subst (λ said. ComesBy said words old new before after s) none h).0

@@ -10,8 +10,8 @@ use Rattle.b2_boot.specs.declared.boot.BootPlatter.{BootPlatter}
 use Rattle.b2_sched.specs.Start.{Images}
 use Rattle.b2_mvp.specs.Inputs.{image_limit, HasImage, HaveImages, FailsChecks, CannotOpen, CannotReadFrom, CannotRead, CannotReadAll}
 use Rattle.b2_mvp.proofs.Tops.{later_fetch}
-use Rattle.b2_mvp.specs.declared.status.Status.{Status}
-use Rattle.b2_mvp.specs.declared.status.Status.TheVariants as status
+use Rattle.b2_status.specs.declared.status.Status.{Status}
+use Rattle.b2_status.specs.declared.status.Status.TheVariants as status
 
 -- those that are left after one more
 pub left_good : (ps : List BootPlatter) (i : ℕ) (p : BootPlatter) → i < length ps → list_all is_platter (drop i ps) ≡ true → list_all is_platter (drop (i + 1) ps) ≡ true

@@ -6,8 +6,8 @@ use Rattle.b2_base.specs.Seen.{ShelfSeen}
 use Rattle.b2_access.specs.declared.objects.Object.TheVariants as object
 use Rattle.b2_access.specs.Store.{StoreState, content}
 use Rattle.b2_mvp.specs.Outputs.{Output, kept_at, transcript, transcripts_to, with_files, FailsKeep, CannotKeep}
-use Rattle.b2_mvp.specs.declared.status.Status.{Status}
-use Rattle.b2_mvp.specs.declared.status.Status.TheVariants as status
+use Rattle.b2_status.specs.declared.status.Status.{Status}
+use Rattle.b2_status.specs.declared.status.Status.TheVariants as status
 
 -- a count that rose later rose from before
 pub rose_later : (old mid new : ℕ) → old ≤ mid → Rose mid new → Rose old new

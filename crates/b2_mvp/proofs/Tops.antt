@@ -7,13 +7,16 @@ use Rattle.b2_base.specs.Seen.{ShelfSeen, SinkSeen, Later}
 use Rattle.b2_boot.specs.Boots.{BootState}
 use Rattle.b2_boot.specs.declared.boot.BootPlatter.{BootPlatter}
 use Rattle.b2_sched.specs.Start.{Images}
-use Rattle.b2_mvp.specs.Inputs.{log_limit, image_limit, HasBoot, HaveImages, IsNext, FailsLog, FailsChecks, FetchFails, IsLonger, CannotBoot, CannotLog, CannotOpen, CannotReadFrom, FailsAmong, CannotReadAll}
+use Rattle.b2_mvp.specs.Inputs.{log_limit, image_limit, HasBoot, HaveImages, IsNext, FailsLog, FailsChecks, CannotBoot, CannotLog, CannotOpen, CannotReadFrom, FailsAmong, CannotReadAll}
 use Rattle.b2_mvp.specs.Outputs.{Output, outputs, with_files, summary, FailsKeep}
-use Rattle.b2_mvp.specs.Top.{command_of, boot_for, world_after, HasInputs, Runs, Refuses, Stops, Delivers, FailsOutput, Comes}
+use Rattle.b2_mvp.specs.Top.{command_of, boot_for, world_after, HasInputs, Runs, Refuses, Stops, Delivers, FailsOutput, RunComes}
 use Rattle.b2_mvp.specs.Top.Input.{TheBoot, TheLog, TheImage}
-use Rattle.b2_mvp.specs.declared.status.Status.{Status}
-use Rattle.b2_mvp.specs.declared.status.Status.TheVariants as status
-use Rattle.b2_mvp.specs.declared.top.Command.{Command}
+use Rattle.b2_status.specs.Fetches.{FetchFails, IsLonger}
+use Rattle.b2_status.specs.Puts.{PutEnds}
+use Rattle.b2_status.specs.declared.status.Status.{Status}
+use Rattle.b2_status.specs.declared.status.Status.TheVariants as status
+use Rattle.b2_mvp.specs.declared.top.Command.TheVariants as command
+use Rattle.b2_mvp.specs.declared.top.Job.{Job}
 use Rattle.b2_mvp.proofs.BootNumbers.{numbered_for}
 use Rattle.b2_mvp.proofs.GroupOutputs.{groups_show, lists_clean}
 use Rattle.b2_mvp.proofs.Keeps.{rose_later}
@@ -39,7 +42,7 @@ later_again old mid new h k =
     record { faults = omega arith; misses = omega arith; longs = omega arith }
 
 -- a boot that ends the call
-pub no_boot : (c : Command) (old new : ShelfSeen) (s : Status) → CannotBoot c.boot old new s → Refuses c old new s
+pub no_boot : (c : Job) (old new : ShelfSeen) (s : Status) → CannotBoot c.boot old new s → Refuses c old new s
 no_boot c old new status.Ok h = absurd h
 no_boot c old new status.Usage h = absurd h
 no_boot c old new (status.Missing at) h = record { input = TheBoot; reached = tt; fails = h }
@@ -56,7 +59,7 @@ log_of_old : (name : List ℕ) (boot : BootState) (line check : ℕ) (old mid : 
 log_of_old name boot line check old mid same h = subst (λ f. FailsLog name f boot line check) same h
 
 -- a log that ends the call, after the boot was read
-pub no_log : (c : Command) (boot : BootState) (old mid new : ShelfSeen) (s : Status) → Later old mid → mid.files ≡ old.files → HasBoot c.boot old.files boot
+pub no_log : (c : Job) (boot : BootState) (old mid new : ShelfSeen) (s : Status) → Later old mid → mid.files ≡ old.files → HasBoot c.boot old.files boot
     → CannotLog c.log boot mid new s → Refuses c old new s
 no_log c boot old mid new status.Ok later same has h = absurd h
 no_log c boot old mid new status.Usage later same has h = absurd h
@@ -72,7 +75,7 @@ no_log c boot old mid new status.NoMemory later same has h = tt
 no_log c boot old mid new (status.KeepNoMemory at) later same has h = absurd h
 
 -- the file of an image that ends the call, after the log was read
-refused_file : (c : Command) (old mid new : ShelfSeen) (inputs : HasInputs c old.files) (p : BootPlatter) (name : List ℕ) (s : Status) → Later old mid → mid.files ≡ old.files
+refused_file : (c : Job) (old mid new : ShelfSeen) (inputs : HasInputs c old.files) (p : BootPlatter) (name : List ℕ) (s : Status) → Later old mid → mid.files ≡ old.files
     → IsNext old.files inputs.boot.platters p name → CannotOpen p.address name mid new s → Refuses c old new s
 refused_file c old mid new inputs p name status.Ok later same next h = absurd h
 refused_file c old mid new inputs p name status.Usage later same next h = absurd h
@@ -91,12 +94,12 @@ refused_file c old mid new inputs p name status.NoMemory later same next h = tt
 refused_file c old mid new inputs p name (status.KeepNoMemory at) later same next h = absurd h
 
 -- an image that does, whether it has a file or is blank
-refused_image : (c : Command) (old mid new : ShelfSeen) (inputs : HasInputs c old.files) (p : BootPlatter) (image : Option (List ℕ)) (s : Status) → Later old mid → mid.files ≡ old.files
+refused_image : (c : Job) (old mid new : ShelfSeen) (inputs : HasInputs c old.files) (p : BootPlatter) (image : Option (List ℕ)) (s : Status) → Later old mid → mid.files ≡ old.files
     → p.image ≡ image → ((name : List ℕ) → p.image ≡ Some name → IsNext old.files inputs.boot.platters p name) → CannotReadFrom image p.address mid new s → Refuses c old new s
 refused_image c old mid new inputs p None s later same is next h = subst (λ st. Refuses c old new st) (sym h) tt
 refused_image c old mid new inputs p (Some name) s later same is next h = refused_file c old mid new inputs p name s later same (next name is) h
 
-by_among : (c : Command) (old mid new : ShelfSeen) (inputs : HasInputs c old.files) (s : Status) → Later old mid → mid.files ≡ old.files → FailsAmong inputs.boot.platters mid new s → Refuses c old new s
+by_among : (c : Job) (old mid new : ShelfSeen) (inputs : HasInputs c old.files) (s : Status) → Later old mid → mid.files ≡ old.files → FailsAmong inputs.boot.platters mid new s → Refuses c old new s
 by_among c old mid new inputs s later same h =
     refused_image c old mid new inputs h.platter h.platter.image s later same refl
     (λ name is. record {
@@ -110,17 +113,17 @@ by_among c old mid new inputs s later same h =
     h.fails
 
 -- one among those of a boot
-pub no_images : (c : Command) (old mid new : ShelfSeen) (inputs : HasInputs c old.files) (s : Status) → Later old mid → mid.files ≡ old.files → CannotReadAll inputs.boot.platters mid new s → Refuses c old new s
+pub no_images : (c : Job) (old mid new : ShelfSeen) (inputs : HasInputs c old.files) (s : Status) → Later old mid → mid.files ≡ old.files → CannotReadAll inputs.boot.platters mid new s → Refuses c old new s
 no_images c old mid new inputs status.NoMemory later same h = tt
 no_images c old mid new inputs s later same h = by_among c old mid new inputs s later same h
 
-stops : (words : List (List ℕ)) (c : Command) (old new : ShelfSeen) (before after : SinkSeen) (s : Status) → command_of words ≡ Some c → new.files ≡ old.files → after ≡ before
+stops : (words : List (List ℕ)) (c : Job) (old new : ShelfSeen) (before after : SinkSeen) (s : Status) → command_of words ≡ Some (command.Run c) → new.files ≡ old.files → after ≡ before
     → Refuses c old new s → Stops words old new before after s
-stops words c old new before after s is same still h = record { command = c; is_command = is; refuses = h; untouched = record { files = same; sink = still } }
+stops words c old new before after s is same still h = record { job = c; is_command = is; refuses = h; untouched = record { files = same; sink = still } }
 
 -- a command that ends before its run
-pub stopped : (words : List (List ℕ)) (c : Command) (old new : ShelfSeen) (before after : SinkSeen) (s : Status) → command_of words ≡ Some c → new.files ≡ old.files → after ≡ before
-    → Refuses c old new s → Comes words old new before after s
+pub stopped : (words : List (List ℕ)) (c : Job) (old new : ShelfSeen) (before after : SinkSeen) (s : Status) → command_of words ≡ Some (command.Run c) → new.files ≡ old.files → after ≡ before
+    → Refuses c old new s → RunComes words old new before after s
 stopped words c old new before after status.Ok is same still h = absurd h.fails
 stopped words c old new before after status.Usage is same still h = absurd h.fails
 stopped words c old new before after (status.Missing at) is same still h = stops words c old new before after (status.Missing at) is same still h
@@ -144,17 +147,17 @@ output xs ys line text old mid new before after at cause later_cause sink_cause 
     ]
 
 -- what the words run
-abbrev runs : (words : List (List ℕ)) (c : Command) (files : Option Files) (inputs : HasInputs c files) (images : Images) → command_of words ≡ Some c → HaveImages files inputs.boot.platters images → Runs words files
-runs words c files inputs images is have = record { command = c; is_command = is; inputs = inputs; images = images; have_images = have }
+abbrev runs : (words : List (List ℕ)) (c : Job) (files : Option Files) (inputs : HasInputs c files) (images : Images) → command_of words ≡ Some (command.Run c) → HaveImages files inputs.boot.platters images → Runs words files
+runs words c files inputs images is have = record { job = c; is_command = is; inputs = inputs; images = images; have_images = have }
 
 -- what is delivered after the inputs were read and the events were run
-pub delivered : (words : List (List ℕ)) (c : Command) (old : ShelfSeen) (inputs : HasInputs c old.files) (images : Images) (all : List Output) (line : List ℕ)
+pub delivered : (words : List (List ℕ)) (c : Job) (old : ShelfSeen) (inputs : HasInputs c old.files) (images : Images) (all : List Output) (line : List ℕ)
     (mid new : ShelfSeen) (before after : SinkSeen) (s : Status)
-    → command_of words ≡ Some c → HaveImages old.files inputs.boot.platters images
+    → command_of words ≡ Some (command.Run c) → HaveImages old.files inputs.boot.platters images
     → all ≡ outputs c.out inputs.boot (world_after (boot_for c.group inputs.boot) images inputs.events).store
     → line ≡ summary (boot_for c.group inputs.boot) (world_after (boot_for c.group inputs.boot) images inputs.events)
     → Later old mid → mid.files ≡ old.files
-    → Delivers all line mid new before after s → Comes words old new before after s
+    → Delivers all line mid new before after s → RunComes words old new before after s
 delivered words c old inputs images all line mid new before after status.Ok is have all_is line_is later same h =
     record {
       run = runs words c old.files inputs images is have;
@@ -174,3 +177,11 @@ delivered words c old inputs images all line mid new before after (status.KeepNo
       left = output all _ line _ old mid new before after at _ _ _ all_is line_is same (λ u. u) h;
     }
 delivered words c old inputs images all line mid new before after s is have all_is line_is later same h = absurd h
+
+-- a put after all was kept
+pub put_after : (all : List Output) (line : List ℕ) (old new : ShelfSeen) (before after : SinkSeen) (s : Status) → new.files ≡ with_files all old.files
+    → PutEnds line before after s → Delivers all line old new before after s
+put_after all line old new before after status.Ok kept h = (kept, h)
+put_after all line old new before after (status.WriteFault at) kept h = inr (h.0, h.1, kept, h.2)
+put_after all line old new before after (status.KeepNoMemory at) kept h = inr (h.0, h.1, kept, h.2)
+put_after all line old new before after s kept h = absurd h

@@ -14,9 +14,13 @@ use Rattle.b2_platter.specs.Edits.{blank_image}
 use Rattle.b2_platter.specs.declared.layout.Layout.TheVariants.{Narrow}
 use Rattle.b2_sched.specs.Start.{Images}
 use Rattle.b2_sched.specs.World.{WorldState}
-use Rattle.b2_mvp.specs.declared.status.Status.{Status}
-use Rattle.b2_mvp.specs.declared.status.Status.TheVariants as status
+use Rattle.b2_look.specs.Shows.{file_limit, shown}
+use Rattle.b2_look.specs.declared.shows.View.{View}
+use Rattle.b2_status.specs.declared.status.Status.{Status}
+use Rattle.b2_status.specs.declared.status.Status.TheVariants as status
 use Rattle.b2_mvp.specs.declared.top.Command.{Command}
+use Rattle.b2_mvp.specs.declared.top.Command.TheVariants as command
+use Rattle.b2_mvp.specs.declared.top.Job.{Job}
 use Rattle.b2_mvp.specs.Inputs.{boot_limit, log_limit, image_limit}
 use Rattle.b2_mvp.specs.Top.{command_of, boot_for, world_after}
 
@@ -28,7 +32,8 @@ pub data Expected : Type 0 where
   FailsBootCheck : ℕ → Expected
   FailsLogCheck : ℕ → ℕ → Expected
   FailsImageCheck : List ℕ → ℕ → Expected
-  Ends : Command → WorldState → Expected
+  Ends : Job → WorldState → Expected
+  Puts : List ℕ → Expected
 
 -- an image that is there, or what is to be answered
 abbrev pub by_check : List ℕ → List ℕ → Option ℕ → Result (List ℕ) Expected
@@ -58,29 +63,35 @@ abbrev pub by_platters : Files → List BootPlatter → Result Images Expected
 by_platters files [] = Ok []
 by_platters files (p ∷ ps) = one_more (by_platter files p) (by_platters files ps)
 
-abbrev pub by_images : Command → BootState → List Event → Result Images Expected → Expected
+abbrev pub by_images : Job → BootState → List Event → Result Images Expected → Expected
 by_images c boot events (Ok images) = Ends c (world_after (boot_for c.group boot) images events)
 by_images c boot events (Err e) = e
 
-abbrev pub by_log : Files → Command → BootState → LogRead → Expected
+abbrev pub by_log : Files → Job → BootState → LogRead → Expected
 by_log files c boot (Events events) = by_images c boot events (by_platters files boot.platters)
 by_log files c boot (Refused line check) = FailsLogCheck line check
 
-abbrev pub by_log_file : Files → Command → BootState → Option (List ℕ) → Expected
+abbrev pub by_log_file : Files → Job → BootState → Option (List ℕ) → Expected
 by_log_file files c boot None = IsMissing c.log
 by_log_file files c boot (Some bytes) = if nat_le (length bytes) log_limit then by_log files c boot (log_of boot bytes) else IsLong c.log log_limit
 
-abbrev pub by_boot : Files → Command → Result BootState ℕ → Expected
+abbrev pub by_boot : Files → Job → Result BootState ℕ → Expected
 by_boot files c (Err check) = FailsBootCheck check
 by_boot files c (Ok boot) = by_log_file files c boot (get files c.log)
 
-abbrev pub by_boot_file : Files → Command → Option (List ℕ) → Expected
+abbrev pub by_boot_file : Files → Job → Option (List ℕ) → Expected
 by_boot_file files c None = IsMissing c.boot
 by_boot_file files c (Some bytes) = if nat_le (length bytes) boot_limit then by_boot files c (boot_of bytes) else IsLong c.boot boot_limit
 
+-- a view of a file asks nothing of what the file holds
+abbrev pub by_view : View → List ℕ → Option (List ℕ) → Expected
+by_view v name None = IsMissing name
+by_view v name (Some bytes) = if nat_le (length bytes) file_limit then Puts (shown v bytes) else IsLong name file_limit
+
 abbrev pub by_command : Files → Option Command → Expected
 by_command files None = NoCommand
-by_command files (Some c) = by_boot_file files c (get files c.boot)
+by_command files (Some (command.Run job)) = by_boot_file files job (get files job.boot)
+by_command files (Some (command.Show v name)) = by_view v name (get files name)
 
 abbrev pub expected : List (List ℕ) → Files → Expected
 expected words files = by_command files (command_of words)
@@ -94,6 +105,7 @@ Answers (FailsBootCheck check) s = (s ≡ status.BadBoot check) ⊎ (s ≡ statu
 Answers (FailsLogCheck line check) s = (s ≡ status.BadLog line check) ⊎ (s ≡ status.NoMemory)
 Answers (FailsImageCheck address check) s = (s ≡ status.BadImage address check) ⊎ (s ≡ status.NoMemory)
 Answers (Ends c world) s = (s ≡ status.Ok) ⊎ (s ≡ status.NoMemory) ⊎ ((name : List ℕ) × (s ≡ status.KeepNoMemory name))
+Answers (Puts bytes) s = (s ≡ status.Ok) ⊎ (s ≡ status.NoMemory) ⊎ ((name : List ℕ) × (s ≡ status.KeepNoMemory name))
 
 -- where the files are told and nothing failed, the answer is the expected one
 abbrev pub IsComplete : List (List ℕ) → ShelfSeen → ShelfSeen → SinkSeen → SinkSeen → Status → Type 0

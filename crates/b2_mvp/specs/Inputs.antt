@@ -1,9 +1,7 @@
 -- What the inputs of a run say, and how each can end the call.
-use Rattle.std.specs.Prelude.{◌≡◌, ℕ, ◌<◌, List, ◌∷◌, ◌++◌, length, Option, Some, None, IfSome, IsSomeAnd, Ok, Err}
-use Rattle.std.specs.FinMap.{get}
+use Rattle.std.specs.Prelude.{◌≡◌, ℕ, List, ◌∷◌, ◌++◌, Option, Some, None, Ok, Err}
 use Rattle.std.specs.List.{AllZip}
-use Rattle.b2_base.specs.Counts.{Rose}
-use Rattle.b2_base.specs.Files.{Files, IsAbsent, IsFetched}
+use Rattle.b2_base.specs.Files.{Files, IsFetched}
 use Rattle.b2_base.specs.Seen.{ShelfSeen}
 use Rattle.b2_boot.specs.Boots.{BootState, boot_of}
 use Rattle.b2_boot.specs.Logs.{log_of}
@@ -19,8 +17,9 @@ use Rattle.b2_platter.specs.Edits.{blank_image}
 use Rattle.b2_platter.specs.declared.layout.Layout.TheVariants.{Narrow}
 use Rattle.b2_store.specs.Files.{IsSound}
 use Rattle.b2_sched.specs.Start.{Images}
-use Rattle.b2_mvp.specs.declared.status.Status.{Status}
-use Rattle.b2_mvp.specs.declared.status.Status.TheVariants as status
+use Rattle.b2_status.specs.Fetches.{FetchFails}
+use Rattle.b2_status.specs.declared.status.Status.{Status}
+use Rattle.b2_status.specs.declared.status.Status.TheVariants as status
 
 -- how many bytes a boot file, a log and an image may have
 abbrev pub boot_limit : ℕ
@@ -95,24 +94,6 @@ pub record FailsImage (platters : List BootPlatter) (files : Option Files) (addr
   pub next : IsNext files platters platter name
   pub is_at : platter.address ≡ address
   pub fails : FailsChecks name files check
-
--- a told file has more bytes than its limit
-abbrev pub IsLonger : Option Files → List ℕ → ℕ → Type 0
-IsLonger files name limit = IfSome files (λ m. IsSomeAnd (get m name) (λ file. limit < length file))
-
--- when the fetch of an input ends the call
-abbrev pub FetchFails : List ℕ → ℕ → ShelfSeen → ShelfSeen → Status → Type 0
-FetchFails input limit old new status.Ok = ⊥
-FetchFails input limit old new status.Usage = ⊥
-FetchFails input limit old new (status.Missing name) = (name ≡ input) × Rose old.misses new.misses × IsAbsent old.files name
-FetchFails input limit old new (status.ReadFault name) = (name ≡ input) × Rose old.faults new.faults
-FetchFails input limit old new (status.TooLong name most) = (name ≡ input) × (most ≡ limit) × Rose old.longs new.longs × IsLonger old.files name most
-FetchFails input limit old new (status.BadBoot check) = ⊥
-FetchFails input limit old new (status.BadLog line check) = ⊥
-FetchFails input limit old new (status.BadImage address check) = ⊥
-FetchFails input limit old new (status.WriteFault name) = ⊥
-FetchFails input limit old new status.NoMemory = Unit {0}
-FetchFails input limit old new (status.KeepNoMemory name) = ⊥
 
 -- what a refused boot file and a refused log end the call with
 abbrev pub boot_status : BootErr → Status

@@ -1,4 +1,3 @@
-pub mod Status
 pub mod Parts
 pub mod Inputs
 pub mod Outputs

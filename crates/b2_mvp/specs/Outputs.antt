@@ -15,8 +15,8 @@ use Rattle.b2_boot.specs.declared.boot.BootPartition.{BootPartition}
 use Rattle.b2_sched.specs.Start.{platter_addresses, printer_addresses}
 use Rattle.b2_sched.specs.World.{WorldState}
 use Rattle.b2_mvp.specs.Parts.{list_or_dash}
-use Rattle.b2_mvp.specs.declared.status.Status.{Status}
-use Rattle.b2_mvp.specs.declared.status.Status.TheVariants as status
+use Rattle.b2_status.specs.declared.status.Status.{Status}
+use Rattle.b2_status.specs.declared.status.Status.TheVariants as status
 
 -- a file that is kept
 pub record Output : Type 0 where

@@ -1,5 +1,5 @@
 -- The words of the command line, and when each status comes.
-use Rattle.std.specs.Prelude.{◌≡◌, ◌⊎◌, ℕ, ◌&&◌, nat_eq, List, [], ◌∷◌, ◌++◌, map, codes, Option, Some, None, option_map, option_and_then, if◌then◌else◌}
+use Rattle.std.specs.Prelude.{◌≡◌, ◌⊎◌, ℕ, ◌≤◌, ◌&&◌, nat_eq, length, List, [], ◌∷◌, ◌++◌, map, codes, Option, Some, None, option_map, option_and_then, if◌then◌else◌}
 use Rattle.std.specs.Global.{Vec}
 use Rattle.std.specs.Cmp.Lexicographic.{pointwise}
 use Rattle.b2_base.specs.Counts.{Rose}
@@ -13,11 +13,17 @@ use Rattle.b2_boot.specs.declared.log.Event.{Event}
 use Rattle.b2_boot.specs.declared.boot.BootPlatter.{BootPlatter}
 use Rattle.b2_sched.specs.Start.{Images, booted}
 use Rattle.b2_sched.specs.World.{WorldState, ran}
-use Rattle.b2_mvp.specs.declared.status.Status.{Status}
-use Rattle.b2_mvp.specs.declared.status.Status.TheVariants as status
+use Rattle.b2_look.specs.Shows.{Shows}
+use Rattle.b2_look.specs.declared.shows.View.{View}
+use Rattle.b2_look.specs.declared.shows.View.TheVariants as view
+use Rattle.b2_status.specs.Fetches.{FetchFails}
+use Rattle.b2_status.specs.declared.status.Status.{Status}
+use Rattle.b2_status.specs.declared.status.Status.TheVariants as status
 use Rattle.b2_mvp.specs.declared.top.Command.{Command}
+use Rattle.b2_mvp.specs.declared.top.Command.TheVariants as command
+use Rattle.b2_mvp.specs.declared.top.Job.{Job}
 use Rattle.b2_mvp.specs.Groups.{GroupsShowAsAlone, ListsTheClean}
-use Rattle.b2_mvp.specs.Inputs.{boot_limit, log_limit, image_limit, HasBoot, HasLog, HaveImages, IsNext, FailsBoot, FailsLog, FailsImage, FetchFails}
+use Rattle.b2_mvp.specs.Inputs.{boot_limit, log_limit, image_limit, HasBoot, HasLog, HaveImages, IsNext, FailsBoot, FailsLog, FailsImage}
 use Rattle.b2_mvp.specs.Outputs.{Output, outputs, with_files, summary, FailsKeep}
 use Rattle.b2_mvp.specs.Parts.{listed_parts}
 
@@ -25,19 +31,34 @@ use Rattle.b2_mvp.specs.Parts.{listed_parts}
 abbrev pub texts : List (Vec ℕ) → List (List ℕ)
 texts words = map (λ w. w.items) words
 
--- the command of three names and a group, where the names are those of files
-abbrev pub command_by : List ℕ → List ℕ → List ℕ → Option (List ℕ) → Option Command
-command_by boot log out group =
+-- the job of three names and a group, where the names are those of files
+abbrev pub job_by : List ℕ → List ℕ → List ℕ → Option (List ℕ) → Option Job
+job_by boot log out group =
     if is_file_name boot && is_file_name log && is_file_name out then Some (record { boot = boot; log = log; out = out; group = group }) else None
 
--- `run BOOT LOG OUT` and `alone BOOT LOG OUT PARTS`
+abbrev pub run_by : List ℕ → List ℕ → List ℕ → Option (List ℕ) → Option Command
+run_by boot log out group = option_map command.Run (job_by boot log out group)
+
+-- a view of a file, where the name is one
+abbrev pub show_by : View → List ℕ → Option Command
+show_by v name = if is_file_name name then Some (command.Show v name) else None
+
+-- `screen FILE`, `check IMAGE`, `run BOOT LOG OUT` and `alone BOOT LOG OUT PARTS`
 abbrev pub command_of : List (List ℕ) → Option Command
-command_of (word ∷ boot ∷ log ∷ out ∷ []) = if pointwise nat_eq word (codes "run") then command_by boot log out None else None
+command_of (word ∷ name ∷ []) =
+    if pointwise nat_eq word (codes "screen") then show_by view.Screen name
+    else (if pointwise nat_eq word (codes "check") then show_by view.Check name else None)
+command_of (word ∷ boot ∷ log ∷ out ∷ []) = if pointwise nat_eq word (codes "run") then run_by boot log out None else None
 command_of (word ∷ boot ∷ log ∷ out ∷ parts ∷ []) =
-    if pointwise nat_eq word (codes "alone") then option_and_then (λ group. command_by boot log out (Some group)) (listed_parts parts) else None
+    if pointwise nat_eq word (codes "alone") then option_and_then (λ group. run_by boot log out (Some group)) (listed_parts parts) else None
 command_of words = None
 
--- the boot that a command runs: the whole one, or that with its group alone
+-- the front of the outputs' names leaves room for their endings
+abbrev pub HasShortOut : Command → Type 0
+HasShortOut (command.Run job) = length job.out ≤ 190
+HasShortOut (command.Show v name) = Unit {0}
+
+-- the boot that a job runs: the whole one, or that with its group alone
 abbrev pub boot_for : Option (List ℕ) → BootState → BootState
 boot_for None boot = boot
 boot_for (Some parts) boot = alone (is_in_group parts) boot
@@ -46,8 +67,8 @@ boot_for (Some parts) boot = alone (is_in_group parts) boot
 abbrev pub world_after : BootState → Images → List Event → WorldState
 world_after boot images events = ran events (booted boot images)
 
--- a command's boot and log pass their checks; the log is checked against the whole boot, whoever runs
-pub record HasInputs (c : Command) (files : Option Files) : Type 0 where
+-- a job's boot and log pass their checks; the log is checked against the whole boot, whoever runs
+pub record HasInputs (c : Job) (files : Option Files) : Type 0 where
   pub boot : BootState
   pub events : List Event
   pub has_boot : HasBoot c.boot files boot
@@ -55,21 +76,21 @@ pub record HasInputs (c : Command) (files : Option Files) : Type 0 where
 
 -- the words run these, and each platter of the boot has its image
 pub record Runs (words : List (List ℕ)) (files : Option Files) : Type 0 where
-  pub command : Command
-  pub is_command : command_of words ≡ Some command
-  pub inputs : HasInputs command files
+  pub job : Job
+  pub is_command : command_of words ≡ Some (command.Run job)
+  pub inputs : HasInputs job files
   pub images : Images
   pub have_images : HaveImages files inputs.boot.platters images
 
 -- the boot that is run, the world at the end, what is kept of it, and the line that is put
 abbrev pub boot_run : {words : List (List ℕ)} {files : Option Files} → Runs words files → BootState
-boot_run r = boot_for r.command.group r.inputs.boot
+boot_run r = boot_for r.job.group r.inputs.boot
 
 abbrev pub last_world : {words : List (List ℕ)} {files : Option Files} → Runs words files → WorldState
 last_world r = world_after (boot_run r) r.images r.inputs.events
 
 abbrev pub kept_of : {words : List (List ℕ)} {files : Option Files} → Runs words files → List Output
-kept_of r = outputs r.command.out r.inputs.boot (last_world r).store
+kept_of r = outputs r.job.out r.inputs.boot (last_world r).store
 
 abbrev pub line_put : {words : List (List ℕ)} {files : Option Files} → Runs words files → List ℕ
 line_put r = summary (boot_run r) (last_world r)
@@ -85,16 +106,16 @@ pub record IsRun (words : List (List ℕ)) (old new : ShelfSeen) (before after :
   pub run : Runs words old.files
   pub files : new.files ≡ with_files (kept_of run) old.files
   pub written : after.written ≡ option_map (λ w. w ++ line_put run) before.written
-  pub groups : GroupsShowAsAlone run.command.out (boot_run run) run.images run.inputs.events
+  pub groups : GroupsShowAsAlone run.job.out (boot_run run) run.images run.inputs.events
   pub listed : ListsTheClean (boot_run run) run.images run.inputs.events
 
--- the inputs of a command, in the order in which they are fetched
+-- the inputs of a job, in the order in which they are fetched
 pub data Input : Type 0 where
   TheBoot : Input
   TheLog : Input
   TheImage : (platter : BootPlatter) (name : List ℕ) → Input
 
-abbrev pub name_of : Command → Input → List ℕ
+abbrev pub name_of : Job → Input → List ℕ
 name_of c TheBoot = c.boot
 name_of c TheLog = c.log
 name_of c (TheImage platter name) = name
@@ -105,30 +126,30 @@ limit_of TheLog = log_limit
 limit_of (TheImage platter name) = image_limit
 
 -- the log is fetched after the boot has passed its checks, and an image after the log and the images before it have
-abbrev pub IsReached : Command → Option Files → Input → Type 0
+abbrev pub IsReached : Job → Option Files → Input → Type 0
 IsReached c files TheBoot = Unit {0}
 IsReached c files TheLog = (boot : BootState) × HasBoot c.boot files boot
 IsReached c files (TheImage platter name) = (inputs : HasInputs c files) × IsNext files inputs.boot.platters platter name
 
 -- the fetch of an input that is reached ends the call
-pub record FailsFetch (c : Command) (old new : ShelfSeen) (s : Status) : Type 0 where
+pub record FailsFetch (c : Job) (old new : ShelfSeen) (s : Status) : Type 0 where
   pub input : Input
   pub reached : IsReached c old.files input
   pub fails : FetchFails (name_of c input) (limit_of input) old new s
 
--- when a command ends before its run: by a check, for want of memory, or by the fetch of an input
-abbrev pub Refuses : Command → ShelfSeen → ShelfSeen → Status → Type 0
+-- when a job ends before its run: by a check, for want of memory, or by the fetch of an input
+abbrev pub Refuses : Job → ShelfSeen → ShelfSeen → Status → Type 0
 Refuses c old new (status.BadBoot check) = FailsBoot c.boot old.files check
 Refuses c old new (status.BadLog line check) = (boot : BootState) × HasBoot c.boot old.files boot × FailsLog c.log old.files boot line check
 Refuses c old new (status.BadImage address check) = (inputs : HasInputs c old.files) × FailsImage inputs.boot.platters old.files address check
 Refuses c old new status.NoMemory = Unit {0}
 Refuses c old new s = FailsFetch c old new s
 
--- a command ended before its run, so nothing was kept or put
+-- a job ended before its run, so nothing was kept or put
 pub record Stops (words : List (List ℕ)) (old new : ShelfSeen) (before after : SinkSeen) (s : Status) : Type 0 where
-  pub command : Command
-  pub is_command : command_of words ≡ Some command
-  pub refuses : Refuses command old new s
+  pub job : Job
+  pub is_command : command_of words ≡ Some (command.Run job)
+  pub refuses : Refuses job old new s
   pub untouched : IsUntouched old new before after
 
 -- a keep failed, and nothing was put; or the line did, which has the empty name, and all was kept
@@ -142,19 +163,33 @@ pub record IsCutOff (words : List (List ℕ)) (at : List ℕ) (old new : ShelfSe
   pub run : Runs words old.files
   pub left : FailsOutput (kept_of run) (line_put run) old new before after at shelf_cause sink_cause
 
+-- when each status of a run comes
+abbrev pub RunComes : List (List ℕ) → ShelfSeen → ShelfSeen → SinkSeen → SinkSeen → Status → Type 0
+RunComes words old new before after status.Ok = IsRun words old new before after
+RunComes words old new before after status.Usage = ⊥
+RunComes words old new before after (status.Missing name) = Stops words old new before after (status.Missing name)
+RunComes words old new before after (status.ReadFault name) = Stops words old new before after (status.ReadFault name)
+RunComes words old new before after (status.TooLong name limit) = Stops words old new before after (status.TooLong name limit)
+RunComes words old new before after (status.BadBoot check) = Stops words old new before after (status.BadBoot check)
+RunComes words old new before after (status.BadLog line check) = Stops words old new before after (status.BadLog line check)
+RunComes words old new before after (status.BadImage address check) = Stops words old new before after (status.BadImage address check)
+RunComes words old new before after (status.WriteFault name) = IsCutOff words name old new before after (Rose old.faults new.faults) (Rose before.faults after.faults)
+RunComes words old new before after status.NoMemory = Stops words old new before after status.NoMemory
+RunComes words old new before after (status.KeepNoMemory name) = IsCutOff words name old new before after (Unit {0}) (Unit {0})
+
+-- so of a job, by whichever words
+abbrev pub JobEnds : Job → ShelfSeen → ShelfSeen → SinkSeen → SinkSeen → Status → Type 0
+JobEnds job old new before after s = (words : List (List ℕ)) → command_of words ≡ Some (command.Run job) → RunComes words old new before after s
+
+-- when each status comes, by the command that the words are
+abbrev pub ComesBy : Option Command → List (List ℕ) → ShelfSeen → ShelfSeen → SinkSeen → SinkSeen → Status → Type 0
+ComesBy None words old new before after s = (s ≡ status.Usage) × (new ≡ old) × (after ≡ before)
+ComesBy (Some (command.Run job)) words old new before after s = RunComes words old new before after s
+ComesBy (Some (command.Show v name)) words old new before after s = Shows v name old new before after s
+
 -- when each status comes, over the words, the shelf and the sink before and after
 abbrev pub Comes : List (List ℕ) → ShelfSeen → ShelfSeen → SinkSeen → SinkSeen → Status → Type 0
-Comes words old new before after status.Ok = IsRun words old new before after
-Comes words old new before after status.Usage = (command_of words ≡ None) × (new ≡ old) × (after ≡ before)
-Comes words old new before after (status.Missing name) = Stops words old new before after (status.Missing name)
-Comes words old new before after (status.ReadFault name) = Stops words old new before after (status.ReadFault name)
-Comes words old new before after (status.TooLong name limit) = Stops words old new before after (status.TooLong name limit)
-Comes words old new before after (status.BadBoot check) = Stops words old new before after (status.BadBoot check)
-Comes words old new before after (status.BadLog line check) = Stops words old new before after (status.BadLog line check)
-Comes words old new before after (status.BadImage address check) = Stops words old new before after (status.BadImage address check)
-Comes words old new before after (status.WriteFault name) = IsCutOff words name old new before after (Rose old.faults new.faults) (Rose before.faults after.faults)
-Comes words old new before after status.NoMemory = Stops words old new before after status.NoMemory
-Comes words old new before after (status.KeepNoMemory name) = IsCutOff words name old new before after (Unit {0}) (Unit {0})
+Comes words old new before after s = ComesBy (command_of words) words old new before after s
 
 -- how the outputs went
 abbrev pub Delivers : List Output → List ℕ → ShelfSeen → ShelfSeen → SinkSeen → SinkSeen → Status → Type 0

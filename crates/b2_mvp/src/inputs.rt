@@ -1,20 +1,19 @@
 // The inputs of a run: their bytes within a limit, and what they say.
-ghost use Rattle.std.specs.Prelude.{◌≡◌, ◌<◌, ◌≤◌, ◌^◌, IfOk, IfErr, true};
+ghost use Rattle.std.specs.Prelude.{◌≡◌, ◌≤◌, IfOk, IfErr, true};
 ghost use Rattle.std.specs.List.{list_all};
-ghost use Rattle.b2_base.specs.Files.{IsFetched};
 ghost use Rattle.b2_base.specs.Seen.{shelf_seen, Later};
 ghost use Rattle.b2_boot.specs.Boots.{IsGood, is_platter};
 ghost use Rattle.b2_boot.specs.Rows.{is_between};
 ghost use Rattle.b2_platter.specs.Edits.{blank_image};
 ghost use Rattle.b2_platter.specs.Image.{index_of};
 ghost use Rattle.b2_platter.specs.declared.layout.Layout.TheVariants.{Narrow};
-ghost use Rattle.b2_mvp.specs.declared.status.Status.{Status};
+ghost use Rattle.b2_status.specs.declared.status.Status.{Status};
 ghost use Rattle.b2_mvp.specs.Inputs as spec;
 
-use crate::status::Status;
-use b2_base::{Addr, Fetch, FileName, Shelf};
+use b2_base::{Addr, FileName, Shelf};
 use b2_boot::{Boot, BootErr, BootPlatter, Event, LogErr, boot_of, log_of};
 use b2_platter::Platter;
+use b2_status::{Status, fetch_input};
 use std::alloc::Global;
 
 /// How many bytes a boot file may have.
@@ -25,29 +24,6 @@ const LOG_LIMIT: u32 = 4_194_304;
 
 /// How many bytes the image of a platter may have: 32,512 sectors.
 const IMAGE_LIMIT: u32 = 8_323_072;
-
-/// The bytes of an input within its limit.
-fn fetch_input<F: Shelf>(
-    alloc: Global,
-    name: FileName,
-    limit: u32,
-    shelf: &mut F,
-) -> Result<Vec<u8>, Status>
-    requires { limit < 2 ^ 31 }
-    ensures same { F.files shelf.new ≡ F.files shelf.old }
-    ensures later { Later (shelf_seen F.files F.faults F.misses F.longs shelf.old) (shelf_seen F.files F.faults F.misses F.longs shelf.new) }
-    ensures ok { IfOk result (λ bytes. IsFetched (F.files shelf.old) name limit bytes.items) }
-    ensures err { IfErr result (λ status. spec.FetchFails name limit (shelf_seen F.files F.faults F.misses F.longs shelf.old) (shelf_seen F.files F.faults F.misses F.longs shelf.new) status) }
-{
-    let mut bytes = Vec::new(alloc);
-    match shelf.fetch(name.bytes(), limit as usize, &mut bytes) {
-        Fetch::Done => Ok(bytes),
-        Fetch::Missing => Err(Status::Missing(name)),
-        Fetch::Failed => Err(Status::ReadFault(name)),
-        Fetch::TooLong => Err(Status::TooLong(name, limit)),
-        Fetch::NoMemory => Err(Status::NoMemory),
-    }
-}
 
 /// What a boot file that is refused ends the call with.
 fn boot_status(refused: BootErr) -> Status

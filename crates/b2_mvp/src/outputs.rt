@@ -9,10 +9,10 @@ ghost use Rattle.b2_store.specs.Meaning.{store_of};
 ghost use Rattle.b2_mvp.specs.Outputs as spec;
 
 use crate::parts::add_list;
-use crate::status::Status;
 use b2_base::{Addr, FileName, Keep, NoMemory, Part, Shelf, Term};
 use b2_boot::{Boot, BootPartition, BootPlatter, BootPrinter};
 use b2_sched::World;
+use b2_status::Status;
 use b2_store::Stores;
 use std::alloc::Global;
 

@@ -1,8 +1,8 @@
 // Runs over a shelf and a sink in memory, which tell their files and what is put: the worked examples, and calls that fail. All
 // other runs are texts, which are given to the built program.
-use crate::status::Status;
 use crate::top::mvp;
 use b2_base::{MemShelf, MemSink, cut};
+use b2_status::Status;
 use std::alloc::{AllocError, Global};
 use std::collections::BTreeMap;
 

@@ -4,26 +4,36 @@ ghost use Rattle.b2_base.specs.Seen.{shelf_seen, sink_seen};
 ghost use Rattle.b2_mvp.specs.Complete.{IsComplete};
 ghost use Rattle.b2_mvp.specs.Outputs.{outputs, summary};
 ghost use Rattle.b2_sched.specs.Start.{CanStart};
-ghost use Rattle.b2_mvp.specs.Top.{command_by, command_of, boot_for, texts, world_after, Delivers, Comes};
+ghost use Rattle.b2_mvp.specs.Top.{command_of, run_by, show_by, boot_for, texts, world_after, HasShortOut, Delivers, JobEnds, Comes};
 
 use crate::inputs::{read_boot, read_images, read_log};
 use crate::outputs::{keep_outputs, summarize};
 use crate::parts::Parts;
-use crate::status::Status;
-use b2_base::{FileName, Keep, NoMemory, Shelf, Sink};
+use b2_base::{FileName, NoMemory, Shelf, Sink};
 use b2_boot::{Boot, Event};
+use b2_look::{View, show};
 use b2_platter::Platter;
 use b2_sched::World;
+use b2_status::{Status, put_last};
 use std::alloc::Global;
 
-/// The words of a command: the names of the boot file and of the log, the front of the outputs' names, and the partitions that are
-/// to be there alone, where they are named.
+/// What a run is given: the names of the boot file and of the log, the front of the outputs' names, and the partitions that are to be
+/// there alone, where they are named.
 #[derive(Drop)]
-pub struct Command {
+pub struct Job {
     pub boot: FileName,
     pub log: FileName,
     pub out: FileName,
     pub group: Option<Parts>,
+}
+
+/// What the words of a command say.
+#[derive(Drop)]
+pub enum Command {
+    /// Run a log from a boot file: `run`, and `alone` for some partitions alone.
+    Run(Job),
+    /// Show a file: `screen`, and `check`.
+    Show(View, FileName),
 }
 
 /// The world at the end of a run, and the line for it.
@@ -33,34 +43,45 @@ struct Ready {
     line: Vec<u8>,
 }
 
-/// The command of three names and a group, where the names are those of files.
-fn command_by(boot: &[u8], log: &[u8], out: &[u8], group: Option<Parts>) -> Option<Command>
-    ensures value { result ≡ command_by boot.now log.now out.now group }
-    ensures short { IfSome result (λ c. length c.out ≤ 190) }
+/// The run of three names and a group, where the names are those of files.
+fn run_by(boot: &[u8], log: &[u8], out: &[u8], group: Option<Parts>) -> Option<Command>
+    ensures value { result ≡ run_by boot.now log.now out.now group }
+    ensures short { IfSome result HasShortOut }
 {
     let boot = FileName::of(boot)?;
     let log = FileName::of(log)?;
     let out = FileName::of(out)?;
-    Some(Command {
+    Some(Command::Run(Job {
         boot,
         log,
         out,
         group,
-    })
+    }))
+}
+
+/// The view of a file, where the name is one.
+fn show_by(view: View, name: &[u8]) -> Option<Command>
+    ensures value { result ≡ show_by view name.now }
+    ensures short { IfSome result HasShortOut }
+{
+    let name = FileName::of(name)?;
+    Some(Command::Show(view, name))
 }
 
 /// The command that the words are.
 fn read_command(words: &[Vec<u8>]) -> Option<Command>
     ensures value { result ≡ command_of (texts words.now) }
-    ensures short { IfSome result (λ c. length c.out ≤ 190) }
+    ensures short { IfSome result HasShortOut }
 {
     match words {
+        [word, name] if word.as_slice() == b"screen".as_slice() => show_by(View::Screen, name),
+        [word, name] if word.as_slice() == b"check".as_slice() => show_by(View::Check, name),
         [word, boot, log, out] if word.as_slice() == b"run".as_slice() => {
-            command_by(boot, log, out, None)
+            run_by(boot, log, out, None)
         }
         [word, boot, log, out, parts] if word.as_slice() == b"alone".as_slice() => {
             let group = Parts::of(parts)?;
-            command_by(boot, log, out, Some(group))
+            run_by(boot, log, out, Some(group))
         }
         _ => None,
     }
@@ -124,11 +145,32 @@ fn deliver<F: Shelf, O: Sink>(
         Ok(()) => {}
         Err(status) => return status,
     }
-    match sink.put(&ready.line) {
-        Keep::Done => Status::Ok,
-        Keep::Failed => Status::WriteFault(FileName::empty()),
-        Keep::NoMemory => Status::KeepNoMemory(FileName::empty()),
-    }
+    put_last(&ready.line, sink)
+}
+
+/// Does a job.
+fn run_job<F: Shelf, O: Sink>(alloc: Global, job: Job, shelf: &mut F, sink: &mut O) -> Status
+    requires { length job.out ≤ 190 }
+    ensures { JobEnds job
+        (shelf_seen F.files F.faults F.misses F.longs shelf.old) (shelf_seen F.files F.faults F.misses F.longs shelf.new)
+        (sink_seen O.written O.faults sink.old) (sink_seen O.written O.faults sink.new) result }
+{
+    let boot = match read_boot(alloc, job.boot, shelf) {
+        Ok(boot) => boot,
+        Err(status) => return status,
+    };
+    let events = match read_log(alloc, job.log, &boot, shelf) {
+        Ok(events) => events,
+        Err(status) => return status,
+    };
+    let platters = match read_images(alloc, &boot.platters, shelf) {
+        Ok(platters) => platters,
+        Err(status) => return status,
+    };
+    let Ok(ready) = run_group(alloc, &job.group, &boot, platters, &events) else {
+        return Status::NoMemory;
+    };
+    deliver(&job.out, &boot, &ready, shelf, sink)
 }
 
 /// Does what the words say.
@@ -142,34 +184,22 @@ fn run_words<F: Shelf, O: Sink>(
         (shelf_seen F.files F.faults F.misses F.longs shelf.old) (shelf_seen F.files F.faults F.misses F.longs shelf.new)
         (sink_seen O.written O.faults sink.old) (sink_seen O.written O.faults sink.new) result }
 {
-    let Some(command) = read_command(words) else {
-        return Status::Usage;
-    };
-    let boot = match read_boot(alloc, command.boot, shelf) {
-        Ok(boot) => boot,
-        Err(status) => return status,
-    };
-    let events = match read_log(alloc, command.log, &boot, shelf) {
-        Ok(events) => events,
-        Err(status) => return status,
-    };
-    let platters = match read_images(alloc, &boot.platters, shelf) {
-        Ok(platters) => platters,
-        Err(status) => return status,
-    };
-    let Ok(ready) = run_group(alloc, &command.group, &boot, platters, &events) else {
-        return Status::NoMemory;
-    };
-    deliver(&command.out, &boot, &ready, shelf, sink)
+    match read_command(words) {
+        None => Status::Usage,
+        Some(Command::Run(job)) => run_job(alloc, job, shelf, sink),
+        Some(Command::Show(view, name)) => show(alloc, view, name, shelf, sink),
+    }
 }
 
 /// Does all that the program does with the words after its name, over a shelf of files and a sink for the summary:
 /// `run BOOT LOG OUT` fetches the boot file, the log and the images of the platters by address, runs the log from the boot, keeps
 /// the transcript of each terminal as `OUT.t` and its number of two digits, what each printer printed as `OUT.p` and its address,
 /// and the image of each platter as `OUT.` and its address, and puts the summary line, which also lists the partitions that are apart. `alone BOOT LOG OUT PARTS` does the same with the
-/// listed partitions alone; the log is checked against the whole boot all the same.
+/// listed partitions alone; the log is checked against the whole boot all the same. `screen FILE` fetches a transcript and puts the
+/// screen that it leaves, as 24 lines, and `check IMAGE` a disk image and puts whether it is good, with its listing, or the first
+/// check that it fails; neither changes a file.
 ///
-/// The first refusal on this way is the answer. Until the log has run to its end, no file changes; nothing is put before
+/// The first refusal on the way is the answer. Until the log has run to its end, no file changes; nothing is put before
 /// the last image is kept. Where the words are no command, the answer is `Usage`, whatever the memory.
 pub fn mvp<F: Shelf, O: Sink>(
     alloc: Global,

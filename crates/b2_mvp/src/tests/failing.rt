@@ -19,7 +19,7 @@ struct Row {
 const RUN: &[u8] = b"run two log out";
 
 #[rattlefmt::skip]
-const ROWS: [Row; 18] = [
+const ROWS: [Row; 28] = [
     // The fetches of the boot file and of the log.
     Row { words: RUN, log: b"", shelf: 1, sink: 0, kept: 0, number: 3, line: b"read fault two" },
     Row { words: RUN, log: b"", shelf: 2, sink: 0, kept: 0, number: 3, line: b"read fault log" },
@@ -44,6 +44,17 @@ const ROWS: [Row; 18] = [
     Row { words: b"run first log out", log: b"", shelf: 0, sink: 0, kept: 0, number: 6, line: b"bad image D11 1" },
     Row { words: b"run fourth log out", log: b"", shelf: 0, sink: 0, kept: 0, number: 6, line: b"bad image D11 4" },
     Row { words: b"run seventh log out", log: b"", shelf: 0, sink: 0, kept: 0, number: 6, line: b"bad image D11 7" },
+    // The one fetch and the one put of the commands of one file, and calls that aren't made.
+    Row { words: b"screen log", log: b"", shelf: 1, sink: 0, kept: 0, number: 3, line: b"read fault log" },
+    Row { words: b"screen log", log: b"", shelf: 0, sink: 1, kept: 0, number: 7, line: b"write fault " },
+    Row { words: b"screen log", log: b"", shelf: 2, sink: 0, kept: 0, number: 0, line: b"" },
+    Row { words: b"screen log", log: b"", shelf: 0, sink: 2, kept: 0, number: 0, line: b"" },
+    Row { words: b"screen none", log: b"", shelf: 0, sink: 0, kept: 0, number: 2, line: b"missing none" },
+    Row { words: b"check short", log: b"", shelf: 1, sink: 0, kept: 0, number: 3, line: b"read fault short" },
+    Row { words: b"check short", log: b"", shelf: 0, sink: 1, kept: 0, number: 7, line: b"write fault " },
+    Row { words: b"check short", log: b"", shelf: 2, sink: 0, kept: 0, number: 0, line: b"" },
+    Row { words: b"check short", log: b"", shelf: 0, sink: 2, kept: 0, number: 0, line: b"" },
+    Row { words: b"check none", log: b"", shelf: 0, sink: 0, kept: 0, number: 2, line: b"missing none" },
 ];
 
 // The outputs, in the order in which they are kept.

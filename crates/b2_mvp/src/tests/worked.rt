@@ -35,7 +35,7 @@ type 1 LIMITS T/D11,A,B,C:PRINT A;B;C\nrounds 20\n\
 type 3 LIMITS T/D11,A,B,C:PRINT A;B;C\nrounds 20\n";
 
 #[rattlefmt::skip]
-const ROWS: [Row; 21] = [
+const ROWS: [Row; 24] = [
     // Nothing happens without turns, and a blank disk is written.
     Row { words: b"run two log out", kept: &[(b"out.t01", b""), (b"out.t02", b"")], disk: &[(0, 16384, b"\x01\x02\x00\x40\x00\x40\x00\x02")], ends: b"turns 0 steps 0 dropped 0 apart 1,2\n", ..PLAIN },
     // Numbers and their printed form.
@@ -171,6 +171,10 @@ type 1 RUN\nrounds 9\n", kept: &[(b"out.t01", b"READY\n\
 :RUN\n 1  2  3 \n\
 :PRINT SIN(1)\nERR S27 COL 7\n\
 :10 GOTO\nERR S15 COL 8\n:")], ..PLAIN },
+    // The screen of a transcript; and images that fail a check, of which one is empty.
+    Row { words: b"screen log", log: b"READY\n:PRINT 2+2\n 4 \n:", ends: b"READY\n:PRINT 2+2\n 4\n:\n\n\n\n\n\n\n\n\n\n\n\n\n\n\n\n\n\n\n\n\n", ..PLAIN },
+    Row { words: b"check hidden", ends: b"bad 7\n", ..PLAIN },
+    Row { words: b"check log", ends: b"bad 1\n", ..PLAIN },
 ];
 
 // Types a line, with rounds enough for it. Most of a long one goes in pieces before the rest, with a turn after each.

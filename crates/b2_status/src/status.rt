@@ -1,7 +1,7 @@
 // The statuses of the program.
 ghost use Rattle.std.specs.Prelude.{◌≡◌, ◌≤◌, ◌+◌, ◌++◌, length};
 ghost use Rattle.std.specs.Fmt.{decimal};
-ghost use Rattle.b2_mvp.specs.Status.{status_number, status_line};
+ghost use Rattle.b2_status.specs.Status.{status_number, status_line};
 
 use b2_base::{Addr, FileName, LineText};
 use itoa::Buffer;
@@ -25,11 +25,11 @@ pub enum Status {
     BadLog(u32, u8),
     /// The address of the first platter whose image isn't good, and the first check that the image fails.
     BadImage(Addr, u8),
-    /// Writing an output failed; the name is empty for the summary.
+    /// Writing an output failed; the name is empty for what is put.
     WriteFault(FileName),
     /// Memory failed before anything was written.
     NoMemory,
-    /// Memory failed in writing an output; the name is empty for the summary.
+    /// Memory failed in writing an output; the name is empty for what is put.
     KeepNoMemory(FileName),
 }
 

@@ -1,0 +1,3 @@
+pub mod Trimming
+pub mod Lines
+pub mod Ends
