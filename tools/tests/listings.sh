@@ -208,7 +208,8 @@ building_tells_each_crate() {
     export XDG_CACHE_HOME=$PWD/cache
     gives 0 "building" env PATH="$PWD/small/bin:$PATH" small/b2 run a b c
     is_text "building" "$work/out" 'turns 1 steps 1 dropped 0 apart 1\n'
-    is_text "building" <(sed 's/some .* on four processors/.../' "$work/err") 'b2: proving and building the program, 3 crates; from nothing it takes ..., and later what has changed
+    sed 's/some .* on four processors/.../' "$work/err" >told
+    is_text "building" told 'b2: proving and building the program, 3 crates; from nothing it takes ..., and later what has changed
 b2: crate 1 of 3: b2_base
 b2: crate 2 of 3: b2_text
 b2: crate 3 of 3: b2_mvp is being proved, as the last one\n'
