@@ -19,3 +19,4 @@ pub mod OpenFiles
 pub mod Clean
 pub mod Sound
 pub mod Saving
+pub mod Numbers

@@ -11,7 +11,7 @@ ghost use Rattle.b2_sched.specs.Inside.{AreInsideAsEntered, StepsEnterAsSaid, Te
 ghost use Rattle.b2_sched.specs.Laws.{RunsByActions, LeavesOthers, KeepsPresent, RoundsAscend, CountsTurns, NoPlaceIsKept, RunsKeepToTheirGrant, TurnsCountAllButOne};
 ghost use Rattle.b2_sched.specs.Marking.{TurnsMarkTheirSteps};
 ghost use Rattle.b2_sched.specs.OpenFiles.{OpenFilesAreListed};
-ghost use Rattle.b2_sched.specs.Saving.{StepsSaveRecords, StepsSaveStorable};
+ghost use Rattle.b2_sched.specs.Saving.{RunsSaveRecords, RunsSaveStorable, StepsSaveRecords, StepsSaveStorable, WorldsHoldNumbers};
 ghost use Rattle.b2_sched.specs.Sound.{RunsStaySound};
 ghost use Rattle.b2_sched.specs.Start.{CanStart};
 
@@ -138,6 +138,19 @@ pub fn law_files_on_a_held_disk_stay()
 pub fn law_steps_save_records()
     ensures storable { StepsSaveStorable }
     ensures follow { StepsSaveRecords }
+{}
+
+/// Whatever was run from a boot, the variables of each partition that is present hold numbers as the machine has them, and so do all `@`
+/// variables.
+pub fn law_worlds_hold_numbers()
+    ensures { WorldsHoldNumbers }
+{}
+
+/// So each value that any step of a run from a boot asks to be saved is such as a record may hold; and the record that it saves follows the
+/// records up to its place.
+pub fn law_runs_save_records()
+    ensures storable { RunsSaveStorable }
+    ensures follow { RunsSaveRecords }
 {}
 
 /// A device that a partition holds is held by it still, has the same image, and printed the same, after whatever others did.

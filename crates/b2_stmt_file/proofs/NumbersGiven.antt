@@ -35,17 +35,17 @@ pub number_then : (r : Answer) (next : Number → Answer) → GivesNumber r → 
 number_then (Ok x) next is h = h x is
 number_then (Err code) next is h = tt
 
-rounded_gives : (mode : Mode) (z : ℤ) (d : ℕ) → 0 < d → GivesNumber (rounded mode z d)
+pub rounded_gives : (mode : Mode) (z : ℤ) (d : ℕ) → 0 < d → GivesNumber (rounded mode z d)
 rounded_gives mode (pos n) d some = rnd_gives mode false n d some
 rounded_gives mode (negsuc n) d some = rnd_gives mode true (suc n) d some
 
-sum_gives : (mode : Mode) (a b : Number) → GivesNumber (sum_of mode a b)
+pub sum_gives : (mode : Mode) (a b : Number) → GivesNumber (sum_of mode a b)
 sum_gives mode a b = rounded_gives mode (value a +ℤ value b) (10 ^ 111) (ten_pos 111)
 
-difference_gives : (mode : Mode) (a b : Number) → GivesNumber (difference_of mode a b)
+pub difference_gives : (mode : Mode) (a b : Number) → GivesNumber (difference_of mode a b)
 difference_gives mode a b = rounded_gives mode (value a -ℤ value b) (10 ^ 111) (ten_pos 111)
 
-product_gives : (mode : Mode) (a b : Number) → GivesNumber (product_of mode a b)
+pub product_gives : (mode : Mode) (a b : Number) → GivesNumber (product_of mode a b)
 product_gives mode a b = rounded_gives mode (value a *ℤ value b) (10 ^ 222) (ten_pos 222)
 
 quotient_gives : (mode : Mode) (a b : Number) → GivesNumber (quotient_of mode a b)
@@ -57,10 +57,10 @@ quotient_gives mode a b =
           rw some (rnd_gives mode (differ a.neg b.neg) (size a) (size b) (mul-pos (omega (arith, differs)) (ten_pos b.place)))
     ]
 
-one_is_number : IsNumber one_number
+pub one_is_number : IsNumber one_number
 one_is_number = record { digits = lit≤ tt; highest = lit≤ tt; spelling = λ h. absurd (omega arith) }
 
-onwards_gives : (r : Answer) (f : Number → Answer) → GivesNumber r → ((x : Number) → IsNumber x → GivesNumber (f x)) → GivesNumber (onwards r f)
+pub onwards_gives : (r : Answer) (f : Number → Answer) → GivesNumber r → ((x : Number) → IsNumber x → GivesNumber (f x)) → GivesNumber (onwards r f)
 onwards_gives (Ok x) f is h = h x is
 onwards_gives (Err code) f is h = tt
 
@@ -152,7 +152,7 @@ number_of_gives bytes n =
     let whole = number_in_base 256 (take n bytes) in
     either_gives (nat_le n (length bytes)) (whole_number whole) (Err P34_RANGE) (whole_gives whole) tt
 
-parts_give : (text : Text) → GivesNumber (number_value text)
+pub parts_give : (text : Text) → GivesNumber (number_value text)
 unfolding parts_value
 parts_give text =
     let p = parts_of text in

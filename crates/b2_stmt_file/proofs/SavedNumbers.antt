@@ -58,11 +58,11 @@ whatever (Ok x) next h = h x
 whatever (Err c) next h = tt
 
 -- the elements of an array
-number_valued : (r : Answer) → GivesNumber r → IfOk (r >>= (λ x. Ok (value_kind.Number x))) IsAnyNumber
+pub number_valued : (r : Answer) → GivesNumber r → IfOk (r >>= (λ x. Ok (value_kind.Number x))) IsAnyNumber
 number_valued (Ok x) is = is
 number_valued (Err c) is = tt
 
-alpha_valued : (r : TextAnswer) → IfOk (r >>= (λ bytes. Ok (value_kind.Alpha bytes))) IsAnyNumber
+pub alpha_valued : (r : TextAnswer) → IfOk (r >>= (λ bytes. Ok (value_kind.Alpha bytes))) IsAnyNumber
 alpha_valued (Ok bytes) = tt
 alpha_valued (Err c) = tt
 
