@@ -309,7 +309,7 @@ class Maker:
     def contradicted(self, image):
         """An image with a field of its head or of a slot changed, or a slot put in the place of another."""
         image = bytearray(image)
-        slots = [place for place in range(16, SECTOR * image[1], 16) if image[place]] or [16]
+        slots = [place for place in range(16, min(SECTOR * image[1], len(image) - 15), 16) if image[place]] or [16]
         match self.one(['head', 'slot', 'slot', 'slot', 'slots', 'end', 'byte', 'length']):
             case 'head':
                 image[self.chance.randrange(16)] = self.one([0, 1, 2, 3, 16, 64, 255])
