@@ -208,13 +208,16 @@ class Maker:
             table['quota'] = self.one([*EDGES, 'twenty', True])
             return
         row = self.one(rows)
+        if not row:
+            rows.remove(row)
+            return
         match self.one(['value', 'value', 'drop', 'other', 'row', 'no row']):
             case 'value':
                 row[self.one(row)] = self.one([*EDGES, 'X', '', 'D1', 'd11', 'image0', True])
             case 'drop':
                 row.pop(self.one(row))
             case 'other':
-                other = self.one(table[self.one(['terminal', 'partition', 'partition'])])
+                other = self.one([other for rows in table.values() if isinstance(rows, list) for other in rows if other])
                 key = self.one(other)
                 row[key] = other[key]
             case 'row':
