@@ -18,6 +18,9 @@ PLATTERS, PRINTERS = ['D11', 'D12', '310', 'B20', 'D10', '3FF'], ['215', '204', 
 FILE_NAMES = ['F', 'G', 'A', 'B', 'P', 'LIB', 'ORDERS', 'A LONGER', 'Z9']
 BYTES = bytes(range(0x20, 0x7F))
 
+# Arrays that statements may use.
+SHAPES = 'DIM A$(9)9,B$(9)2,F$(4)16,X1$(2)2,A(3,3),B(9),X(2,2)'
+
 # What is typed that leads far: files, programs, devices and calls into another's text.
 SCENES = [
     ['DATASAVE DC OPEN T,#1,9,"F"', 'FOR I=1 TO 5:DATASAVE DC #1,I,A$:NEXT I', 'DATASAVE DC #1,END', 'DBACKSPACE #1,BEG:DATALOAD DC #1,A,B$',
@@ -25,6 +28,9 @@ SCENES = [
     ['10 FOR I=1 TO 9', '20 PRINT I,I^2', '30 NEXT I', 'SAVE T,"P"', 'CLEAR', 'LOAD T,"P"', 'RUN', 'SAVE T,("P"),"P"', 'LIST'],
     ['10 DEFFN @PART "LIB"', '20 END', "30 DEFFN'7(A,B$)", '40 @A=@A+A:PRINT B$', '50 RETURN', 'RUN'],
     ['10 SELECT @PART "LIB"', "20 GOSUB'7(5,\"X\")", '30 PRINT @A:GOTO 20', 'RUN'],
+    ['SELECT PRINT 215:PRINT "A";', 'PRINT "B",7:LIST DC T', '10 PRINT I:I=I+1:IF I<9 THEN 10', 'RUN', 'SELECT PRINT 005'],
+    ['SCRATCH DISK T,LS=1,END=15', 'DATASAVE DC OPEN T,4,"F":DATASAVE DC #0,1,"A":DATASAVE DC END', '10 DBACKSPACE BEG', '20 DATALOAD DC A,A$:PRINT A;A$',
+     '30 IF END THEN 50:GOTO 20', '50 PRINT "END"', 'RUN'],
     ['10 $OPEN /D11,/215', '20 SELECT PRINT 215:PRINT "A";', '30 $BREAK:$CLOSE', '40 GOTO 10', 'RUN'],
     ['10 INPUT "A",A,B$', '20 LINPUT C$:KEYIN D$', '30 PRINT A;B$;C$;D$', 'RUN', '5,X', 'A LINE', 'KEY', '7', ''],
     ['10 GOSUB 10', 'RUN', 'PRINT ((((1))))', '10 DEFFN A(X)=FNA(X)', 'PRINT FNA(1)'],
@@ -58,7 +64,7 @@ class Maker:
         chance = self.chance
         match kind:
             case 'Number' | 'SignedNumber':
-                return self.one(['0', '1', '2', '3', '.5', '12.5', '1E99', '9.9E-99', '-1', '65536', str(self.one(EDGES))])
+                return self.one(['0', '1', '1', '1', '2', '2', '3', '4', '5', '9', '.5', '12.5', self.one(['1E99', '9.9E-99', str(self.one(EDGES))])])
             case 'Name':
                 return self.one(['A', 'B', 'I', 'X', 'Z9', '@A', '@B1'])
             case 'AlphaName':
@@ -68,7 +74,7 @@ class Maker:
             case 'FunctionName':
                 return self.one('AB9')
             case 'Literal':
-                return '"' + self.one([*FILE_NAMES, 'HEX', '####.##', '-$#,###.##', ' ', 'x' * 60, 'A(03)']) + '"'
+                return '"' + self.one(['F', 'F', 'G', 'P', *FILE_NAMES, 'HEX', '####.##', '-$#,###.##', ' ', 'x' * 60, 'A(03)']) + '"'
             case 'LineNumber':
                 return str(self.one([10, 20, 30, 40, 50, 60, 70, 9999, 0]))
             case 'HexPair':
@@ -115,13 +121,13 @@ class Maker:
             case 'Part' | 'Nest':
                 return self.row(values[0], depth + 1)
             case 'Maybe':
-                return '' if far or self.happens(.6) else self.row(values[1], depth + 1)
+                return '' if far or self.happens(.7) else self.row(values[1], depth + 1)
             case 'Either':
                 # The first way is mostly the shorter one, and a word left out is wanted seldom.
                 first = self.happens(.8 if far else .5) and not (values[1] == 'LEFT_OUT' and self.happens(.95))
                 return self.row(values[1 if first else 2], depth + 1)
             case 'Many':
-                return ' '.join(self.row(values[1], depth + 1) for _ in range(0 if far else self.one([0, 0, 0, 1, 2])))
+                return ' '.join(self.row(values[1], depth + 1) for _ in range(0 if far else self.one([0, 0, 0, 0, 1, 2])))
             case 'Statement':
                 return self.statement(depth)
         raise ValueError(item)
@@ -130,13 +136,16 @@ class Maker:
         name = self.one(['ASSIGNMENT', 'PRINT', 'FOR', *(row for _, row in grammar.table()[1])])
         return self.row(name, depth + 1)
 
+    def statements(self):
+        return ':'.join(self.statement() for _ in range(self.one([1, 1, 1, 2, 3])))
+
     def line(self):
         """A line of the language, mostly a good one, with a number or without."""
         if self.happens(.05):
             words = grammar.known_words()[1] + list('()=,;:"+-*/^&#$@AB19')
             text = ' '.join(self.one(words) for _ in range(self.chance.randint(1, 12)))
         else:
-            text = ':'.join(self.statement() for _ in range(self.one([1, 1, 1, 2, 3])))
+            text = next((text for text in (self.statements() for _ in range(5)) if len(text) < 100), '')
         if self.happens(.6):
             text = f'{self.one([10, 20, 30, 40, 50, 60, 70])} {text}'
         if self.happens(.1):
@@ -180,7 +189,7 @@ class Maker:
         terminals = sorted(chance.sample(range(1, 13), self.one([1, 1, 2, 3])))
         parts = chance.sample(range(1, 17), len(terminals) + self.one([0, 0, 1, 2]))
         places = dict(zip(parts, terminals + [self.one(terminals) for _ in parts]))
-        platters = self.some_of(PLATTERS, self.one([0, 1, 1, 2, 3]))
+        platters = self.some_of(PLATTERS, self.one([0, 1, 1, 2, 2, 3]))
         printers = self.some_of(PRINTERS, self.one([0, 1, 1, 2]))
         table = {'quota': self.one([1, 2, 20, 20, 50, 1000])}
         table['terminal'] = [{'number': place, 'front': self.one(part for part in parts if places[part] == place)} for place in terminals]
@@ -190,11 +199,11 @@ class Maker:
                             for count, address in enumerate(platters)]
         table['printer'] = [{'address': address} for address in printers]
         for row in table['platter'] + table['printer']:
-            if self.happens(.2):
+            if self.happens(.1):
                 row['for'] = self.one(parts)
         for row in table['partition']:
             usable = [one['address'] for one in table['platter'] if one.get('for', row['number']) == row['number']]
-            if usable and self.happens(.8):
+            if usable and self.happens(.9):
                 row['disk'] = self.one(usable)
                 if self.happens(.3):
                     row['program'] = self.one(['R', 'K', 'P', 'E', 'N', 'LIB', 'F'])
@@ -237,19 +246,22 @@ class Maker:
 
     def typed(self, terminal):
         """Lines of the log that type something at a terminal."""
-        texts = self.one(SCENES) if self.happens(.4) else [self.line() for _ in range(self.one([1, 3, 8]))] + self.one([[], ['RUN']])
+        if self.happens(.5):
+            texts = self.one(SCENES)
+        else:
+            texts = self.one([[], [SHAPES]]) + [self.line() for _ in range(self.one([1, 3, 8]))] + self.one([[], ['RUN']])
         for text in texts:
             if self.happens(.08):
                 text = self.line()
             yield f'type {terminal} {text}'
             if self.happens(.85):
-                yield f'rounds {self.one([1, 2, 5, 9])}'
+                yield f'rounds {self.one([1, 3, 9, 30])}'
 
     def log(self, table):
         """A log that fits a boot file."""
         parts = {row['number']: row['terminal'] for row in table['partition']}
         lines = []
-        for _ in range(self.one([1, 4, 8, 16])):
+        for _ in range(self.one([1, 6, 12, 20])):
             part = self.one([*parts, self.chance.randint(1, 16)])
             terminal = self.one(parts.values())
             match self.one(['typed', 'typed', 'typed', 'turn', 'rounds', 'key', 'sf', 'front', 'halt', 'reset', 'keys']):
