@@ -24,6 +24,15 @@ run_meets_a_limit_of_files() {
     if [ -e limited.D11 ] || [ -e limited.D11~ ]; then bad "run under a limit" "a part of the file is left"; else ok; fi
 }
 
+# A program that prints without end ends with its status where memory may not grow any further, and nothing is written.
+run_meets_a_limit_of_memory() {
+    printf '%s\n' 'type 1 10 PRINT 1,2,3,4,5,6,7,8,9,10:GOTO 10' 'type 1 RUN' 'rounds 100000' 'rounds 100000' 'rounds 40000' >endless.log
+    gives 8 "run under a limit of memory" \
+        bash -c 'ulimit -v 60000; exec "$1" run examples/first.toml endless.log limited' - "$top/crates/b2_mvp/out/b2_mvp"
+    is_text "run under a limit of memory" "$work/err" 'no memory\n'
+    if ls limited.* >"$work/out" 2>&1; then bad "run under a limit of memory" "a file is written"; else ok; fi
+}
+
 run_tells_dropped() {
     printf 'type 1 %s\ntype 1 %s\nrounds 1\n' "$(bytes 100)" "$(bytes 100)" >full.log
     gives 0 "run: a full queue" ./b2 run examples/first.toml full.log out
@@ -607,6 +616,7 @@ hostile_refuses
 hostile_ends
 run_tells_dropped
 run_meets_a_limit_of_files
+run_meets_a_limit_of_memory
 try_runs_a_listing
 try_answers
 try_gives_special_keys
