@@ -592,20 +592,20 @@ hostile_refuses() {
 # Ctrl-C ends it without a folder left behind.
 hostile_ends() {
     local status count=0
-    mkdir -p ending
+    mkdir -p rooms
     # All folders of this run stand in one place.
     printf '%s\n' 'import os, runpy, sys, tempfile' 'make = tempfile.mkdtemp' \
-        'tempfile.mkdtemp = lambda suffix=None, prefix=None, dir=None: make(suffix, prefix, "ending" if dir == "/dev/shm" else dir)' \
+        'tempfile.mkdtemp = lambda suffix=None, prefix=None, dir=None: make(suffix, prefix, "rooms" if dir == "/dev/shm" else dir)' \
         'sys.argv[:] = sys.argv[1:]' 'sys.path.insert(0, os.path.dirname(sys.argv[0]))' \
         'runpy.run_path(sys.argv[0], run_name="__main__")' >in_one_place.py
     python3 -B in_one_place.py "$top/tools/hostile" seeds 1 100000 >"$work/out" 2>"$work/err" &
-    while [ -z "$(ls ending)" ] && [ "$count" -lt 100 ]; do sleep 0.1 && count=$((count + 1)); done
-    if [ -n "$(ls ending)" ]; then ok; else bad "hostile: Ctrl-C" "no folder was made"; fi
+    while [ -z "$(ls rooms)" ] && [ "$count" -lt 100 ]; do sleep 0.1 && count=$((count + 1)); done
+    if [ -n "$(ls rooms)" ]; then ok; else bad "hostile: Ctrl-C" "no folder was made"; fi
     kill -INT "$!"
     wait "$!"
     status=$?
     if [ "$status" -eq 130 ]; then ok; else bad "hostile: Ctrl-C" "status $status"; fi
-    if [ -z "$(ls ending)" ] && [ -z "$(ls -d hostile.[0-9]* 2>/dev/null)" ]; then ok; else bad "hostile: Ctrl-C" "a folder is left"; fi
+    if [ -z "$(ls rooms)" ] && [ -z "$(ls -d hostile.[0-9]* 2>/dev/null)" ]; then ok; else bad "hostile: Ctrl-C" "a folder is left"; fi
 }
 
 long_lines_are_typed
