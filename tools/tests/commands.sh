@@ -595,7 +595,7 @@ hostile_ends() {
     mkdir -p rooms
     # All folders of this run stand in one place.
     printf '%s\n' 'import os, runpy, sys, tempfile' 'make = tempfile.mkdtemp' \
-        'tempfile.mkdtemp = lambda suffix=None, prefix=None, dir=None: make(suffix, prefix, "rooms" if dir == "/dev/shm" else dir)' \
+        'tempfile.mkdtemp = lambda suffix=None, prefix=None, dir=None: make(suffix, prefix, "rooms" if dir in (None, "/dev/shm") else dir)' \
         'sys.argv[:] = sys.argv[1:]' 'sys.path.insert(0, os.path.dirname(sys.argv[0]))' \
         'runpy.run_path(sys.argv[0], run_name="__main__")' >in_one_place.py
     python3 -B in_one_place.py "$top/tools/hostile" seeds 1 100000 >"$work/out" 2>"$work/err" &
