@@ -28,9 +28,9 @@ run_meets_a_limit_of_files() {
 run_meets_a_limit_of_memory() {
     printf '%s\n' 'type 1 10 PRINT 1,2,3,4,5,6,7,8,9,10:GOTO 10' 'type 1 RUN' 'rounds 100000' 'rounds 100000' 'rounds 40000' >endless.log
     gives 8 "run under a limit of memory" \
-        bash -c 'ulimit -v 60000; exec "$1" run examples/first.toml endless.log limited' - "$top/crates/b2_mvp/out/b2_mvp"
+        bash -c 'ulimit -v 60000; exec "$1" run examples/first.toml endless.log unbounded' - "$top/crates/b2_mvp/out/b2_mvp"
     is_text "run under a limit of memory" "$work/err" 'no memory\n'
-    if ls limited.* >"$work/out" 2>&1; then bad "run under a limit of memory" "a file is written"; else ok; fi
+    if ls unbounded.* >"$work/out" 2>&1; then bad "run under a limit of memory" "a file is written"; else ok; fi
 }
 
 run_tells_dropped() {
