@@ -157,6 +157,12 @@ def given(case, name, text):
     case.files[name] = case.files.get(name, b'') + text
 
 
+def remarked(text, size):
+    """A text, filled to a size with lines that are `#` and letters; the last line may have no end."""
+    line = b'#' + b'A' * 98 + b'\n'
+    return (text + line * (size // len(line) + 1))[:size]
+
+
 def read_put(case, text):
     """A line that is put, after those that came before."""
     case.put_is_end = text.startswith('..')
@@ -179,6 +185,8 @@ def read_word(case, word, text):
             case.files.pop(text, None)
         case 'fill':
             case.files[words[0]] = case.files.get(words[0], b'').ljust(int(words[1]), b'\n')
+        case 'remarks':
+            case.files[words[0]] = remarked(case.files.get(words[0], b''), int(words[1]))
         case 'file':
             case.files[words[0]] = image_of(words[1:])
         case 'folder':

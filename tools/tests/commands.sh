@@ -24,6 +24,15 @@ run_meets_a_limit_of_files() {
     if [ -e limited.D11 ] || [ -e limited.D11~ ]; then bad "run under a limit" "a part of the file is left"; else ok; fi
 }
 
+# A program that prints without end ends with its status where memory may not grow any further, and nothing is written.
+run_meets_a_limit_of_memory() {
+    printf '%s\n' 'type 1 10 PRINT 1,2,3,4,5,6,7,8,9,10:GOTO 10' 'type 1 RUN' 'rounds 100000' 'rounds 100000' 'rounds 40000' >endless.log
+    gives 8 "run under a limit of memory" \
+        bash -c 'ulimit -v 60000; exec "$1" run examples/first.toml endless.log unbounded' - "$top/crates/b2_mvp/out/b2_mvp"
+    is_text "run under a limit of memory" "$work/err" 'no memory\n'
+    if ls unbounded.* >"$work/out" 2>&1; then bad "run under a limit of memory" "a file is written"; else ok; fi
+}
+
 run_tells_dropped() {
     printf 'type 1 %s\ntype 1 %s\nrounds 1\n' "$(bytes 100)" "$(bytes 100)" >full.log
     gives 0 "run: a full queue" ./b2 run examples/first.toml full.log out
@@ -527,10 +536,87 @@ screen_and_check_hand_on() {
     [ ! -e /dev/full ] || gives 7 "screen: lines that can't be put" bash -c './b2 screen shot >/dev/full'
 }
 
+# Bad input of fifty seeds, and the first twenty refusals of memory and of calls: nothing breaks.
+hostile_finds_nothing() {
+    gives 0 "hostile seeds" "$top/tools/hostile" seeds 1 50
+    has "hostile seeds" "$work/out" '50 runs, 0 wrong'
+    gives 0 "hostile memory" "$top/tools/hostile" memory 20
+    has "hostile memory" "$work/out" ' 0 wrong'
+}
+
+# Tries seeds on a program that breaks something before or after it runs.
+hostile_meets() { # WHAT BEFORE AFTER TOLD
+    printf '%s\n' '#!/bin/sh' "$2" '"$PROGRAM" "$@"' 'status=$?' "$3" 'exit "$status"' >breaking
+    chmod +x breaking
+    gives 20 "hostile: $1" env PROGRAM="$top/crates/b2_mvp/out/b2_mvp" B2_PROGRAM=./breaking "$top/tools/hostile" seeds 1 25
+    has "hostile: $1" "$work/out" "$4"
+    if [ -n "$(ls -d hostile.[0-9]* 2>/dev/null)" ]; then ok; else bad "hostile: $1" "no input is left"; fi
+    rm -rf hostile.[0-9]*
+}
+
+hostile_finds_what_breaks() {
+    hostile_meets "a file after a refusal" '' '[ "$status" -ne 4 ] || echo x >stray' 'and files changed'
+    hostile_meets "an input that changes" '' '[ "$1" != run ] || [ "$status" -ne 0 ] || echo >>log' 'and the files are'
+    hostile_meets "an output that is missing" '' '[ "$1" != run ] || rm -f out.t*' 'and the files are'
+    hostile_meets "another number" '' '[ "$status" -ne 5 ] || status=12' 'no status with its line'
+    hostile_meets "another line" '[ "$1" != run ] || echo x >&2' '' 'no status with its line'
+    hostile_meets "an image that is not good" '' '[ ! -f out.D11 ] || echo x >>out.D11' 'and the image out.D11 fails 1'
+    hostile_meets "other words on an image" '[ "$1" != check ] || { echo good; exit 0; }' '' 'and it fails'
+    hostile_meets "another transcript alone" '' '[ "$1" != alone ] || for file in alone.t*; do echo x >>"$file"; done' 'another transcript'
+    printf '%s\n' '#!/bin/sh' 'exec "$PROGRAM" "$@"' >breaking
+    # The shell that runs this ends with a status of its own where memory is refused.
+    gives 20 "hostile memory: another status" env PROGRAM="$top/crates/b2_mvp/out/b2_mvp" B2_PROGRAM=./breaking "$top/tools/hostile" memory 1
+    has "hostile memory: another status" "$work/out" 'WRONG the day of an office, allocation 1'
+}
+
+hostile_refuses() {
+    local words
+    for words in '' 'all' 'seeds x' 'seeds 0' 'seeds 1 x' 'seeds 2 1' 'seeds 1 2 3' 'memory x' 'memory 1 2' '--seed'; do
+        # shellcheck disable=SC2086
+        gives 2 "hostile $words" "$top/tools/hostile" $words
+        is_empty "hostile $words" "$work/out"
+    done
+    has "hostile: words that are no command" "$work/err" 'usage: tools/hostile memory'
+    gives 0 "hostile --help" "$top/tools/hostile" --help
+    gives 2 "hostile: no program" env B2_PROGRAM=./nothing "$top/tools/hostile" seeds
+    gives 2 "hostile memory: another program" env B2_PROGRAM="$(command -v true)" "$top/tools/hostile" memory 1
+    gives 2 "hostile memory: no compiler" env CC=nothing "$top/tools/hostile" memory 1
+    is_text "hostile memory: no compiler" "$work/err" 'hostile: there is no C compiler nothing, which builds what refuses calls\n'
+    gives 0 "hostile seeds: no compiler" env CC=nothing "$top/tools/hostile" seeds 7
+    gives 7 "hostile: files can't be written" \
+        bash -c 'set -o pipefail; (ulimit -f 0; "$1" seeds 1 3) 2>&1 | cat' - "$top/tools/hostile"
+    has "hostile: files can't be written" "$work/out" 'File too large'
+    [ ! -e /dev/full ] || gives 7 "hostile: nothing can be put" bash -c '"$1" seeds 1 3 >/dev/full' - "$top/tools/hostile"
+}
+
+# Ctrl-C ends it without a folder left behind.
+hostile_ends() {
+    local status count=0
+    mkdir -p rooms
+    # All folders of this run stand in one place.
+    printf '%s\n' 'import os, runpy, sys, tempfile' 'make = tempfile.mkdtemp' \
+        'tempfile.mkdtemp = lambda suffix=None, prefix=None, dir=None: make(suffix, prefix, "rooms" if dir in (None, "/dev/shm") else dir)' \
+        'sys.argv[:] = sys.argv[1:]' 'sys.path.insert(0, os.path.dirname(sys.argv[0]))' \
+        'runpy.run_path(sys.argv[0], run_name="__main__")' >in_one_place.py
+    python3 -B in_one_place.py "$top/tools/hostile" seeds 1 100000 >"$work/out" 2>"$work/err" &
+    while [ -z "$(ls rooms)" ] && [ "$count" -lt 100 ]; do sleep 0.1 && count=$((count + 1)); done
+    if [ -n "$(ls rooms)" ]; then ok; else bad "hostile: Ctrl-C" "no folder was made"; fi
+    kill -INT "$!"
+    wait "$!"
+    status=$?
+    if [ "$status" -eq 130 ]; then ok; else bad "hostile: Ctrl-C" "status $status"; fi
+    if [ -z "$(ls rooms)" ] && [ -z "$(ls -d hostile.[0-9]* 2>/dev/null)" ]; then ok; else bad "hostile: Ctrl-C" "a folder is left"; fi
+}
+
 long_lines_are_typed
 screen_and_check_hand_on
+hostile_finds_nothing
+hostile_finds_what_breaks
+hostile_refuses
+hostile_ends
 run_tells_dropped
 run_meets_a_limit_of_files
+run_meets_a_limit_of_memory
 try_runs_a_listing
 try_answers
 try_gives_special_keys

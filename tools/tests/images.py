@@ -24,6 +24,24 @@ PIECES = {
         (256, '10 44 0002 0003 0000 4120202020202020'),
         (768, 'A1 0001'),
     ],
+    # 64 sectors with an index of two, on which F and then G were opened new with three sectors each: live data, F from sector 2 to
+    # 4 in the first slot, G from sector 5 to 7 in the first slot of the second index sector, since its name makes an odd sum. Each
+    # begins with the end mark, and the control sector of each says that one sector is used. The next free sector is 8.
+    'two_new_files': [
+        (0, '01 02 0040 0040 0008'),
+        (16, '10 44 0002 0004 0000 4620202020202020'),
+        (256, '10 44 0005 0007 0000 4720202020202020'),
+        (512, 'A0'),
+        (1024, 'A1 0001'),
+        (1280, 'A0'),
+        (1792, 'A1 0001'),
+    ],
+    # On it the record of the one value 1 in the first sector of F, the end mark in the second, and two sectors used.
+    'record_of_one': [
+        (512, '81 01 08 0001000000000000 FD'),
+        (768, 'A0'),
+        (1024, 'A1 0002'),
+    ],
 }
 
 # Program files that no SAVE has written: the name of each, and how the one sector before its control sector begins.

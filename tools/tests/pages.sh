@@ -135,6 +135,7 @@ for page in README.md CONTRIBUTING.md docs/USING.md docs/CODES.md docs/PORTING.m
 codes_are_shown
 gives 0 "LANGUAGE.md: its examples" "$top/tools/tests/language.py" "$top/crates/b2_mvp/out/b2_mvp" "$work/pages"
 is_empty "LANGUAGE.md: its examples" "$work/out"
+counted "LIMITS.md: its tables" limits.py "$top/crates/b2_mvp/out/b2_mvp"
 gives 0 "PORTING.md has the table of tools/habits.py" "$top/tools/habits.py" --check
 gives 0 "PORTING.md: its tables" "$top/tools/tests/porting.py" "$top/crates/b2_mvp/out/b2_mvp" "$work"
 is_empty "PORTING.md: its tables" "$work/out"
