@@ -4,15 +4,10 @@
 // with partition 1 in front, `P` for a partition 1 on it, and `D` for a partition 1 on it with the disk D11.
 //
 // `alone | NAME | PARTITION PARTITION ..`: the boot of a name with these partitions alone.
-ghost use Rattle.std.specs.Prelude.{◌≡◌, IfOk, IfSome};
-ghost use Rattle.b2_sched.specs.Start.{CanStart};
-
-use crate::pieces::word;
-use b2_base::{Addr, Name8, NoMemory, Part};
+use crate::pieces::{show_count, word};
+use b2_base::{Addr, NoMemory, Part};
 use b2_boot::{Boot, BootErr, BootPartition, BootPlatter, BootPrinter, BootTerminal, boot_of};
-use b2_cases::{Cells, bytes_of, small_of, str_of};
-use std::alloc::Global;
-use std::fmt::Write;
+use b2_cases::{Sheet, small_of, str_of};
 
 /// The line `T`.
 const TERMINAL: &[u8] = b"terminal=[{number=1,front=1}]";
@@ -108,186 +103,178 @@ fn file_named(name: &[u8]) -> &'static [u8] {
 }
 
 /// The boot of a name, None where there is none.
-pub fn named(alloc: Global, name: &[u8]) -> Result<Option<Boot>, NoMemory>
-    ensures start { IfOk result (λ found. IfSome found CanStart) }
-{
-    match boot_of(alloc, file_named(name)) {
-        Ok(boot) => Ok(Some(boot)),
-        Err(BootErr::Check(_)) => Ok(None),
-        Err(BootErr::NoMemory) => Err(NoMemory),
+pub fn named(sheet: &mut Sheet<'_>, name: &[u8]) -> Option<Boot> {
+    match boot_of(sheet.alloc(), file_named(name)) {
+        Ok(boot) => Some(boot),
+        Err(BootErr::Check(_)) => None,
+        Err(BootErr::NoMemory) => {
+            sheet.no_memory();
+            None
+        }
     }
 }
 
 /// What is said where there is no such boot.
-pub fn no_boot(alloc: Global) -> Result<String, NoMemory> {
-    Ok(format!(in alloc; "no such boot")?)
+pub fn no_boot(sheet: &mut Sheet<'_>) {
+    sheet.show("no such boot");
 }
 
 /// Shows a terminal and who is in front of it.
-fn show_terminal(into: &mut String, terminal: &BootTerminal) -> Result<(), NoMemory> {
-    let number = terminal.number.number();
-    let front = terminal.front.number();
-    write!(into, ", terminal {number} front {front}")?;
-    Ok(())
-}
-
-/// Shows a partition, where it is and the sizes of its areas.
-fn show_partition(into: &mut String, partition: &BootPartition) -> Result<(), NoMemory> {
-    let number = partition.number.number();
-    let terminal = partition.terminal.number();
-    write!(into, ", partition {number} terminal {terminal}")?;
-    let text = partition.text;
-    let data = partition.vars;
-    let globals = partition.globals;
-    write!(into, " text {text} data {data} globals {globals}")?;
-    if let Some(disk) = partition.disk {
-        write!(into, " disk ")?;
-        show_address(into, disk)?;
-    }
-    if let Some(name) = partition.program {
-        show_name(into, name)?;
-    }
-    Ok(())
-}
-
-/// Shows a program's name with all its blanks.
-fn show_name(into: &mut String, name: Name8) -> Result<(), NoMemory> {
-    let padded = name.bytes();
-    let shown = str_of(&padded);
-    write!(into, " program \"{shown}\"")?;
-    Ok(())
+fn show_terminal(sheet: &mut Sheet<'_>, terminal: &BootTerminal) {
+    show_count(sheet, ", terminal ", u64::from(terminal.number.number()));
+    show_count(sheet, " front ", u64::from(terminal.front.number()));
 }
 
 /// Shows an address.
-fn show_address(into: &mut String, address: Addr) -> Result<(), NoMemory> {
-    let digits = address.bytes();
-    into.push_str(str_of(&digits))?;
-    Ok(())
+fn show_address(sheet: &mut Sheet<'_>, address: Addr) {
+    sheet.show_letters(&address.bytes());
+}
+
+/// Shows a partition, where it is and the sizes of its areas; its disk, and the name of its program with all blanks.
+fn show_partition(sheet: &mut Sheet<'_>, partition: &BootPartition) {
+    show_count(sheet, ", partition ", u64::from(partition.number.number()));
+    show_count(sheet, " terminal ", u64::from(partition.terminal.number()));
+    show_count(sheet, " text ", u64::from(partition.text));
+    show_count(sheet, " data ", u64::from(partition.vars));
+    show_count(sheet, " globals ", u64::from(partition.globals));
+    if let Some(disk) = partition.disk {
+        sheet.show(" disk ");
+        show_address(sheet, disk);
+    }
+    if let Some(name) = partition.program {
+        sheet.show(" program \"");
+        sheet.show_letters(&name.bytes());
+        sheet.show("\"");
+    }
 }
 
 /// Shows a platter, and its image or how many sectors it has.
-fn show_platter(into: &mut String, platter: &BootPlatter) -> Result<(), NoMemory> {
-    write!(into, ", platter ")?;
-    show_address(into, platter.address)?;
+fn show_platter(sheet: &mut Sheet<'_>, platter: &BootPlatter) {
+    sheet.show(", platter ");
+    show_address(sheet, platter.address);
     if let Some(name) = &platter.image {
-        write!(into, " image ")?;
-        into.push_str(str_of(name.bytes()))?;
+        sheet.show(" image ");
+        sheet.show_letters(name.bytes());
     }
     if let Some(sectors) = platter.blank {
-        write!(into, " blank {sectors}")?;
+        show_count(sheet, " blank ", u64::from(sectors));
     }
-    show_only(into, platter.only)
+    show_only(sheet, platter.only);
 }
 
 /// Shows a printer.
-fn show_printer(into: &mut String, printer: &BootPrinter) -> Result<(), NoMemory> {
-    write!(into, ", printer ")?;
-    show_address(into, printer.address)?;
-    show_only(into, printer.only)
+fn show_printer(sheet: &mut Sheet<'_>, printer: &BootPrinter) {
+    sheet.show(", printer ");
+    show_address(sheet, printer.address);
+    show_only(sheet, printer.only);
 }
 
 /// Shows for whom a device is, where it is for one partition alone.
-fn show_only(into: &mut String, only: Option<Part>) -> Result<(), NoMemory> {
+fn show_only(sheet: &mut Sheet<'_>, only: Option<Part>) {
     if let Some(part) = only {
-        let number = part.number();
-        write!(into, " for {number}")?;
+        show_count(sheet, " for ", u64::from(part.number()));
     }
-    Ok(())
 }
 
-/// What a boot says.
-fn said_by(alloc: Global, boot: &Boot) -> Result<String, NoMemory> {
-    let quota = boot.quota;
-    let mut shown = format!(in alloc; "quota {quota}")?;
+/// Shows the terminals and the partitions of a boot.
+fn show_desks(sheet: &mut Sheet<'_>, boot: &Boot) {
     for terminal in &boot.terminals {
-        show_terminal(&mut shown, terminal)?;
+        show_terminal(sheet, terminal);
     }
     for partition in &boot.partitions {
-        show_partition(&mut shown, partition)?;
+        show_partition(sheet, partition);
     }
+}
+
+/// Shows the devices of a boot.
+fn show_devices(sheet: &mut Sheet<'_>, boot: &Boot) {
     for platter in &boot.platters {
-        show_platter(&mut shown, platter)?;
+        show_platter(sheet, platter);
     }
     for printer in &boot.printers {
-        show_printer(&mut shown, printer)?;
+        show_printer(sheet, printer);
     }
-    Ok(shown)
+}
+
+/// Shows what a boot says.
+fn show_boot(sheet: &mut Sheet<'_>, boot: &Boot) {
+    show_count(sheet, "quota ", u64::from(boot.quota));
+    show_desks(sheet, boot);
+    show_devices(sheet, boot);
 }
 
 /// Appends the line that a cell stands for.
-fn push_line(alloc: Global, file: &mut Vec<u8>, cell: &[u8]) -> Result<(), NoMemory> {
+fn push_line(sheet: &mut Sheet<'_>, file: &mut Vec<u8>, cell: &[u8]) {
     match str_of(cell) {
-        "T" => file.extend_from_slice(TERMINAL)?,
-        "P" => file.extend_from_slice(PARTITION)?,
-        "D" => file.extend_from_slice(ON_DISK)?,
-        _ => file.extend_from_slice(&bytes_of(alloc, cell)?)?,
+        "T" => sheet.append(file, TERMINAL),
+        "P" => sheet.append(file, PARTITION),
+        "D" => sheet.append(file, ON_DISK),
+        _ => {
+            let bytes = sheet.spelled(cell);
+            sheet.append(file, &bytes);
+        }
     }
-    Ok(())
 }
 
 /// The file of the lines in the cells, with a newline between two.
-fn file_of(alloc: Global, row: Cells<'_>) -> Result<Vec<u8>, NoMemory> {
-    let mut cells = row;
-    let mut file = Vec::new(alloc);
+fn file_of(sheet: &mut Sheet<'_>) -> Vec<u8> {
+    let mut file = Vec::new(sheet.alloc());
     for line in 0..u64::MAX {
-        if cells.is_empty() {
+        if sheet.is_empty() {
             break;
         }
         if line > 0 {
-            file.push(b'\n')?;
+            sheet.append(&mut file, b"\n");
         }
-        push_line(alloc, &mut file, cells.next())?;
+        let cell = sheet.cell();
+        push_line(sheet, &mut file, cell);
     }
-    Ok(file)
+    file
 }
 
 /// The boot of a file, or the first check that it fails.
-pub fn read(alloc: Global, row: Cells<'_>) -> Result<String, NoMemory> {
-    match boot_of(alloc, &file_of(alloc, row)?) {
-        Ok(boot) => said_by(alloc, &boot),
-        Err(BootErr::Check(check)) => Ok(format!(in alloc; "check {check}")?),
-        Err(BootErr::NoMemory) => Err(NoMemory),
+pub fn read(sheet: &mut Sheet<'_>) {
+    let file = file_of(sheet);
+    match boot_of(sheet.alloc(), &file) {
+        Ok(boot) => show_boot(sheet, &boot),
+        Err(BootErr::Check(check)) => show_count(sheet, "check ", u64::from(check)),
+        Err(BootErr::NoMemory) => sheet.no_memory(),
     }
 }
 
-/// The partitions of the numbers in a cell, None where one is no partition's.
-fn group_of(alloc: Global, cell: &[u8]) -> Result<Option<Vec<Part>>, NoMemory> {
-    let mut group = Vec::new(alloc);
+/// The partitions of the numbers in a cell. One that is no partition's is misread.
+fn group_of(sheet: &mut Sheet<'_>) -> Vec<Part> {
+    let mut group = Vec::new(sheet.alloc());
+    let cell = sheet.cell();
     let mut left = cell;
     for _ in 0..cell.len() {
         if left.is_empty() {
             break;
         }
         let (number, rest) = word(left);
-        let Some(part) = Part::of(small_of(number)) else {
-            return Ok(None);
-        };
-        group.push(part)?;
+        match Part::of(small_of(number)) {
+            Some(part) => sheet.push(&mut group, part),
+            None => sheet.misread(),
+        }
         left = rest;
     }
-    Ok(Some(group))
+    group
 }
 
-/// A boot with the group of the next cell alone, None where that is misspelled.
-#[tactic(auto, using(b2_sched::proofs::BootDevices::starts_alone))]
-pub fn alone_of(alloc: Global, boot: &Boot, cells: &mut Cells<'_>) -> Result<Option<Boot>, NoMemory>
-    requires start { CanStart boot.now }
-    ensures start { IfOk result (λ found. IfSome found CanStart) }
-{
-    match group_of(alloc, cells.next())? {
-        Some(group) => Ok(Some(boot.alone(alloc, &group)?)),
-        None => Ok(None),
+/// Shows a boot with the group of the next cell alone.
+fn show_alone(sheet: &mut Sheet<'_>, boot: &Boot) {
+    let group = group_of(sheet);
+    match boot.alone(sheet.alloc(), &group) {
+        Ok(alone) => show_boot(sheet, &alone),
+        Err(NoMemory) => sheet.no_memory(),
     }
 }
 
 /// The boot of a name with a group alone.
-pub fn left_alone(alloc: Global, row: Cells<'_>) -> Result<String, NoMemory> {
-    let mut cells = row;
-    let Some(boot) = named(alloc, cells.next())? else {
-        return no_boot(alloc);
-    };
-    match alone_of(alloc, &boot, &mut cells)? {
-        Some(alone) => said_by(alloc, &alone),
-        None => no_boot(alloc),
+pub fn left_alone(sheet: &mut Sheet<'_>) {
+    let name = sheet.cell();
+    match named(sheet, name) {
+        Some(boot) => show_alone(sheet, &boot),
+        None => no_boot(sheet),
     }
 }

@@ -2,22 +2,16 @@
 //
 // `1 hold ADDRESS,..` takes all of these devices or none, `1 free ADDRESS,..` frees those of them that are the own, and `1 print ADDRESS
 // BYTES` prints.
-ghost use Rattle.std.specs.Prelude.{IfOk, IfSome};
+ghost use Rattle.std.specs.Prelude.{IfSome};
 ghost use Rattle.b2_access.specs.Touching.{IsLegal};
 
 use crate::pieces::word;
 use b2_access::Access;
-use b2_base::{Addr, AddrList, ByteList, NoMemory, cut};
-use b2_cases::bytes_of;
-use std::alloc::Global;
+use b2_base::{Addr, AddrList, ByteList, cut};
+use b2_cases::Sheet;
 
 /// How many addresses a list has at most.
 const MOST: usize = 12;
-
-/// Whether a word names one of these accesses.
-pub fn is_device_access(kind: &str) -> bool {
-    matches!(kind, "hold" | "free" | "print")
-}
 
 /// Addresses with commas between them, None where one is misspelled or there are too many.
 fn addresses_of(spelled: &[u8]) -> Option<AddrList> {
@@ -38,33 +32,25 @@ fn addresses_of(spelled: &[u8]) -> Option<AddrList> {
 }
 
 /// An access that prints, None where it is misspelled.
-fn printing(alloc: Global, spelled: &[u8]) -> Result<Option<Access>, NoMemory>
-    ensures { IfOk result (λ found. IfSome found IsLegal) }
+pub fn printing(sheet: &mut Sheet<'_>, spelled: &[u8]) -> Option<Access>
+    ensures { IfSome result IsLegal }
 {
     let (address, text) = word(spelled);
-    let Some(addr) = Addr::of(address) else {
-        return Ok(None);
-    };
-    Ok(Some(Access::PrintTo {
+    let addr = Addr::of(address)?;
+    Some(Access::PrintTo {
         addr,
-        bytes: ByteList::new(bytes_of(alloc, text)?),
+        bytes: ByteList::new(sheet.spelled(text)),
         column: 0,
-    }))
+    })
 }
 
-/// One of these accesses, None where it is misspelled.
-pub fn access_of(alloc: Global, kind: &str, rest: &[u8]) -> Result<Option<Access>, NoMemory>
-    ensures { IfOk result (λ found. IfSome found IsLegal) }
+/// An access that takes or frees devices, None where it is misspelled.
+pub fn taking(kind: &str, rest: &[u8]) -> Option<Access>
+    ensures { IfSome result IsLegal }
 {
+    let addrs = addresses_of(rest)?;
     match kind {
-        "print" => printing(alloc, rest),
-        "hold" => Ok(match addresses_of(rest) {
-            Some(addrs) => Some(Access::OpenDevices { addrs }),
-            None => None,
-        }),
-        _ => Ok(match addresses_of(rest) {
-            Some(addrs) => Some(Access::CloseDevices { addrs }),
-            None => None,
-        }),
+        "hold" => Some(Access::OpenDevices { addrs }),
+        _ => Some(Access::CloseDevices { addrs }),
     }
 }

@@ -3,100 +3,80 @@
 // `log | LINE | ..`: the events of a log of these lines over the boot `three`, or the first line that fails a check and its first
 // check. An empty cell in the end is a newline after the last line.
 use crate::boots::{named, no_boot};
-use crate::pieces::{show_named, text_of};
-use b2_base::NoMemory;
+use crate::pieces::{show_count, text_of};
 use b2_boot::{Boot, Event, LogErr, log_of};
-use b2_cases::Cells;
+use b2_cases::Sheet;
 use b2_term::KeyItem;
-use std::alloc::Global;
-use std::fmt::Write;
 
 /// The most bytes that a log may have.
 const LONGEST_LOG: usize = 4194304;
 
-/// The events of a log, or what is said where it isn't one.
-pub enum Log {
-    Events(Vec<Event>),
-    Refused(String),
-}
-
-/// The events of the lines in the cells that are left, over a boot.
-pub fn log_over(alloc: Global, cells: &mut Cells<'_>, boot: &Boot) -> Result<Log, NoMemory> {
-    let text = text_of(alloc, cells)?;
-    if text.len() > LONGEST_LOG {
-        return Ok(Log::Refused(format!(in alloc; "too long")?));
-    }
-    match log_of(alloc, &text, boot) {
-        Ok(events) => Ok(Log::Events(events)),
-        Err(LogErr::Line(line, check)) => {
-            let said = format!(in alloc; "line {line} check {check}")?;
-            Ok(Log::Refused(said))
-        }
-        Err(LogErr::NoMemory) => Err(NoMemory),
-    }
-}
-
 /// Shows a key at a terminal.
-fn show_key(alloc: Global, into: &mut String, terminal: u8, key: KeyItem) -> Result<(), NoMemory> {
+fn show_key(sheet: &mut Sheet<'_>, terminal: u8, key: KeyItem) {
     match key {
         KeyItem::Byte(byte) => {
-            let name = format!(in alloc; "key {terminal}")?;
-            show_named(into, name.as_str(), &[byte])?;
+            show_count(sheet, "key ", u64::from(terminal));
+            sheet.show(" ");
+            sheet.show_bytes(&[byte]);
         }
-        KeyItem::Special(n) => write!(into, "special {terminal} {n}")?,
+        KeyItem::Special(n) => {
+            show_count(sheet, "special ", u64::from(terminal));
+            show_count(sheet, " ", u64::from(n));
+        }
     }
-    Ok(())
 }
 
 /// Shows an event.
-fn show_event(alloc: Global, into: &mut String, event: Event) -> Result<(), NoMemory> {
+fn show_event(sheet: &mut Sheet<'_>, event: Event) {
     match event {
-        Event::Key(terminal, key) => show_key(alloc, into, terminal.number(), key)?,
+        Event::Key(terminal, key) => show_key(sheet, terminal.number(), key),
         Event::Front(terminal, part) => {
-            let terminal = terminal.number();
-            let part = part.number();
-            write!(into, "front {terminal} {part}")?;
+            show_count(sheet, "front ", u64::from(terminal.number()));
+            show_count(sheet, " ", u64::from(part.number()));
         }
-        Event::Halt(part) => {
-            let part = part.number();
-            write!(into, "halt {part}")?;
-        }
-        Event::Reset(part) => {
-            let part = part.number();
-            write!(into, "reset {part}")?;
-        }
+        Event::Halt(part) => show_count(sheet, "halt ", u64::from(part.number())),
+        Event::Reset(part) => show_count(sheet, "reset ", u64::from(part.number())),
         Event::Turn(part, quota) => {
-            let part = part.number();
-            write!(into, "turn {part} {quota}")?;
+            show_count(sheet, "turn ", u64::from(part.number()));
+            show_count(sheet, " ", u64::from(quota));
         }
-        Event::Rounds(n) => write!(into, "rounds {n}")?,
+        Event::Rounds(n) => show_count(sheet, "rounds ", u64::from(n)),
     }
-    Ok(())
 }
 
-/// The events as a row shows them.
-fn said_by(alloc: Global, events: &[Event]) -> Result<String, NoMemory> {
-    let mut shown = String::new(alloc);
+/// Shows the events.
+fn show_events(sheet: &mut Sheet<'_>, events: &[Event]) {
     if events.is_empty() {
-        shown.push_str("nothing")?;
+        sheet.show("nothing");
     }
     for (place, event) in events.iter().enumerate() {
         if place > 0 {
-            shown.push_str(", ")?;
+            sheet.show(", ");
         }
-        show_event(alloc, &mut shown, *event)?;
+        show_event(sheet, *event);
     }
-    Ok(shown)
+}
+
+/// Shows the events of a log over a boot, or why it isn't one.
+fn show_log(sheet: &mut Sheet<'_>, text: &[u8], boot: &Boot) {
+    if text.len() > LONGEST_LOG {
+        return sheet.misread();
+    }
+    match log_of(sheet.alloc(), text, boot) {
+        Ok(events) => show_events(sheet, &events),
+        Err(LogErr::Line(line, check)) => {
+            show_count(sheet, "line ", u64::from(line));
+            show_count(sheet, " check ", u64::from(check));
+        }
+        Err(LogErr::NoMemory) => sheet.no_memory(),
+    }
 }
 
 /// The events of a log, or what is said where it isn't one.
-pub fn read(alloc: Global, row: Cells<'_>) -> Result<String, NoMemory> {
-    let mut cells = row;
-    let Some(boot) = named(alloc, b"three")? else {
-        return no_boot(alloc);
-    };
-    match log_over(alloc, &mut cells, &boot)? {
-        Log::Events(events) => said_by(alloc, &events),
-        Log::Refused(said) => Ok(said),
+pub fn read(sheet: &mut Sheet<'_>) {
+    let text = text_of(sheet);
+    match named(sheet, b"three") {
+        Some(boot) => show_log(sheet, &text, &boot),
+        None => no_boot(sheet),
     }
 }

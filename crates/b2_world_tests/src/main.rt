@@ -1,12 +1,13 @@
-//! Rows of the calls on what partitions share and on worlds of them: terminals, boot files and logs, what a partition has for
-//! itself, the store and the watch around it, worlds, and the screen that a transcript leaves. The file `stdin` has the rows, each
-//! a line as `b2_cases` reads it.
+//! Rows of the calls on what partitions share: terminals, boot files and logs, what a partition has for itself, the store and the
+//! watch around it, and the screen that a transcript leaves. What whole worlds do stands in the runs of `tests/`. The file `stdin`
+//! has the rows, each a line as `b2_cases` reads it.
 #![tactic(auto)]
 
+mod accesses;
 mod boots;
 mod devices;
-mod files;
 mod images;
+mod lending;
 mod logs;
 mod partitions;
 mod pieces;
@@ -15,47 +16,37 @@ mod screens;
 mod stores;
 mod terminals;
 mod texts;
-mod worlds;
 
-use b2_base::NoMemory;
-use b2_cases::{Calls, Cells, str_of, try_rows};
+use b2_cases::{Calls, Cells, Sheet, str_of, try_rows};
 use std::alloc::{AllocError, Global};
 use std::io;
 
 struct WorldCalls;
 
-/// What a call gives.
-fn called(alloc: Global, call: &str, cells: Cells<'_>) -> Result<String, NoMemory> {
+/// Makes the call of that name.
+fn answer(call: &str, sheet: &mut Sheet<'_>) {
     match call {
-        "terminal" => terminals::called(alloc, cells),
-        "boot" => boots::read(alloc, cells),
-        "alone" => boots::left_alone(alloc, cells),
-        "log" => logs::read(alloc, cells),
-        "device" => partitions::device(alloc, cells),
-        "partition" => partitions::at_start(alloc, cells),
-        "start" => partitions::at_line(alloc, cells),
-        "disk" => partitions::disks_at_start(alloc, cells),
-        "after" => places::after_unit(alloc, cells),
-        "goal" => places::at_goal(alloc, cells),
-        "store" => stores::called(alloc, cells),
-        "image" => stores::called_over_image(alloc, cells),
-        "world" => worlds::shown(alloc, cells),
-        "clean" => worlds::cleanness(alloc, cells),
-        "alone_world" => worlds::shown_alone(alloc, cells),
-        "other_log" => worlds::shown_by_another(alloc, cells),
-        "disks" => worlds::platters_shown(alloc, cells),
-        "printouts" => worlds::printouts(alloc, cells),
-        "screen" => screens::fed(alloc, cells),
-        _ => Ok(format!(in alloc; "no such call")?),
+        "terminal" => terminals::called(sheet),
+        "boot" => boots::read(sheet),
+        "alone" => boots::left_alone(sheet),
+        "log" => logs::read(sheet),
+        "device" => partitions::device(sheet),
+        "partition" | "start" | "disk" => partitions::started(call, sheet),
+        "after" => places::after_unit(sheet),
+        "goal" => places::at_goal(sheet),
+        "store" => stores::called(sheet),
+        "image" => stores::called_over_image(sheet),
+        "lent" => lending::called(sheet),
+        "screen" => screens::fed(sheet),
+        _ => sheet.no_such_call(),
     }
 }
 
 impl Calls for WorldCalls {
     fn given(alloc: Global, call: &[u8], cells: Cells<'_>) -> Result<String, AllocError> {
-        match called(alloc, str_of(call), cells) {
-            Ok(shown) => Ok(shown),
-            Err(NoMemory) => format!(in alloc; "no memory"),
-        }
+        let mut sheet = Sheet::new(alloc, cells);
+        answer(str_of(call), &mut sheet);
+        sheet.finish()
     }
 }
 

@@ -12,16 +12,14 @@
 ghost use Rattle.std.specs.Prelude.{◌≡◌, true};
 ghost use Rattle.b2_base.specs.Names.{is_address};
 
-use crate::pieces::show_named;
-use crate::places::said_of;
+use crate::pieces::{show_count, show_named};
+use crate::places::{line_spelled, show_place};
 use b2_access::{Device, DeviceTable, Private};
 use b2_atom::Atoms;
 use b2_base::{Addr, NoMemory, Part, Term};
-use b2_cases::shown::{show_bytes, show_truth};
-use b2_cases::{Cells, bytes_of, small_of, str_of, whole_of};
+use b2_cases::{Sheet, small_of, str_of, whole_of};
 use b2_dec::Mode;
 use std::alloc::Global;
-use std::fmt::Write;
 
 /// The address of three digits.
 fn address(digits: &[u8]) -> Addr
@@ -60,68 +58,70 @@ fn four_devices(alloc: Global) -> Result<DeviceTable, NoMemory> {
     Ok(DeviceTable::new(rows))
 }
 
+/// Shows a text, and whether something holds.
+fn show_whether(sheet: &mut Sheet<'_>, text: &str, holds: bool) {
+    sheet.show(text);
+    sheet.show_truth(holds);
+}
+
 /// What a partition may use at an address.
-pub fn device(alloc: Global, row: Cells<'_>) -> Result<String, NoMemory> {
-    let mut cells = row;
-    let who = Part::of(small_of(cells.next()));
-    let (Some(who), Some(address)) = (who, Addr::of(cells.next())) else {
-        return Ok(format!(in alloc; "no such device")?);
+pub fn device(sheet: &mut Sheet<'_>) {
+    let Some(who) = Part::of(small_of(sheet.cell())) else {
+        return sheet.misread();
     };
-    let devices = four_devices(alloc)?;
-    let mut shown = String::new(alloc);
-    shown.push_str("platter ")?;
-    show_truth(&mut shown, devices.platter(who, address))?;
-    shown.push_str(", printer ")?;
-    show_truth(&mut shown, devices.printer(who, address))?;
-    Ok(shown)
+    let Some(address) = Addr::of(sheet.cell()) else {
+        return sheet.misread();
+    };
+    let Ok(devices) = four_devices(sheet.alloc()) else {
+        return sheet.no_memory();
+    };
+    show_whether(sheet, "platter ", devices.platter(who, address));
+    show_whether(sheet, ", printer ", devices.printer(who, address));
 }
 
 /// Shows where a partition runs, and what it keeps.
-fn show_places(into: &mut String, me: &Private) -> Result<(), NoMemory> {
-    into.push_str(", runs ")?;
-    show_truth(into, me.place.is_some())?;
-    into.push_str(", kept ")?;
-    show_truth(into, me.kept.is_some())?;
-    into.push_str(", immediate line ")?;
-    show_truth(into, me.immediate.is_some())?;
-    Ok(())
+fn show_places(sheet: &mut Sheet<'_>, me: &Private) {
+    show_whether(sheet, ", runs ", me.place.is_some());
+    show_whether(sheet, ", kept ", me.kept.is_some());
+    show_whether(sheet, ", immediate line ", me.immediate.is_some());
 }
 
 /// Shows its mode, its counts, its variables and its frames.
-fn show_counts(into: &mut String, me: &Private) -> Result<(), NoMemory> {
-    into.push_str(match me.mode {
+fn show_counts(sheet: &mut Sheet<'_>, me: &Private) {
+    sheet.show(match me.mode {
         Mode::Round => ", rounds",
         Mode::Cut => ", cuts",
-    })?;
-    let last = me.last;
-    let column = me.term_column;
-    write!(into, ", last {last}, column {column}")?;
-    let used = me.vars.count();
-    let frames = me.stack.len();
-    write!(into, ", variables {used}, frames {frames}")?;
-    Ok(())
+    });
+    show_count(sheet, ", last ", u64::from(me.last));
+    show_count(sheet, ", column ", u64::from(me.term_column));
+    show_count(sheet, ", variables ", me.vars.count() as u64);
+    show_count(sheet, ", frames ", me.stack.len() as u64);
 }
 
 /// Shows what waits to be shown.
-fn show_pending(into: &mut String, me: &Private) -> Result<(), NoMemory> {
+fn show_pending(sheet: &mut Sheet<'_>, me: &Private) {
     match &me.pending {
         Some((device, bytes)) => {
-            into.push_str(", waits ")?;
-            show_bytes(into, &device.bytes())?;
-            show_named(into, "", bytes.bytes())?;
+            sheet.show(", waits ");
+            sheet.show_letters(&device.bytes());
+            show_named(sheet, "", bytes.bytes());
         }
-        None => into.push_str(", nothing waits")?,
+        None => sheet.show(", nothing waits"),
     }
-    Ok(())
 }
 
 /// Shows its flags.
-fn show_flags(into: &mut String, me: &Private) -> Result<(), NoMemory> {
-    into.push_str(", halt ")?;
-    show_truth(into, me.halt)?;
-    into.push_str(" reset ")?;
-    show_truth(into, me.reset)?;
-    Ok(())
+fn show_flags(sheet: &mut Sheet<'_>, me: &Private) {
+    show_whether(sheet, ", halt ", me.halt);
+    show_whether(sheet, " reset ", me.reset);
+}
+
+/// Shows all of these.
+fn show_all(sheet: &mut Sheet<'_>, me: &Private) {
+    show_places(sheet, me);
+    show_counts(sheet, me);
+    show_pending(sheet, me);
+    show_flags(sheet, me);
 }
 
 /// Asks for a halt or a reset.
@@ -133,73 +133,101 @@ fn ask(me: &mut Private, flag: &[u8]) {
     }
 }
 
-/// Shows all of these.
-fn show_all(into: &mut String, me: &Private) -> Result<(), NoMemory> {
-    show_places(into, me)?;
-    show_counts(into, me)?;
-    show_pending(into, me)?;
-    show_flags(into, me)
+/// Shows a partition that starts with a line: where it is, and what it has.
+fn show_at_line(sheet: &mut Sheet<'_>, me: &Private) {
+    show_place(sheet, &me.place);
+    show_all(sheet, me);
 }
 
-/// A partition that starts with a line.
-pub fn at_line(alloc: Global, row: Cells<'_>) -> Result<String, NoMemory> {
-    let mut cells = row;
-    let Some(part) = Part::of(small_of(cells.next())) else {
-        return Ok(format!(in alloc; "no such partition")?);
-    };
-    let bytes = bytes_of(alloc, cells.next())?;
-    let Some(line) = Atoms::of(alloc, &bytes)? else {
-        return Ok(format!(in alloc; "no line")?);
-    };
-    let me = Private::new(alloc, part, Term::known(1), 2048, Some(line), None)?;
-    let mut shown = said_of(alloc, &me.place)?;
-    show_all(&mut shown, &me)?;
-    Ok(shown)
-}
-
-/// A partition as it starts, and its flags after each that is asked for.
-pub fn at_start(alloc: Global, row: Cells<'_>) -> Result<String, NoMemory> {
-    let mut cells = row;
-    let part = Part::of(small_of(cells.next()));
-    let term = Term::of(small_of(cells.next()));
-    let (Some(part), Some(term)) = (part, term) else {
-        return Ok(format!(in alloc; "no such partition")?);
-    };
-    let area = whole_of(cells.next()) as usize;
-    let mut me = Private::new(alloc, part, term, area, None, None)?;
-    let number = me.part.number();
-    let terminal = me.term.number();
-    let mut shown = format!(in alloc; "partition {number} at {terminal}")?;
-    show_all(&mut shown, &me)?;
+/// Shows a partition, and its flags after each that is asked for.
+fn show_asked(sheet: &mut Sheet<'_>, me: &mut Private) {
+    show_count(sheet, "partition ", u64::from(me.part.number()));
+    show_count(sheet, " at ", u64::from(me.term.number()));
+    show_all(sheet, me);
     for _ in 0..u64::MAX {
-        if cells.is_empty() {
+        if sheet.is_empty() {
             break;
         }
-        ask(&mut me, cells.next());
-        show_flags(&mut shown, &me)?;
+        ask(me, sheet.cell());
+        show_flags(sheet, me);
     }
-    Ok(shown)
 }
 
 /// Shows a disk, where there is one.
-fn show_disk(into: &mut String, name: &str, disk: Option<Addr>) -> Result<(), NoMemory> {
-    into.push_str(name)?;
+fn show_disk(sheet: &mut Sheet<'_>, name: &str, disk: Option<Addr>) {
+    sheet.show(name);
     match disk {
-        Some(address) => into.push_str(str_of(&address.bytes()))?,
-        None => into.push_str("none")?,
+        Some(address) => sheet.show_letters(&address.bytes()),
+        None => sheet.show("none"),
     }
-    Ok(())
 }
 
-/// The disks of a partition as it starts.
-pub fn disks_at_start(alloc: Global, row: Cells<'_>) -> Result<String, NoMemory> {
-    let mut cells = row;
-    let Some(part) = Part::of(small_of(cells.next())) else {
-        return Ok(format!(in alloc; "no such partition")?);
+/// Shows the disks of a partition.
+fn show_disks(sheet: &mut Sheet<'_>, me: &Private) {
+    show_disk(sheet, "disk ", me.disk);
+    show_disk(sheet, ", at first ", me.boot_disk);
+}
+
+/// Shows what a call wants of a partition.
+fn show_start(call: &str, sheet: &mut Sheet<'_>, me: &mut Private) {
+    match call {
+        "partition" => show_asked(sheet, me),
+        "start" => show_at_line(sheet, me),
+        _ => show_disks(sheet, me),
+    }
+}
+
+/// A partition at a terminal as it starts with a line, and on a disk.
+fn start(
+    call: &str,
+    sheet: &mut Sheet<'_>,
+    who: (Part, Term),
+    area: usize,
+    line: Option<Atoms>,
+    disk: Option<Addr>,
+) {
+    match Private::new(sheet.alloc(), who.0, who.1, area, line, disk) {
+        Ok(mut me) => show_start(call, sheet, &mut me),
+        Err(NoMemory) => sheet.no_memory(),
+    }
+}
+
+/// A partition as it starts. A line that isn't spelled is told.
+pub fn started(call: &str, sheet: &mut Sheet<'_>) {
+    let Some(part) = Part::of(small_of(sheet.cell())) else {
+        return sheet.misread();
     };
-    let me = Private::new(alloc, part, Term::known(1), 0, None, Addr::of(cells.next()))?;
-    let mut shown = String::new(alloc);
-    show_disk(&mut shown, "disk ", me.disk)?;
-    show_disk(&mut shown, ", at first ", me.boot_disk)?;
-    Ok(shown)
+    match call {
+        "partition" => at_terminal(sheet, part),
+        "start" => with_line(sheet, part),
+        _ => {
+            let disk = Addr::of(sheet.cell());
+            start(call, sheet, (part, Term::known(1)), 0, None, disk);
+        }
+    }
+}
+
+/// The same at the terminal and with the area of the next cells.
+fn at_terminal(sheet: &mut Sheet<'_>, part: Part) {
+    let Some(term) = Term::of(small_of(sheet.cell())) else {
+        return sheet.misread();
+    };
+    let area = whole_of(sheet.cell()) as usize;
+    start("partition", sheet, (part, term), area, None, None);
+}
+
+/// The same with the line of the bytes in the next cell.
+fn with_line(sheet: &mut Sheet<'_>, part: Part) {
+    let bytes = sheet.bytes();
+    match line_spelled(sheet, &bytes) {
+        Some(line) => start(
+            "start",
+            sheet,
+            (part, Term::known(1)),
+            2048,
+            Some(line),
+            None,
+        ),
+        None => sheet.show("no line"),
+    }
 }

@@ -1,8 +1,6 @@
 // The words of a cell, and what the drivers show in the same way.
-use b2_base::{NoMemory, cut};
-use b2_cases::shown::show_bytes;
-use b2_cases::{Cells, bytes_of};
-use std::alloc::Global;
+use b2_base::cut;
+use b2_cases::Sheet;
 
 /// The first word of a text, and what follows the blank after it.
 pub fn word(text: &[u8]) -> (&[u8], &[u8]) {
@@ -11,24 +9,30 @@ pub fn word(text: &[u8]) -> (&[u8], &[u8]) {
 }
 
 /// The cells that are left as lines of a text, with a newline between two.
-pub fn text_of(alloc: Global, cells: &mut Cells<'_>) -> Result<Vec<u8>, NoMemory> {
-    let mut text = Vec::new(alloc);
+pub fn text_of(sheet: &mut Sheet<'_>) -> Vec<u8> {
+    let mut text = Vec::new(sheet.alloc());
     for line in 0..u64::MAX {
-        if cells.is_empty() {
+        if sheet.is_empty() {
             break;
         }
         if line > 0 {
-            text.push(b'\n')?;
+            sheet.append(&mut text, b"\n");
         }
-        text.extend_from_slice(&bytes_of(alloc, cells.next())?)?;
+        let bytes = sheet.bytes();
+        sheet.append(&mut text, &bytes);
     }
-    Ok(text)
+    text
 }
 
-/// Appends a name, and bytes after a blank.
-pub fn show_named(into: &mut String, name: &str, bytes: &[u8]) -> Result<(), NoMemory> {
-    into.push_str(name)?;
-    into.push(' ')?;
-    show_bytes(into, bytes)?;
-    Ok(())
+/// Shows a name, and bytes after a blank.
+pub fn show_named(sheet: &mut Sheet<'_>, name: &str, bytes: &[u8]) {
+    sheet.show(name);
+    sheet.show(" ");
+    sheet.show_bytes(bytes);
+}
+
+/// Shows a text, and a number after it.
+pub fn show_count(sheet: &mut Sheet<'_>, text: &str, number: u64) {
+    sheet.show(text);
+    sheet.show_number(number);
 }

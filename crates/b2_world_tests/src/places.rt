@@ -6,38 +6,48 @@
 ghost use Rattle.std.specs.Prelude.{◌≡◌, ◌≤◌, IfSome};
 ghost use Rattle.b2_access.specs.Places.{IsUnit};
 
-use crate::pieces::word;
+use crate::pieces::{show_count, word};
 use b2_access::{goal_place, place_after};
 use b2_atom::Atoms;
 use b2_base::{NoMemory, Part};
-use b2_cases::{Cells, number_of, small_of, str_of};
+use b2_cases::{Sheet, number_of, small_of, str_of};
 use b2_flow::Place;
 use b2_rows::Goal;
 use b2_text::Text;
-use std::alloc::Global;
 
 /// How many bytes the area of the text has.
 const AREA: usize = 2048;
 
-/// Puts a line into a text, and says whether it is there now.
-fn put_line(alloc: Global, text: &mut Text, number: u16, source: &[u8]) -> Result<bool, NoMemory>
-    requires { number ≤ 9999 }
-{
-    let Some(atoms) = Atoms::of(alloc, source)? else {
-        return Ok(false);
-    };
-    match text.put(number, &atoms) {
-        Ok(()) => Ok(true),
-        Err(_) => Ok(false),
+/// The line of these bytes, None where they spell none.
+pub fn line_spelled(sheet: &mut Sheet<'_>, bytes: &[u8]) -> Option<Atoms> {
+    match Atoms::of(sheet.alloc(), bytes) {
+        Ok(line) => line,
+        Err(NoMemory) => {
+            sheet.no_memory();
+            None
+        }
     }
 }
 
-/// The text of the two lines, None where one of them wasn't taken.
-fn two_lines(alloc: Global) -> Result<Option<Text>, NoMemory> {
-    let mut text = Text::new(alloc, AREA)?;
-    let first = put_line(alloc, &mut text, 10, b"A=1:B=2")?;
-    let second = put_line(alloc, &mut text, 20, b"C=3")?;
-    Ok(if first && second { Some(text) } else { None })
+/// Puts a line into a text. One that isn't taken is misread.
+fn put_line(sheet: &mut Sheet<'_>, text: &mut Text, number: u16, source: &[u8])
+    requires { number ≤ 9999 }
+{
+    match line_spelled(sheet, source) {
+        Some(atoms) if text.put(number, &atoms).is_ok() => {}
+        _ => sheet.misread(),
+    }
+}
+
+/// The text of the two lines.
+fn two_lines(sheet: &mut Sheet<'_>) -> Option<Text> {
+    let Ok(mut text) = Text::new(sheet.alloc(), AREA) else {
+        sheet.no_memory();
+        return None;
+    };
+    put_line(sheet, &mut text, 10, b"A=1:B=2");
+    put_line(sheet, &mut text, 20, b"C=3");
+    Some(text)
 }
 
 /// The number of the line in a cell, None for the immediate line.
@@ -59,39 +69,34 @@ fn place_of(line: Option<u16>, unit: u8) -> Place
     }
 }
 
-/// Says what a place is.
-pub fn said_of(alloc: Global, place: &Option<Place>) -> Result<String, NoMemory> {
+/// Shows what a place is.
+pub fn show_place(sheet: &mut Sheet<'_>, place: &Option<Place>) {
     let Some(place) = place else {
-        return Ok(format!(in alloc; "none")?);
+        return sheet.show("none");
     };
-    let home = place.home.number();
-    let unit = place.unit;
+    show_count(sheet, "home ", u64::from(place.home.number()));
     match place.line {
-        Some(line) => Ok(format!(in alloc; "home {home} line {line} unit {unit}")?),
-        None => Ok(format!(in alloc; "home {home} immediate line unit {unit}")?),
+        Some(line) => show_count(sheet, " line ", u64::from(line)),
+        None => sheet.show(" immediate line"),
     }
-}
-
-/// What is said where a row is misspelled.
-fn no_place(alloc: Global) -> Result<String, NoMemory> {
-    Ok(format!(in alloc; "no such place")?)
+    show_count(sheet, " unit ", u64::from(place.unit));
 }
 
 /// The place after a unit.
-pub fn after_unit(alloc: Global, row: Cells<'_>) -> Result<String, NoMemory> {
-    let mut cells = row;
-    let line = line_of(cells.next());
-    let unit = small_of(cells.next()).min(254);
-    let Some(atoms) = Atoms::of(alloc, cells.next())? else {
-        return no_place(alloc);
+pub fn after_unit(sheet: &mut Sheet<'_>) {
+    let line = line_of(sheet.cell());
+    let unit = small_of(sheet.cell()).min(254);
+    let source = sheet.cell();
+    let Some(text) = two_lines(sheet) else {
+        return;
     };
-    let Some(text) = two_lines(alloc)? else {
-        return no_place(alloc);
-    };
-    said_of(
-        alloc,
-        &place_after(&text, &atoms.lend(), place_of(line, unit)),
-    )
+    match line_spelled(sheet, source) {
+        Some(atoms) => {
+            let place = place_after(&text, &atoms.lend(), place_of(line, unit));
+            show_place(sheet, &place);
+        }
+        None => sheet.misread(),
+    }
 }
 
 /// The goal in a cell, None where it is misspelled.
@@ -108,15 +113,14 @@ fn goal_of(cell: &[u8]) -> Option<Goal>
 }
 
 /// Where a goal leads.
-pub fn at_goal(alloc: Global, row: Cells<'_>) -> Result<String, NoMemory> {
-    let mut cells = row;
-    let line = line_of(cells.next());
-    let unit = small_of(cells.next());
-    let Some(goal) = goal_of(cells.next()) else {
-        return no_place(alloc);
+pub fn at_goal(sheet: &mut Sheet<'_>) {
+    let line = line_of(sheet.cell());
+    let unit = small_of(sheet.cell());
+    let Some(goal) = goal_of(sheet.cell()) else {
+        return sheet.misread();
     };
-    let Some(text) = two_lines(alloc)? else {
-        return no_place(alloc);
-    };
-    said_of(alloc, &goal_place(&text, place_of(line, unit), goal))
+    if let Some(text) = two_lines(sheet) {
+        let place = goal_place(&text, place_of(line, unit), goal);
+        show_place(sheet, &place);
+    }
 }

@@ -2,20 +2,18 @@
 //
 // `screen | N | BYTES | MORE | ..`: bytes that are shown N times, and bytes after them, a cell for each call. It gives the row
 // and the column of the cursor, and each row that isn't blank by its number, without the blanks at its end.
-use crate::pieces::show_named;
-use b2_base::NoMemory;
-use b2_cases::{Cells, bytes_of, number_of};
+use crate::pieces::show_count;
+use b2_cases::{Sheet, number_of};
 use b2_screen::Screen;
-use std::alloc::Global;
 
 /// Shows the row of this number, where it isn't blank.
-fn show_row(alloc: Global, into: &mut String, number: u8, cells: &[u8]) -> Result<(), NoMemory> {
+fn show_row(sheet: &mut Sheet<'_>, number: u8, cells: &[u8]) {
     let text = cells.trim_ascii_end();
-    if text.is_empty() {
-        return Ok(());
+    if !text.is_empty() {
+        show_count(sheet, ", ", u64::from(number));
+        sheet.show(" ");
+        sheet.show_bytes(text);
     }
-    let name = format!(in alloc; ", {number}")?;
-    show_named(into, name.as_str(), text)
 }
 
 /// Feeds bytes so many times.
@@ -26,27 +24,25 @@ fn feed_again(screen: &mut Screen, times: u16, bytes: &[u8]) {
 }
 
 /// Feeds the bytes of each cell that is left.
-fn feed_cells(alloc: Global, screen: &mut Screen, cells: &mut Cells<'_>) -> Result<(), NoMemory> {
+fn feed_cells(sheet: &mut Sheet<'_>, screen: &mut Screen) {
     for _ in 0..u64::MAX {
-        if cells.is_empty() {
+        if sheet.is_empty() {
             break;
         }
-        screen.feed(&bytes_of(alloc, cells.next())?);
+        screen.feed(&sheet.bytes());
     }
-    Ok(())
 }
 
 /// The screen after the bytes of the cells.
-pub fn fed(alloc: Global, row: Cells<'_>) -> Result<String, NoMemory> {
-    let mut cells = row;
+pub fn fed(sheet: &mut Sheet<'_>) {
     let mut screen = Screen::new();
-    let times = number_of(cells.next());
-    feed_again(&mut screen, times, &bytes_of(alloc, cells.next())?);
-    feed_cells(alloc, &mut screen, &mut cells)?;
+    let times = number_of(sheet.cell());
+    feed_again(&mut screen, times, &sheet.bytes());
+    feed_cells(sheet, &mut screen);
     let (row, column) = screen.cursor();
-    let mut shown = format!(in alloc; "cursor {row} {column}")?;
+    show_count(sheet, "cursor ", u64::from(row));
+    show_count(sheet, " ", u64::from(column));
     for number in 0..24u8 {
-        show_row(alloc, &mut shown, number, screen.row(number))?;
+        show_row(sheet, number, screen.row(number));
     }
-    Ok(shown)
 }

@@ -5,10 +5,8 @@
 // `show BYTES` shows them, and `front N` puts a partition in front and asks who is there.
 use crate::pieces::{show_named, word};
 use b2_base::{NoMemory, Part};
-use b2_cases::{Cells, bytes_of, number_of, small_of, str_of};
+use b2_cases::{Sheet, number_of, small_of, str_of};
 use b2_term::{KeyItem, Read, Terminal};
-use std::alloc::Global;
-use std::fmt::Write;
 
 /// Queues each byte as a key, and says how many were taken.
 fn keys_taken(terminal: &mut Terminal, keys: &[u8]) -> u32 {
@@ -21,98 +19,110 @@ fn keys_taken(terminal: &mut Terminal, keys: &[u8]) -> u32 {
     taken
 }
 
-/// The same so many times.
-fn keys_taken_again(terminal: &mut Terminal, times: u16, keys: &[u8]) -> u32 {
+/// The same so many times, and shows how many.
+fn show_keys(sheet: &mut Sheet<'_>, terminal: &mut Terminal, times: u16, keys: &[u8]) {
     let mut taken = 0u32;
     for _ in 0..times {
         taken = taken.saturating_add(keys_taken(terminal, keys));
     }
-    taken
+    sheet.show_number(u64::from(taken));
+    sheet.show(" taken");
+}
+
+/// Shows a special function key.
+fn show_special(sheet: &mut Sheet<'_>, number: u8) {
+    sheet.show("special ");
+    sheet.show_number(u64::from(number));
 }
 
 /// Shows a line that was read, or why there is none.
-fn show_read(into: &mut String, read: &Read) -> Result<(), NoMemory> {
+fn show_read(sheet: &mut Sheet<'_>, read: &Read) {
     match read {
-        Read::Line(line) => show_named(into, "line", line.bytes())?,
-        Read::Special(n) => write!(into, "special {n}")?,
-        Read::NoKeys => into.push_str("no keys")?,
+        Read::Line(line) => show_named(sheet, "line", line.bytes()),
+        Read::Special(n) => show_special(sheet, *n),
+        Read::NoKeys => sheet.show("no keys"),
     }
-    Ok(())
 }
 
-/// Shows a key that was taken.
-fn show_key(into: &mut String, key: Option<KeyItem>) -> Result<(), NoMemory> {
-    match key {
-        Some(KeyItem::Byte(byte)) => show_named(into, "key", &[byte])?,
-        Some(KeyItem::Special(n)) => write!(into, "special {n}")?,
-        None => into.push_str("no key")?,
+/// Reads a line.
+fn read(sheet: &mut Sheet<'_>, terminal: &mut Terminal) {
+    match terminal.read_line() {
+        Ok(read) => show_read(sheet, &read),
+        Err(NoMemory) => sheet.no_memory(),
     }
-    Ok(())
+}
+
+/// Takes a key.
+fn take_key(sheet: &mut Sheet<'_>, terminal: &mut Terminal) {
+    match terminal.one_key() {
+        Some(KeyItem::Byte(byte)) => show_named(sheet, "key", &[byte]),
+        Some(KeyItem::Special(n)) => show_special(sheet, n),
+        None => sheet.show("no key"),
+    }
 }
 
 /// Puts a partition in front, where there is one of the number, and shows who is.
-fn show_front(into: &mut String, terminal: &mut Terminal, number: u8) -> Result<(), NoMemory> {
+fn show_front(sheet: &mut Sheet<'_>, terminal: &mut Terminal, number: u8) {
     if let Some(part) = Part::of(number) {
         terminal.set_front(part);
     }
-    let front = terminal.front().number();
-    write!(into, "front {front}")?;
-    Ok(())
+    sheet.show("front ");
+    sheet.show_number(u64::from(terminal.front().number()));
 }
 
-/// Shows whether a key had room.
-fn show_taken(into: &mut String, taken: bool) -> Result<(), NoMemory> {
-    into.push_str(if taken { "taken" } else { "dropped" })?;
-    Ok(())
+/// Shows a word for what was done, where memory didn't fail.
+fn show_done(sheet: &mut Sheet<'_>, outcome: Result<(), NoMemory>, done: &str) {
+    match outcome {
+        Ok(()) => sheet.show(done),
+        Err(NoMemory) => sheet.no_memory(),
+    }
 }
 
 /// Makes a call, and shows its answer.
-fn answer(
-    alloc: Global,
-    terminal: &mut Terminal,
-    cell: &[u8],
-    into: &mut String,
-) -> Result<(), NoMemory> {
+fn answer(sheet: &mut Sheet<'_>, terminal: &mut Terminal, cell: &[u8]) {
     let (call, rest) = word(cell);
     match str_of(call) {
         "keys" => {
-            let taken = keys_taken(terminal, &bytes_of(alloc, rest)?);
-            write!(into, "{taken} taken")?;
+            let keys = sheet.spelled(rest);
+            show_keys(sheet, terminal, 1, &keys);
         }
         "many" => {
-            let (times, bytes) = word(rest);
-            let taken = keys_taken_again(terminal, number_of(times), &bytes_of(alloc, bytes)?);
-            write!(into, "{taken} taken")?;
+            let (times, text) = word(rest);
+            let keys = sheet.spelled(text);
+            show_keys(sheet, terminal, number_of(times), &keys);
         }
-        "special" => show_taken(into, terminal.key(KeyItem::Special(small_of(rest))))?,
-        "read" => show_read(into, &terminal.read_line()?)?,
-        "one" => show_key(into, terminal.one_key())?,
+        "special" => sheet.show(if terminal.key(KeyItem::Special(small_of(rest))) {
+            "taken"
+        } else {
+            "dropped"
+        }),
+        "read" => read(sheet, terminal),
+        "one" => take_key(sheet, terminal),
         "insert" => {
-            terminal.insert(&bytes_of(alloc, rest)?)?;
-            into.push_str("inserted")?;
+            let bytes = sheet.spelled(rest);
+            show_done(sheet, terminal.insert(&bytes), "inserted");
         }
         "show" => {
-            terminal.show(&bytes_of(alloc, rest)?)?;
-            into.push_str("shown")?;
+            let bytes = sheet.spelled(rest);
+            show_done(sheet, terminal.show(&bytes), "shown");
         }
-        "front" => show_front(into, terminal, small_of(rest))?,
-        _ => into.push_str("no such call")?,
+        "front" => show_front(sheet, terminal, small_of(rest)),
+        _ => sheet.no_such_call(),
     }
-    Ok(())
 }
 
 /// What the calls in the cells answer, and the transcript after them.
-pub fn called(alloc: Global, row: Cells<'_>) -> Result<String, NoMemory> {
-    let mut cells = row;
-    let mut terminal = Terminal::new(alloc, Part::known(1))?;
-    let mut shown = String::new(alloc);
+pub fn called(sheet: &mut Sheet<'_>) {
+    let Ok(mut terminal) = Terminal::new(sheet.alloc(), Part::known(1)) else {
+        return sheet.no_memory();
+    };
     for _ in 0..u64::MAX {
-        if cells.is_empty() {
+        if sheet.is_empty() {
             break;
         }
-        answer(alloc, &mut terminal, cells.next(), &mut shown)?;
-        shown.push_str(", ")?;
+        let cell = sheet.cell();
+        answer(sheet, &mut terminal, cell);
+        sheet.show(", ");
     }
-    show_named(&mut shown, "transcript", terminal.transcript())?;
-    Ok(shown)
+    show_named(sheet, "transcript", terminal.transcript());
 }

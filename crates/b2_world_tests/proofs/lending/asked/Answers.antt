@@ -1,5 +1,5 @@
 use Rattle.b2_world_tests.proofs.TextsKept.{on_ok, served_kept}
-use Rattle.b2_world_tests.proofs.stores.asked.Goals as goal
+use Rattle.b2_world_tests.proofs.lending.asked.Goals as goal
 
 pub returns-clause-kept : goal.returns-clause-kept
 returns-clause-kept g c =

@@ -1,6 +1,0 @@
-use Rattle.b2_store.specs.Meaning.{store_of}
-use Rattle.b2_statement_tests.specs.Present.{ArePresent}
-use Rattle.b2_statement_tests.proofs.turning.happen_all.Given as goal
-
-abbrev pub invariant-loop : goal.invariant-loop
-invariant-loop l = ArePresent l.me (store_of l.store)
