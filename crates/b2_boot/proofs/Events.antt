@@ -10,7 +10,7 @@ use Rattle.b2_boot.specs.declared.log.Event.{Event}
 use Rattle.b2_boot.specs.declared.log_lines.Asked.{Asked}
 use Rattle.b2_boot.specs.declared.log_lines.Asked.TheVariants as asked
 
-keys_fit : (b : BootState) (t : ℕ) (keys : List ℕ) → has_terminal t b.terminals ≡ true → list_all (is_of_boot b) (key_events t keys) ≡ true
+pub keys_fit : (b : BootState) (t : ℕ) (keys : List ℕ) → has_terminal t b.terminals ≡ true → list_all (is_of_boot b) (key_events t keys) ≡ true
 keys_fit b t [] there = refl
 keys_fit b t (k ∷ ks) there = rw there (keys_fit b t ks there)
 

@@ -10,7 +10,7 @@ pub granted_by-append : (b : BootState) (xs ys : List Event) → granted_by b (x
 granted_by-append b [] ys = omega arith
 granted_by-append b (x ∷ xs) ys = let h = granted_by-append b xs ys in omega arith
 
-keys_grant_nothing : (b : BootState) (t : ℕ) (keys : List ℕ) → granted_by b (key_events t keys) ≡ 0
+pub keys_grant_nothing : (b : BootState) (t : ℕ) (keys : List ℕ) → granted_by b (key_events t keys) ≡ 0
 keys_grant_nothing b t [] = refl
 keys_grant_nothing b t (k ∷ ks) = let h = keys_grant_nothing b t ks in omega arith
 

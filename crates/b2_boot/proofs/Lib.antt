@@ -11,3 +11,4 @@ pub mod Granted
 pub mod Events
 pub mod LogBounds
 pub mod FileBoots
+pub mod DrillLaws

@@ -3,4 +3,5 @@ pub mod Boots
 pub mod LogLines
 pub mod Logs
 pub mod Alone
+pub mod Drills
 pub mod Laws

@@ -1,4 +1,5 @@
 //! What holds of every log and boot: each law is the contract of a function without a body.
+ghost use Rattle.b2_boot.specs.Drills.{DrillsAreGood, DrillsAreOfTheirBoot, DrillsGrantFew};
 ghost use Rattle.b2_boot.specs.Laws.{AloneGrantsNoMore, BootsOfFilesAreGood, LogsAreOfTheirBoot, LogsKeepToTheBound};
 
 /// The boot of a file that passes its checks is good.
@@ -19,4 +20,19 @@ pub fn law_a_log_is_of_its_boot()
 /// To a group alone the same events grant no more.
 pub fn law_a_group_alone_is_granted_no_more()
     ensures { AloneGrantsNoMore }
+{}
+
+/// The boot of each drill is good.
+pub fn law_a_drill_has_a_good_boot()
+    ensures { DrillsAreGood }
+{}
+
+/// Each event of a drill is of its boot.
+pub fn law_a_drill_is_of_its_boot()
+    ensures { DrillsAreOfTheirBoot }
+{}
+
+/// A drill grants 820 steps for each of its number and 1,600 more at the most, so that it keeps to the bound of logs.
+pub fn law_a_drill_grants_few_steps()
+    ensures { DrillsGrantFew }
 {}

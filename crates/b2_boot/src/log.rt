@@ -163,7 +163,7 @@ fn read_log_line<'a>(boot: &Boot, granted: u64, line: &'a [u8]) -> LineRead<'a>
 }
 
 /// Adds an event for each key of a text.
-fn push_text(events: &mut Vec<Event>, terminal: Term, text: &[u8]) -> Result<(), NoMemory>
+pub fn push_text(events: &mut Vec<Event>, terminal: Term, text: &[u8]) -> Result<(), NoMemory>
     ensures { OnOk result (events.new.items ≡ events.old.items ++ spec.key_events terminal text.now) }
 {
     for key in text {

@@ -86,7 +86,7 @@ pub fn first_line(text: &[u8]) -> (&[u8], Option<&[u8]>)
 }
 
 /// A number without leading zeros, None where the word is none.
-fn plain_number(word: &[u8]) -> Option<u32>
+pub fn plain_number(word: &[u8]) -> Option<u32>
     ensures { result ≡ spec.plain_number word.now }
 {
     let [first, rest @ ..] = word else {

@@ -7,6 +7,7 @@ use Rattle.b2_base.specs.Counts.{Rose}
 use Rattle.b2_base.specs.Files.{Files, IsAbsent, IsFetched}
 use Rattle.b2_base.specs.Seen.{ShelfSeen, SinkSeen}
 use Rattle.b2_boot.specs.Boots.{BootState, boot_of}
+use Rattle.b2_boot.specs.Drills.{drill_boot, drill_log}
 use Rattle.b2_boot.specs.Logs.{LogRead, log_of}
 use Rattle.b2_boot.specs.Logs.LogRead.{Events, Refused}
 use Rattle.b2_boot.specs.declared.boot.BootPlatter.{BootPlatter}
@@ -14,11 +15,14 @@ use Rattle.b2_boot.specs.declared.log.Event.{Event}
 use Rattle.b2_platter.specs.Checks.{first_check}
 use Rattle.b2_platter.specs.declared.layout.Layout.TheVariants.{Narrow}
 use Rattle.b2_sched.specs.Start.{Images}
-use Rattle.b2_mvp.specs.Inputs.{boot_limit, log_limit, image_limit, HasBoot, HasSource, HaveImages, FailsImage}
-use Rattle.b2_mvp.specs.Top.{command_of, Input, HasInputs, Runs, name_of, limit_of, IsReached, RunComes, ComesBy, Comes}
-use Rattle.b2_mvp.specs.Top.Input.{TheBoot, TheLog, TheImage}
-use Rattle.b2_mvp.specs.Complete.{Expected, expected, by_command, by_boot_file, by_boot, by_log_file, by_log, by_images, by_platters, by_platter, by_source, by_image_file, by_check, by_view, one_more, Answers, IsComplete}
-use Rattle.b2_mvp.specs.Complete.Expected.{IsMissing, IsLong, FailsImageCheck, Puts}
+use Rattle.b2_mvp.specs.Inputs.{boot_limit, log_limit, image_limit, Gives, HasBoot, HasInputs, HasSource, HaveImages, FailsImage, Input, IsReached, ReachesLog, RefusesBoot, RefusesLog, limit_of, name_of}
+use Rattle.b2_mvp.specs.Inputs.Input.{TheBoot, TheLog, TheImage}
+use Rattle.b2_mvp.specs.Top.{command_of, Runs, RunComes, ComesBy, Comes}
+use Rattle.b2_mvp.specs.declared.inputs.BootAndLog.{BootAndLog}
+use Rattle.b2_mvp.specs.declared.inputs.Source.{Source}
+use Rattle.b2_mvp.specs.declared.inputs.Source.TheVariants as source
+use Rattle.b2_mvp.specs.Complete.{Expected, expected, by_command, by_boot_file, by_boot, by_log_file, by_log, by_run, by_inputs, by_images, by_platters, by_platter, by_source, by_image_file, by_check, by_view, one_more, Answers, IsComplete}
+use Rattle.b2_mvp.specs.Complete.Expected.{FailsBootCheck, FailsLogCheck, IsMissing, IsLong, FailsImageCheck, Puts}
 use Rattle.b2_look.specs.Shows.{file_limit, shown, Shows}
 use Rattle.b2_look.specs.declared.shows.View.{View}
 use Rattle.b2_status.specs.Fetches.{IsLonger}
@@ -36,28 +40,32 @@ above_limit : (A : Type 0) (size limit : ℕ) (x y : A) → limit < size → (if
 above_limit A size limit x y h = let e : nat_le size limit ≡ false = grind (arith, nat_tests) in ap (λ (b : Bool). if b then x else y) e
 
 -- what is expected of a boot file that is there, and of a log
-by_boot_within : (m : Files) (c : Job) (bytes : List ℕ) → length bytes ≤ boot_limit → by_boot_file m c (Some bytes) ≡ by_boot m c (boot_of bytes)
-by_boot_within m c bytes h = within_limit Expected (length bytes) boot_limit _ _ h
+by_boot_within : (m : Files) (c : Job) (texts : BootAndLog) (bytes : List ℕ) → length bytes ≤ boot_limit → by_boot_file m c texts (Some bytes) ≡ by_boot m c texts (boot_of bytes)
+by_boot_within m c texts bytes h = within_limit Expected (length bytes) boot_limit _ _ h
 
-by_log_within : (m : Files) (c : Job) (boot : BootState) (bytes : List ℕ) → length bytes ≤ log_limit → by_log_file m c boot (Some bytes) ≡ by_log m c boot (log_of boot bytes)
-by_log_within m c boot bytes h = within_limit Expected (length bytes) log_limit _ _ h
+by_log_within : (m : Files) (c : Job) (texts : BootAndLog) (boot : BootState) (bytes : List ℕ) → length bytes ≤ log_limit
+    → by_log_file m c texts boot (Some bytes) ≡ by_log m c boot (log_of boot bytes)
+by_log_within m c texts boot bytes h = within_limit Expected (length bytes) log_limit _ _ h
 
--- where the words are a command, and the boot file says this
-expected_boot : (words : List (List ℕ)) (m : Files) (c : Job) (bytes : List ℕ) (r : Result BootState ℕ) → command_of words ≡ Some (command.Run c)
-    → IsFetched (Some m) c.boot boot_limit bytes → boot_of bytes ≡ r → expected words m ≡ by_boot m c r
-expected_boot words m c bytes r is h says =
-    ap (by_command m) is ∙ ap (by_boot_file m c) h.told ∙ by_boot_within m c bytes h.within ∙ ap (by_boot m c) says
+-- where the boot file says this
+expected_boot : (m : Files) (c : Job) (texts : BootAndLog) (bytes : List ℕ) (r : Result BootState ℕ) → IsFetched (Some m) texts.boot boot_limit bytes → boot_of bytes ≡ r
+    → by_run m c (source.Files texts) ≡ by_boot m c texts r
+expected_boot m c texts bytes r h says = ap (by_boot_file m c texts) h.told ∙ by_boot_within m c texts bytes h.within ∙ ap (by_boot m c texts) says
 
 -- and the log says this
-expected_log : (words : List (List ℕ)) (m : Files) (c : Job) (boot : BootState) (bytes : List ℕ) (r : LogRead) → command_of words ≡ Some (command.Run c)
-    → HasBoot c.boot (Some m) boot → IsFetched (Some m) c.log log_limit bytes → log_of boot bytes ≡ r → expected words m ≡ by_log m c boot r
-expected_log words m c boot bytes r is has h says =
-    expected_boot words m c has.bytes (Ok boot) is has.fetched has.passes ∙ ap (by_log_file m c boot) h.told ∙ by_log_within m c boot bytes h.within ∙ ap (by_log m c boot) says
+expected_log : (m : Files) (c : Job) (texts : BootAndLog) (boot : BootState) (bytes : List ℕ) (r : LogRead) → HasBoot texts.boot (Some m) boot → IsFetched (Some m) texts.log log_limit bytes
+    → log_of boot bytes ≡ r → by_run m c (source.Files texts) ≡ by_log m c boot r
+expected_log m c texts boot bytes r has h says =
+    expected_boot m c texts has.bytes (Ok boot) has.fetched has.passes ∙ ap (by_log_file m c texts boot) h.told ∙ by_log_within m c texts boot bytes h.within ∙ ap (by_log m c boot) says
 
--- and both pass
-expected_events : (words : List (List ℕ)) (m : Files) (c : Job) (inputs : HasInputs c (Some m)) → command_of words ≡ Some (command.Run c)
+-- and both pass, or are those of a drill
+expected_given : (m : Files) (c : Job) (s : Source) (boot : BootState) (events : List Event) → Gives s (Some m) boot events → by_run m c s ≡ by_inputs m c boot events
+expected_given m c (source.Files texts) boot events given = expected_log m c texts boot given.has_log.bytes (Events events) given.has_boot given.has_log.fetched given.has_log.passes
+expected_given m c (source.Drill n) boot events given = λ i. by_inputs m c (sym given.boot_is i) (sym given.log_is i)
+
+expected_events : (words : List (List ℕ)) (m : Files) (c : Job) (inputs : HasInputs c.source (Some m)) → command_of words ≡ Some (command.Run c)
     → expected words m ≡ by_images c inputs.boot inputs.events (by_platters m inputs.boot.platters)
-expected_events words m c inputs is = expected_log words m c inputs.boot inputs.has_log.bytes (Events inputs.events) is inputs.has_boot inputs.has_log.fetched inputs.has_log.passes
+expected_events words m c inputs is = ap (by_command m) is ∙ expected_given m c c.source inputs.boot inputs.events inputs.given
 
 -- an image that is there
 source_there : (m : Files) (address : List ℕ) (image : Option (List ℕ)) (blank : Option ℕ) (bytes : List ℕ) → HasSource image blank (Some m) bytes → by_source m address image blank ≡ Ok bytes
@@ -89,46 +97,63 @@ prepend_refused [] e = refl
 prepend_refused (image ∷ images) e = ap (one_more (Ok image)) (prepend_refused images e)
 
 -- an input that is reached, by the file of its name
-abbrev by_input : (m : Files) (c : Job) (input : Input) → IsReached c (Some m) input → Option (List ℕ) → Expected
-by_input m c TheBoot r file = by_boot_file m c file
-by_input m c TheLog r file = by_log_file m c r.0 file
-by_input m c (TheImage p name) r file = by_images c r.0.boot r.0.events (prepend r.1.images (one_more (by_image_file p.address name file) (by_platters m r.1.after)))
+abbrev by_boot_input : (m : Files) (c : Job) (s : Source) → Option (List ℕ) → Expected
+by_boot_input m c (source.Files texts) file = by_boot_file m c texts file
+by_boot_input m c (source.Drill n) file = by_run m c (source.Drill n)
 
-expected_input : (words : List (List ℕ)) (m : Files) (c : Job) (input : Input) (r : IsReached c (Some m) input) → command_of words ≡ Some (command.Run c)
-    → expected words m ≡ by_input m c input r (get m (name_of c input))
-expected_input words m c TheBoot r is = ap (by_command m) is
-expected_input words m c TheLog r is = expected_boot words m c r.1.bytes (Ok r.0) is r.1.fetched r.1.passes
-expected_input words m c (TheImage p name) r is =
-    expected_events words m c r.0 is
+abbrev by_log_input : (m : Files) (c : Job) (s : Source) → ReachesLog s (Some m) → Option (List ℕ) → Expected
+by_log_input m c (source.Files texts) r file = by_log_file m c texts r.0 file
+by_log_input m c (source.Drill n) r file = absurd r
+
+abbrev by_input : (m : Files) (c : Job) (s : Source) (input : Input) → IsReached s (Some m) input → Option (List ℕ) → Expected
+by_input m c s TheBoot r file = by_boot_input m c s file
+by_input m c s TheLog r file = by_log_input m c s r file
+by_input m c s (TheImage p name) r file = by_images c r.0.boot r.0.events (prepend r.1.images (one_more (by_image_file p.address name file) (by_platters m r.1.after)))
+
+run_input : (m : Files) (c : Job) (s : Source) (input : Input) (r : IsReached s (Some m) input) → by_run m c s ≡ by_input m c s input r (get m (name_of s input))
+run_input m c (source.Files texts) TheBoot r = refl
+run_input m c (source.Drill n) TheBoot r = refl
+run_input m c (source.Files texts) TheLog r = expected_boot m c texts r.1.bytes (Ok r.0) r.1.fetched r.1.passes
+run_input m c (source.Drill n) TheLog r = absurd r
+run_input m c s (TheImage p name) r =
+    expected_given m c s r.0.boot r.0.events r.0.given
     ∙ ap (by_images c r.0.boot r.0.events)
     (ap (by_platters m) r.1.in_order ∙ images_then m r.1.before r.1.images p r.1.after r.1.have_images
-    ∙ ap (λ source. prepend r.1.images (one_more (by_source m p.address source p.blank) (by_platters m r.1.after))) r.1.named)
+    ∙ ap (λ image. prepend r.1.images (one_more (by_source m p.address image p.blank) (by_platters m r.1.after))) r.1.named)
 
-missing_input : (m : Files) (c : Job) (input : Input) (r : IsReached c (Some m) input) → by_input m c input r None ≡ IsMissing (name_of c input)
-missing_input m c TheBoot r = refl
-missing_input m c TheLog r = refl
-missing_input m c (TheImage p name) r = ap (by_images c r.0.boot r.0.events) (prepend_refused r.1.images (IsMissing name))
+expected_input : (words : List (List ℕ)) (m : Files) (c : Job) (input : Input) (r : IsReached c.source (Some m) input) → command_of words ≡ Some (command.Run c)
+    → expected words m ≡ by_input m c c.source input r (get m (name_of c.source input))
+expected_input words m c input r is = ap (by_command m) is ∙ run_input m c c.source input r
 
-long_input : (m : Files) (c : Job) (input : Input) (r : IsReached c (Some m) input) (file : Option (List ℕ)) → IsSomeAnd file (λ f. limit_of input < length f)
-    → by_input m c input r file ≡ IsLong (name_of c input) (limit_of input)
-long_input m c TheBoot r None h = absurd h
-long_input m c TheBoot r (Some bytes) h = above_limit Expected (length bytes) boot_limit _ _ h
-long_input m c TheLog r None h = absurd h
-long_input m c TheLog r (Some bytes) h = above_limit Expected (length bytes) log_limit _ _ h
-long_input m c (TheImage p name) r None h = absurd h
-long_input m c (TheImage p name) r (Some bytes) h =
+missing_input : (m : Files) (c : Job) (s : Source) (input : Input) (r : IsReached s (Some m) input) → by_input m c s input r None ≡ IsMissing (name_of s input)
+missing_input m c (source.Files texts) TheBoot r = refl
+missing_input m c (source.Drill n) TheBoot r = absurd r
+missing_input m c (source.Files texts) TheLog r = refl
+missing_input m c (source.Drill n) TheLog r = absurd r
+missing_input m c s (TheImage p name) r = ap (by_images c r.0.boot r.0.events) (prepend_refused r.1.images (IsMissing name))
+
+long_input : (m : Files) (c : Job) (s : Source) (input : Input) (r : IsReached s (Some m) input) (file : Option (List ℕ)) → IsSomeAnd file (λ f. limit_of input < length f)
+    → by_input m c s input r file ≡ IsLong (name_of s input) (limit_of input)
+long_input m c s TheBoot r None h = absurd h
+long_input m c (source.Files texts) TheBoot r (Some bytes) h = above_limit Expected (length bytes) boot_limit _ _ h
+long_input m c (source.Drill n) TheBoot r (Some bytes) h = absurd r
+long_input m c s TheLog r None h = absurd h
+long_input m c (source.Files texts) TheLog r (Some bytes) h = above_limit Expected (length bytes) log_limit _ _ h
+long_input m c (source.Drill n) TheLog r (Some bytes) h = absurd r
+long_input m c s (TheImage p name) r None h = absurd h
+long_input m c s (TheImage p name) r (Some bytes) h =
     ap (λ (image : Result (List ℕ) Expected). by_images c r.0.boot r.0.events (prepend r.1.images (one_more image (by_platters m r.1.after))))
     (above_limit (Result (List ℕ) Expected) (length bytes) image_limit _ _ h)
     ∙ ap (by_images c r.0.boot r.0.events) (prepend_refused r.1.images (IsLong name image_limit))
 
 -- an image that isn't good
-expected_bad : (words : List (List ℕ)) (m : Files) (c : Job) (inputs : HasInputs c (Some m)) (address : List ℕ) (check : ℕ) → command_of words ≡ Some (command.Run c)
+expected_bad : (words : List (List ℕ)) (m : Files) (c : Job) (inputs : HasInputs c.source (Some m)) (address : List ℕ) (check : ℕ) → command_of words ≡ Some (command.Run c)
     → FailsImage inputs.boot.platters (Some m) address check → expected words m ≡ FailsImageCheck address check
 expected_bad words m c inputs address check is h =
-    let r : IsReached c (Some m) (TheImage h.platter h.name) = (inputs, h.next) in
+    let r : IsReached c.source (Some m) (TheImage h.platter h.name) = (inputs, h.next) in
     let bytes = h.fails.bytes in
     expected_input words m c (TheImage h.platter h.name) r is
-    ∙ ap (by_input m c (TheImage h.platter h.name) r) h.fails.fetched.told
+    ∙ ap (by_input m c c.source (TheImage h.platter h.name) r) h.fails.fetched.told
     ∙ ap (λ (image : Result (List ℕ) Expected). by_images c inputs.boot inputs.events (prepend h.next.images (one_more image (by_platters m h.next.after))))
     (within_limit (Result (List ℕ) Expected) (length bytes) image_limit _ _ h.fails.fetched.within ∙ ap (by_check h.platter.address bytes) h.fails.fails)
     ∙ ap (by_images c inputs.boot inputs.events) (prepend_refused h.next.images (FailsImageCheck h.platter.address check))
@@ -174,23 +199,36 @@ images_answered : (c : Job) (boot : BootState) (events : List Event) (r : Result
 images_answered c boot events (Ok images) h = inr (inl refl)
 images_answered c boot events (Err e) h = h
 
-log_answered : (m : Files) (c : Job) (boot : BootState) (b : Bool) (r : LogRead) → Answers (if b then by_log m c boot r else IsLong c.log log_limit) status.NoMemory
-log_answered m c boot true (Events events) = images_answered c boot events (by_platters m boot.platters) (platters_fine m boot.platters)
-log_answered m c boot true (Refused line check) = inr refl
-log_answered m c boot false r = inr refl
+log_answered : (m : Files) (c : Job) (texts : BootAndLog) (boot : BootState) (b : Bool) (r : LogRead) → Answers (if b then by_log m c boot r else IsLong texts.log log_limit) status.NoMemory
+log_answered m c texts boot true (Events events) = images_answered c boot events (by_platters m boot.platters) (platters_fine m boot.platters)
+log_answered m c texts boot true (Refused line check) = inr refl
+log_answered m c texts boot false r = inr refl
 
-log_file_answered : (m : Files) (c : Job) (boot : BootState) (file : Option (List ℕ)) → Answers (by_log_file m c boot file) status.NoMemory
-log_file_answered m c boot None = inr refl
-log_file_answered m c boot (Some bytes) = log_answered m c boot (nat_le (length bytes) log_limit) (log_of boot bytes)
+log_file_answered : (m : Files) (c : Job) (texts : BootAndLog) (boot : BootState) (file : Option (List ℕ)) → Answers (by_log_file m c texts boot file) status.NoMemory
+log_file_answered m c texts boot None = inr refl
+log_file_answered m c texts boot (Some bytes) = log_answered m c texts boot (nat_le (length bytes) log_limit) (log_of boot bytes)
 
-boot_answered : (m : Files) (c : Job) (b : Bool) (r : Result BootState ℕ) → Answers (if b then by_boot m c r else IsLong c.boot boot_limit) status.NoMemory
-boot_answered m c true (Ok boot) = log_file_answered m c boot (get m c.log)
-boot_answered m c true (Err check) = inr refl
-boot_answered m c false r = inr refl
+boot_answered : (m : Files) (c : Job) (texts : BootAndLog) (b : Bool) (r : Result BootState ℕ) → Answers (if b then by_boot m c texts r else IsLong texts.boot boot_limit) status.NoMemory
+boot_answered m c texts true (Ok boot) = log_file_answered m c texts boot (get m texts.log)
+boot_answered m c texts true (Err check) = inr refl
+boot_answered m c texts false r = inr refl
 
-boot_file_answered : (m : Files) (c : Job) (file : Option (List ℕ)) → Answers (by_boot_file m c file) status.NoMemory
-boot_file_answered m c None = inr refl
-boot_file_answered m c (Some bytes) = boot_answered m c (nat_le (length bytes) boot_limit) (boot_of bytes)
+boot_file_answered : (m : Files) (c : Job) (texts : BootAndLog) (file : Option (List ℕ)) → Answers (by_boot_file m c texts file) status.NoMemory
+boot_file_answered m c texts None = inr refl
+boot_file_answered m c texts (Some bytes) = boot_answered m c texts (nat_le (length bytes) boot_limit) (boot_of bytes)
+
+run_answered : (m : Files) (c : Job) (s : Source) → Answers (by_run m c s) status.NoMemory
+run_answered m c (source.Files texts) = boot_file_answered m c texts (get m texts.boot)
+run_answered m c (source.Drill n) = images_answered c (drill_boot n) (drill_log n) (by_platters m (drill_boot n).platters) (platters_fine m (drill_boot n).platters)
+
+-- a boot file and a log that fail a check
+boot_refused : (m : Files) (c : Job) (s : Source) (check : ℕ) → RefusesBoot s (Some m) check → by_run m c s ≡ FailsBootCheck check
+boot_refused m c (source.Files texts) check h = expected_boot m c texts h.bytes (Err check) h.fetched h.fails
+boot_refused m c (source.Drill n) check h = absurd h
+
+log_refused : (m : Files) (c : Job) (s : Source) (line check : ℕ) → RefusesLog s (Some m) line check → by_run m c s ≡ FailsLogCheck line check
+log_refused m c (source.Files texts) line check h = expected_log m c texts h.0 h.2.bytes (Refused line check) h.1 h.2.fetched h.2.fails
+log_refused m c (source.Drill n) line check h = absurd h
 
 -- each status of a run is the expected one
 complete : (words : List (List ℕ)) (m : Files) (old new : ShelfSeen) (before after : SinkSeen) (s : Status) → old.files ≡ Some m
@@ -200,32 +238,29 @@ complete words m old new before after status.Ok told h shelf_well sink_well =
 complete words m old new before after status.Usage told h shelf_well sink_well = absurd h
 complete words m old new before after (status.Missing name) told h shelf_well sink_well =
     let f = h.refuses in
-    let r : IsReached h.job (Some m) f.input = subst (λ files. IsReached h.job files f.input) told f.reached in
+    let r : IsReached h.job.source (Some m) f.input = subst (λ files. IsReached h.job.source files f.input) told f.reached in
     let absent : get m name ≡ None = subst (λ files. IsAbsent files name) told f.fails.2 in
     subst (λ e. Answers e (status.Missing name))
-    (sym (expected_input words m h.job f.input r h.is_command ∙ ap (by_input m h.job f.input r) (ap (get m) (sym f.fails.0) ∙ absent) ∙ missing_input m h.job f.input r))
+    (sym (expected_input words m h.job f.input r h.is_command ∙ ap (by_input m h.job h.job.source f.input r) (ap (get m) (sym f.fails.0) ∙ absent) ∙ missing_input m h.job h.job.source f.input r))
     (inl (ap status.Missing f.fails.0))
 complete words m old new before after (status.ReadFault name) told h shelf_well sink_well = absurd (shelf_well h.refuses.fails.1)
 complete words m old new before after (status.TooLong name limit) told h shelf_well sink_well =
     let f = h.refuses in
-    let r : IsReached h.job (Some m) f.input = subst (λ files. IsReached h.job files f.input) told f.reached in
+    let r : IsReached h.job.source (Some m) f.input = subst (λ files. IsReached h.job.source files f.input) told f.reached in
     let long : IsSomeAnd (get m name) (λ file. limit < length file) = subst (λ files. IsLonger files name limit) told f.fails.3 in
-    let there : IsSomeAnd (get m (name_of h.job f.input)) (λ file. limit_of f.input < length file) =
+    let there : IsSomeAnd (get m (name_of h.job.source f.input)) (λ file. limit_of f.input < length file) =
     subst (λ (n : List ℕ). IsSomeAnd (get m n) (λ file. limit_of f.input < length file)) f.fails.0 (subst (λ (l : ℕ). IsSomeAnd (get m name) (λ file. l < length file)) f.fails.1 long) in
     subst (λ e. Answers e (status.TooLong name limit))
-    (sym (expected_input words m h.job f.input r h.is_command ∙ long_input m h.job f.input r _ there))
+    (sym (expected_input words m h.job f.input r h.is_command ∙ long_input m h.job h.job.source f.input r _ there))
     (inl (λ i. status.TooLong (f.fails.0 i) (f.fails.1 i)))
 complete words m old new before after (status.BadBoot check) told h shelf_well sink_well =
-    let b = h.refuses in
-    subst (λ e. Answers e (status.BadBoot check))
-    (sym (expected_boot words m h.job b.bytes (Err check) h.is_command (subst (λ f. IsFetched f h.job.boot boot_limit b.bytes) told b.fetched) b.fails)) (inl refl)
+    let b = subst (λ files. RefusesBoot h.job.source files check) told h.refuses in
+    subst (λ e. Answers e (status.BadBoot check)) (sym (ap (by_command m) h.is_command ∙ boot_refused m h.job h.job.source check b)) (inl refl)
 complete words m old new before after (status.BadLog line check) told h shelf_well sink_well =
-    let l = h.refuses in
-    subst (λ e. Answers e (status.BadLog line check))
-    (sym (expected_log words m h.job l.0 l.2.bytes (Refused line check) h.is_command (subst (λ f. HasBoot h.job.boot f l.0) told l.1)
-    (subst (λ f. IsFetched f h.job.log log_limit l.2.bytes) told l.2.fetched) l.2.fails)) (inl refl)
+    let l = subst (λ files. RefusesLog h.job.source files line check) told h.refuses in
+    subst (λ e. Answers e (status.BadLog line check)) (sym (ap (by_command m) h.is_command ∙ log_refused m h.job h.job.source line check l)) (inl refl)
 complete words m old new before after (status.BadImage address check) told h shelf_well sink_well =
-    let r = subst (λ files. (inputs : HasInputs h.job files) × FailsImage inputs.boot.platters files address check) told h.refuses in
+    let r = subst (λ files. (inputs : HasInputs h.job.source files) × FailsImage inputs.boot.platters files address check) told h.refuses in
     subst (λ e. Answers e (status.BadImage address check)) (sym (expected_bad words m h.job r.0 address check h.is_command r.1)) (inl refl)
 complete words m old new before after (status.WriteFault name) told h shelf_well sink_well =
     elim (h.left) as (λ _. Answers (expected words m) (status.WriteFault name)) [
@@ -233,7 +268,7 @@ complete words m old new before after (status.WriteFault name) told h shelf_well
       | inr b ↦ absurd (sink_well b.1)
     ]
 complete words m old new before after status.NoMemory told h shelf_well sink_well =
-    subst (λ e. Answers e status.NoMemory) (sym (ap (by_command m) h.is_command)) (boot_file_answered m h.job (get m h.job.boot))
+    subst (λ e. Answers e status.NoMemory) (sym (ap (by_command m) h.is_command)) (run_answered m h.job h.job.source)
 complete words m old new before after (status.KeepNoMemory name) told h shelf_well sink_well =
     subst (λ e. Answers e (status.KeepNoMemory name)) (sym (expected_run words m (subst (Runs words) told h.run))) (inr (inr (name, refl)))
 

@@ -7,10 +7,13 @@ use Rattle.b2_base.specs.Seen.{ShelfSeen, SinkSeen, Later}
 use Rattle.b2_boot.specs.Boots.{BootState}
 use Rattle.b2_boot.specs.declared.boot.BootPlatter.{BootPlatter}
 use Rattle.b2_sched.specs.Start.{Images}
-use Rattle.b2_mvp.specs.Inputs.{log_limit, image_limit, HasBoot, HaveImages, IsNext, FailsLog, FailsChecks, CannotBoot, CannotLog, CannotOpen, CannotReadFrom, FailsAmong, CannotReadAll}
+use Rattle.b2_mvp.specs.Inputs.{log_limit, image_limit, HasBoot, HaveImages, IsNext, FailsLog, FailsChecks, CannotBoot, CannotLog, CannotOpen, CannotReadFrom, FailsAmong, CannotReadAll, HasInputs, Refuses}
 use Rattle.b2_mvp.specs.Outputs.{Output, outputs, with_files, summary, FailsKeep}
-use Rattle.b2_mvp.specs.Top.{command_of, boot_for, world_after, HasInputs, Runs, Refuses, Stops, Delivers, FailsOutput, RunComes}
-use Rattle.b2_mvp.specs.Top.Input.{TheBoot, TheLog, TheImage}
+use Rattle.b2_mvp.specs.Inputs.Input.{TheBoot, TheLog, TheImage}
+use Rattle.b2_mvp.specs.Top.{command_of, boot_for, world_after, Runs, Stops, Delivers, FailsOutput, RunComes}
+use Rattle.b2_mvp.specs.declared.inputs.BootAndLog.{BootAndLog}
+use Rattle.b2_mvp.specs.declared.inputs.Source.{Source}
+use Rattle.b2_mvp.specs.declared.inputs.Source.TheVariants as source
 use Rattle.b2_status.specs.Fetches.{FetchFails, IsLonger}
 use Rattle.b2_status.specs.Puts.{PutEnds}
 use Rattle.b2_status.specs.declared.status.Status.{Status}
@@ -42,40 +45,40 @@ later_again old mid new h k =
     record { faults = omega arith; misses = omega arith; longs = omega arith }
 
 -- a boot that ends the call
-pub no_boot : (c : Job) (old new : ShelfSeen) (s : Status) → CannotBoot c.boot old new s → Refuses c old new s
-no_boot c old new status.Ok h = absurd h
-no_boot c old new status.Usage h = absurd h
-no_boot c old new (status.Missing at) h = record { input = TheBoot; reached = tt; fails = h }
-no_boot c old new (status.ReadFault at) h = record { input = TheBoot; reached = tt; fails = h }
-no_boot c old new (status.TooLong at limit) h = record { input = TheBoot; reached = tt; fails = h }
-no_boot c old new (status.BadBoot check) h = h
-no_boot c old new (status.BadLog line check) h = absurd h
-no_boot c old new (status.BadImage address check) h = absurd h
-no_boot c old new (status.WriteFault at) h = absurd h
-no_boot c old new status.NoMemory h = tt
-no_boot c old new (status.KeepNoMemory at) h = absurd h
+pub no_boot : (texts : BootAndLog) (old new : ShelfSeen) (s : Status) → CannotBoot texts.boot old new s → Refuses (source.Files texts) old new s
+no_boot texts old new status.Ok h = absurd h
+no_boot texts old new status.Usage h = absurd h
+no_boot texts old new (status.Missing at) h = record { input = TheBoot; reached = tt; fails = h }
+no_boot texts old new (status.ReadFault at) h = record { input = TheBoot; reached = tt; fails = h }
+no_boot texts old new (status.TooLong at limit) h = record { input = TheBoot; reached = tt; fails = h }
+no_boot texts old new (status.BadBoot check) h = h
+no_boot texts old new (status.BadLog line check) h = absurd h
+no_boot texts old new (status.BadImage address check) h = absurd h
+no_boot texts old new (status.WriteFault at) h = absurd h
+no_boot texts old new status.NoMemory h = tt
+no_boot texts old new (status.KeepNoMemory at) h = absurd h
 
 log_of_old : (name : List ℕ) (boot : BootState) (line check : ℕ) (old mid : Option Files) → mid ≡ old → FailsLog name mid boot line check → FailsLog name old boot line check
 log_of_old name boot line check old mid same h = subst (λ f. FailsLog name f boot line check) same h
 
 -- a log that ends the call, after the boot was read
-pub no_log : (c : Job) (boot : BootState) (old mid new : ShelfSeen) (s : Status) → Later old mid → mid.files ≡ old.files → HasBoot c.boot old.files boot
-    → CannotLog c.log boot mid new s → Refuses c old new s
-no_log c boot old mid new status.Ok later same has h = absurd h
-no_log c boot old mid new status.Usage later same has h = absurd h
-no_log c boot old mid new (status.Missing at) later same has h = record { input = TheLog; reached = (boot, has); fails = later_fetch c.log log_limit old mid new (status.Missing at) later same h }
-no_log c boot old mid new (status.ReadFault at) later same has h = record { input = TheLog; reached = (boot, has); fails = later_fetch c.log log_limit old mid new (status.ReadFault at) later same h }
-no_log c boot old mid new (status.TooLong at limit) later same has h =
-    record { input = TheLog; reached = (boot, has); fails = later_fetch c.log log_limit old mid new (status.TooLong at limit) later same h }
-no_log c boot old mid new (status.BadBoot check) later same has h = absurd h
-no_log c boot old mid new (status.BadLog line check) later same has h = (boot, has, log_of_old c.log boot line check old.files mid.files same h)
-no_log c boot old mid new (status.BadImage address check) later same has h = absurd h
-no_log c boot old mid new (status.WriteFault at) later same has h = absurd h
-no_log c boot old mid new status.NoMemory later same has h = tt
-no_log c boot old mid new (status.KeepNoMemory at) later same has h = absurd h
+pub no_log : (texts : BootAndLog) (boot : BootState) (old mid new : ShelfSeen) (s : Status) → Later old mid → mid.files ≡ old.files → HasBoot texts.boot old.files boot
+    → CannotLog texts.log boot mid new s → Refuses (source.Files texts) old new s
+no_log texts boot old mid new status.Ok later same has h = absurd h
+no_log texts boot old mid new status.Usage later same has h = absurd h
+no_log texts boot old mid new (status.Missing at) later same has h = record { input = TheLog; reached = (boot, has); fails = later_fetch texts.log log_limit old mid new (status.Missing at) later same h }
+no_log texts boot old mid new (status.ReadFault at) later same has h = record { input = TheLog; reached = (boot, has); fails = later_fetch texts.log log_limit old mid new (status.ReadFault at) later same h }
+no_log texts boot old mid new (status.TooLong at limit) later same has h =
+    record { input = TheLog; reached = (boot, has); fails = later_fetch texts.log log_limit old mid new (status.TooLong at limit) later same h }
+no_log texts boot old mid new (status.BadBoot check) later same has h = absurd h
+no_log texts boot old mid new (status.BadLog line check) later same has h = (boot, has, log_of_old texts.log boot line check old.files mid.files same h)
+no_log texts boot old mid new (status.BadImage address check) later same has h = absurd h
+no_log texts boot old mid new (status.WriteFault at) later same has h = absurd h
+no_log texts boot old mid new status.NoMemory later same has h = tt
+no_log texts boot old mid new (status.KeepNoMemory at) later same has h = absurd h
 
 -- the file of an image that ends the call, after the log was read
-refused_file : (c : Job) (old mid new : ShelfSeen) (inputs : HasInputs c old.files) (p : BootPlatter) (name : List ℕ) (s : Status) → Later old mid → mid.files ≡ old.files
+refused_file : (c : Source) (old mid new : ShelfSeen) (inputs : HasInputs c old.files) (p : BootPlatter) (name : List ℕ) (s : Status) → Later old mid → mid.files ≡ old.files
     → IsNext old.files inputs.boot.platters p name → CannotOpen p.address name mid new s → Refuses c old new s
 refused_file c old mid new inputs p name status.Ok later same next h = absurd h
 refused_file c old mid new inputs p name status.Usage later same next h = absurd h
@@ -94,12 +97,12 @@ refused_file c old mid new inputs p name status.NoMemory later same next h = tt
 refused_file c old mid new inputs p name (status.KeepNoMemory at) later same next h = absurd h
 
 -- an image that does, whether it has a file or is blank
-refused_image : (c : Job) (old mid new : ShelfSeen) (inputs : HasInputs c old.files) (p : BootPlatter) (image : Option (List ℕ)) (s : Status) → Later old mid → mid.files ≡ old.files
+refused_image : (c : Source) (old mid new : ShelfSeen) (inputs : HasInputs c old.files) (p : BootPlatter) (image : Option (List ℕ)) (s : Status) → Later old mid → mid.files ≡ old.files
     → p.image ≡ image → ((name : List ℕ) → p.image ≡ Some name → IsNext old.files inputs.boot.platters p name) → CannotReadFrom image p.address mid new s → Refuses c old new s
 refused_image c old mid new inputs p None s later same is next h = subst (λ st. Refuses c old new st) (sym h) tt
 refused_image c old mid new inputs p (Some name) s later same is next h = refused_file c old mid new inputs p name s later same (next name is) h
 
-by_among : (c : Job) (old mid new : ShelfSeen) (inputs : HasInputs c old.files) (s : Status) → Later old mid → mid.files ≡ old.files → FailsAmong inputs.boot.platters mid new s → Refuses c old new s
+by_among : (c : Source) (old mid new : ShelfSeen) (inputs : HasInputs c old.files) (s : Status) → Later old mid → mid.files ≡ old.files → FailsAmong inputs.boot.platters mid new s → Refuses c old new s
 by_among c old mid new inputs s later same h =
     refused_image c old mid new inputs h.platter h.platter.image s later same refl
     (λ name is. record {
@@ -113,17 +116,17 @@ by_among c old mid new inputs s later same h =
     h.fails
 
 -- one among those of a boot
-pub no_images : (c : Job) (old mid new : ShelfSeen) (inputs : HasInputs c old.files) (s : Status) → Later old mid → mid.files ≡ old.files → CannotReadAll inputs.boot.platters mid new s → Refuses c old new s
+pub no_images : (c : Source) (old mid new : ShelfSeen) (inputs : HasInputs c old.files) (s : Status) → Later old mid → mid.files ≡ old.files → CannotReadAll inputs.boot.platters mid new s → Refuses c old new s
 no_images c old mid new inputs status.NoMemory later same h = tt
 no_images c old mid new inputs s later same h = by_among c old mid new inputs s later same h
 
 stops : (words : List (List ℕ)) (c : Job) (old new : ShelfSeen) (before after : SinkSeen) (s : Status) → command_of words ≡ Some (command.Run c) → new.files ≡ old.files → after ≡ before
-    → Refuses c old new s → Stops words old new before after s
+    → Refuses c.source old new s → Stops words old new before after s
 stops words c old new before after s is same still h = record { job = c; is_command = is; refuses = h; untouched = record { files = same; sink = still } }
 
 -- a command that ends before its run
 pub stopped : (words : List (List ℕ)) (c : Job) (old new : ShelfSeen) (before after : SinkSeen) (s : Status) → command_of words ≡ Some (command.Run c) → new.files ≡ old.files → after ≡ before
-    → Refuses c old new s → RunComes words old new before after s
+    → Refuses c.source old new s → RunComes words old new before after s
 stopped words c old new before after status.Ok is same still h = absurd h.fails
 stopped words c old new before after status.Usage is same still h = absurd h.fails
 stopped words c old new before after (status.Missing at) is same still h = stops words c old new before after (status.Missing at) is same still h
@@ -147,11 +150,11 @@ output xs ys line text old mid new before after at cause later_cause sink_cause 
     ]
 
 -- what the words run
-abbrev runs : (words : List (List ℕ)) (c : Job) (files : Option Files) (inputs : HasInputs c files) (images : Images) → command_of words ≡ Some (command.Run c) → HaveImages files inputs.boot.platters images → Runs words files
+abbrev runs : (words : List (List ℕ)) (c : Job) (files : Option Files) (inputs : HasInputs c.source files) (images : Images) → command_of words ≡ Some (command.Run c) → HaveImages files inputs.boot.platters images → Runs words files
 runs words c files inputs images is have = record { job = c; is_command = is; inputs = inputs; images = images; have_images = have }
 
 -- what is delivered after the inputs were read and the events were run
-pub delivered : (words : List (List ℕ)) (c : Job) (old : ShelfSeen) (inputs : HasInputs c old.files) (images : Images) (all : List Output) (line : List ℕ)
+pub delivered : (words : List (List ℕ)) (c : Job) (old : ShelfSeen) (inputs : HasInputs c.source old.files) (images : Images) (all : List Output) (line : List ℕ)
     (mid new : ShelfSeen) (before after : SinkSeen) (s : Status)
     → command_of words ≡ Some (command.Run c) → HaveImages old.files inputs.boot.platters images
     → all ≡ outputs c.out inputs.boot (world_after (boot_for c.group inputs.boot) images inputs.events).store
@@ -164,7 +167,7 @@ delivered words c old inputs images all line mid new before after status.Ok is h
       files = h.0 ∙ (λ i. with_files (all_is i) (same i));
       written = h.1 ∙ ap (λ (l : List ℕ). option_map (λ w. w ++ l) before.written) line_is;
       groups = groups_show c.out (boot_for c.group inputs.boot) images inputs.events;
-      listed = lists_clean (boot_for c.group inputs.boot) images inputs.events (numbered_for inputs.has_boot.bytes inputs.boot c.group inputs.has_boot.passes);
+      listed = lists_clean (boot_for c.group inputs.boot) images inputs.events (numbered_for c.source old.files inputs c.group);
     }
 delivered words c old inputs images all line mid new before after (status.WriteFault at) is have all_is line_is later same h =
     record {

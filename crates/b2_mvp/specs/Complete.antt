@@ -5,6 +5,7 @@ use Rattle.b2_base.specs.Counts.{Rose}
 use Rattle.b2_base.specs.Files.{Files}
 use Rattle.b2_base.specs.Seen.{ShelfSeen, SinkSeen}
 use Rattle.b2_boot.specs.Boots.{BootState, boot_of}
+use Rattle.b2_boot.specs.Drills.{drill_boot, drill_log}
 use Rattle.b2_boot.specs.Logs.{LogRead, log_of}
 use Rattle.b2_boot.specs.Logs.LogRead.{Events, Refused}
 use Rattle.b2_boot.specs.declared.boot.BootPlatter.{BootPlatter}
@@ -20,6 +21,9 @@ use Rattle.b2_status.specs.declared.status.Status.{Status}
 use Rattle.b2_status.specs.declared.status.Status.TheVariants as status
 use Rattle.b2_mvp.specs.declared.top.Command.{Command}
 use Rattle.b2_mvp.specs.declared.top.Command.TheVariants as command
+use Rattle.b2_mvp.specs.declared.inputs.BootAndLog.{BootAndLog}
+use Rattle.b2_mvp.specs.declared.inputs.Source.{Source}
+use Rattle.b2_mvp.specs.declared.inputs.Source.TheVariants as source
 use Rattle.b2_mvp.specs.declared.top.Job.{Job}
 use Rattle.b2_mvp.specs.Inputs.{boot_limit, log_limit, image_limit}
 use Rattle.b2_mvp.specs.Top.{command_of, boot_for, world_after}
@@ -67,21 +71,29 @@ abbrev pub by_images : Job → BootState → List Event → Result Images Expect
 by_images c boot events (Ok images) = Ends c (world_after (boot_for c.group boot) images events)
 by_images c boot events (Err e) = e
 
+abbrev pub by_inputs : Files → Job → BootState → List Event → Expected
+by_inputs files c boot events = by_images c boot events (by_platters files boot.platters)
+
 abbrev pub by_log : Files → Job → BootState → LogRead → Expected
-by_log files c boot (Events events) = by_images c boot events (by_platters files boot.platters)
+by_log files c boot (Events events) = by_inputs files c boot events
 by_log files c boot (Refused line check) = FailsLogCheck line check
 
-abbrev pub by_log_file : Files → Job → BootState → Option (List ℕ) → Expected
-by_log_file files c boot None = IsMissing c.log
-by_log_file files c boot (Some bytes) = if nat_le (length bytes) log_limit then by_log files c boot (log_of boot bytes) else IsLong c.log log_limit
+abbrev pub by_log_file : Files → Job → BootAndLog → BootState → Option (List ℕ) → Expected
+by_log_file files c texts boot None = IsMissing texts.log
+by_log_file files c texts boot (Some bytes) = if nat_le (length bytes) log_limit then by_log files c boot (log_of boot bytes) else IsLong texts.log log_limit
 
-abbrev pub by_boot : Files → Job → Result BootState ℕ → Expected
-by_boot files c (Err check) = FailsBootCheck check
-by_boot files c (Ok boot) = by_log_file files c boot (get files c.log)
+abbrev pub by_boot : Files → Job → BootAndLog → Result BootState ℕ → Expected
+by_boot files c texts (Err check) = FailsBootCheck check
+by_boot files c texts (Ok boot) = by_log_file files c texts boot (get files texts.log)
 
-abbrev pub by_boot_file : Files → Job → Option (List ℕ) → Expected
-by_boot_file files c None = IsMissing c.boot
-by_boot_file files c (Some bytes) = if nat_le (length bytes) boot_limit then by_boot files c (boot_of bytes) else IsLong c.boot boot_limit
+abbrev pub by_boot_file : Files → Job → BootAndLog → Option (List ℕ) → Expected
+by_boot_file files c texts None = IsMissing texts.boot
+by_boot_file files c texts (Some bytes) = if nat_le (length bytes) boot_limit then by_boot files c texts (boot_of bytes) else IsLong texts.boot boot_limit
+
+-- a drill asks nothing of the files
+abbrev pub by_run : Files → Job → Source → Expected
+by_run files c (source.Files texts) = by_boot_file files c texts (get files texts.boot)
+by_run files c (source.Drill n) = by_inputs files c (drill_boot n) (drill_log n)
 
 -- a view of a file asks nothing of what the file holds
 abbrev pub by_view : View → List ℕ → Option (List ℕ) → Expected
@@ -90,7 +102,7 @@ by_view v name (Some bytes) = if nat_le (length bytes) file_limit then Puts (sho
 
 abbrev pub by_command : Files → Option Command → Expected
 by_command files None = NoCommand
-by_command files (Some (command.Run job)) = by_boot_file files job (get files job.boot)
+by_command files (Some (command.Run job)) = by_run files job job.source
 by_command files (Some (command.Show v name)) = by_view v name (get files name)
 
 abbrev pub expected : List (List ℕ) → Files → Expected

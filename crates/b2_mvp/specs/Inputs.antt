@@ -1,9 +1,10 @@
 -- What the inputs of a run say, and how each can end the call.
-use Rattle.std.specs.Prelude.{◌≡◌, ℕ, List, ◌∷◌, ◌++◌, Option, Some, None, Ok, Err}
+use Rattle.std.specs.Prelude.{◌≡◌, ℕ, ◌≤◌, List, [], ◌∷◌, ◌++◌, Option, Some, None, Ok, Err}
 use Rattle.std.specs.List.{AllZip}
 use Rattle.b2_base.specs.Files.{Files, IsFetched}
 use Rattle.b2_base.specs.Seen.{ShelfSeen}
 use Rattle.b2_boot.specs.Boots.{BootState, boot_of}
+use Rattle.b2_boot.specs.Drills.{drill_boot, drill_log}
 use Rattle.b2_boot.specs.Logs.{log_of}
 use Rattle.b2_boot.specs.declared.boot.BootPlatter.{BootPlatter}
 use Rattle.b2_boot.specs.Logs.LogRead.{Events, Refused}
@@ -17,6 +18,9 @@ use Rattle.b2_platter.specs.Edits.{blank_image}
 use Rattle.b2_platter.specs.declared.layout.Layout.TheVariants.{Narrow}
 use Rattle.b2_store.specs.Files.{IsSound}
 use Rattle.b2_sched.specs.Start.{Images}
+use Rattle.b2_mvp.specs.declared.inputs.BootAndLog.{BootAndLog}
+use Rattle.b2_mvp.specs.declared.inputs.Source.{Source}
+use Rattle.b2_mvp.specs.declared.inputs.Source.TheVariants as source
 use Rattle.b2_status.specs.Fetches.{FetchFails}
 use Rattle.b2_status.specs.declared.status.Status.{Status}
 use Rattle.b2_status.specs.declared.status.Status.TheVariants as status
@@ -139,3 +143,92 @@ pub record FailsAmong (platters : List BootPlatter) (old new : ShelfSeen) (s : S
 abbrev pub CannotReadAll : List BootPlatter → ShelfSeen → ShelfSeen → Status → Type 0
 CannotReadAll platters old new status.NoMemory = Unit {0}
 CannotReadAll platters old new s = FailsAmong platters old new s
+
+-- a boot file and a log pass their checks; the log is checked against the whole boot, whoever runs
+pub record HaveTexts (texts : BootAndLog) (files : Option Files) (boot : BootState) (events : List Event) : Type 0 where
+  pub has_boot : HasBoot texts.boot files boot
+  pub has_log : HasLog texts.log files boot events
+
+-- a boot and a log are those of a drill
+pub record AreOfDrill (n : ℕ) (boot : BootState) (events : List Event) : Type 0 where
+  pub few : n ≤ 5000
+  pub boot_is : boot ≡ drill_boot n
+  pub log_is : events ≡ drill_log n
+
+-- a boot and a log come from where a run takes them
+abbrev pub Gives : Source → Option Files → BootState → List Event → Type 0
+Gives (source.Files texts) files boot events = HaveTexts texts files boot events
+Gives (source.Drill n) files boot events = AreOfDrill n boot events
+
+abbrev pub HasNumber : Source → Type 0
+HasNumber (source.Files texts) = Unit {0}
+HasNumber (source.Drill n) = n ≤ 5000
+
+-- the boot and the log of a run
+pub record HasInputs (s : Source) (files : Option Files) : Type 0 where
+  pub boot : BootState
+  pub events : List Event
+  pub given : Gives s files boot events
+
+-- the inputs of a run, in the order in which they are fetched
+pub data Input : Type 0 where
+  TheBoot : Input
+  TheLog : Input
+  TheImage : (platter : BootPlatter) (name : List ℕ) → Input
+
+-- the names of the boot file and of the log, which a drill has not
+abbrev pub boot_name : Source → List ℕ
+boot_name (source.Files texts) = texts.boot
+boot_name (source.Drill n) = []
+
+abbrev pub log_name : Source → List ℕ
+log_name (source.Files texts) = texts.log
+log_name (source.Drill n) = []
+
+abbrev pub name_of : Source → Input → List ℕ
+name_of s TheBoot = boot_name s
+name_of s TheLog = log_name s
+name_of s (TheImage platter name) = name
+
+abbrev pub limit_of : Input → ℕ
+limit_of TheBoot = boot_limit
+limit_of TheLog = log_limit
+limit_of (TheImage platter name) = image_limit
+
+-- a drill fetches neither boot nor log; the log of files is fetched after the boot has passed its checks, and an image after both are there
+-- and the images before it
+abbrev pub ReachesBoot : Source → Type 0
+ReachesBoot (source.Files texts) = Unit {0}
+ReachesBoot (source.Drill n) = ⊥
+
+abbrev pub ReachesLog : Source → Option Files → Type 0
+ReachesLog (source.Files texts) files = (boot : BootState) × HasBoot texts.boot files boot
+ReachesLog (source.Drill n) files = ⊥
+
+abbrev pub IsReached : Source → Option Files → Input → Type 0
+IsReached s files TheBoot = ReachesBoot s
+IsReached s files TheLog = ReachesLog s files
+IsReached s files (TheImage platter name) = (inputs : HasInputs s files) × IsNext files inputs.boot.platters platter name
+
+-- the fetch of an input that is reached ends the call
+pub record FailsFetch (s : Source) (old new : ShelfSeen) (end : Status) : Type 0 where
+  pub input : Input
+  pub reached : IsReached s old.files input
+  pub fails : FetchFails (name_of s input) (limit_of input) old new end
+
+-- a boot file, and a log, that fail a check
+abbrev pub RefusesBoot : Source → Option Files → ℕ → Type 0
+RefusesBoot (source.Files texts) files check = FailsBoot texts.boot files check
+RefusesBoot (source.Drill n) files check = ⊥
+
+abbrev pub RefusesLog : Source → Option Files → ℕ → ℕ → Type 0
+RefusesLog (source.Files texts) files line check = (boot : BootState) × HasBoot texts.boot files boot × FailsLog texts.log files boot line check
+RefusesLog (source.Drill n) files line check = ⊥
+
+-- when a run ends before its first event: by a check, for want of memory, or by the fetch of an input
+abbrev pub Refuses : Source → ShelfSeen → ShelfSeen → Status → Type 0
+Refuses s old new (status.BadBoot check) = RefusesBoot s old.files check
+Refuses s old new (status.BadLog line check) = RefusesLog s old.files line check
+Refuses s old new (status.BadImage address check) = (inputs : HasInputs s old.files) × FailsImage inputs.boot.platters old.files address check
+Refuses s old new status.NoMemory = Unit {0}
+Refuses s old new end = FailsFetch s old new end

@@ -9,21 +9,21 @@ use Rattle.b2_base.specs.Outside.{IsPartWritten}
 use Rattle.b2_base.specs.Seen.{ShelfSeen, SinkSeen}
 use Rattle.b2_boot.specs.Alone.{alone, is_in_group}
 use Rattle.b2_boot.specs.Boots.{BootState}
+use Rattle.b2_boot.specs.Drills.{drill_number}
 use Rattle.b2_boot.specs.declared.log.Event.{Event}
-use Rattle.b2_boot.specs.declared.boot.BootPlatter.{BootPlatter}
 use Rattle.b2_sched.specs.Start.{Images, booted}
 use Rattle.b2_sched.specs.World.{WorldState, ran}
 use Rattle.b2_look.specs.Shows.{Shows}
 use Rattle.b2_look.specs.declared.shows.View.{View}
 use Rattle.b2_look.specs.declared.shows.View.TheVariants as view
-use Rattle.b2_status.specs.Fetches.{FetchFails}
 use Rattle.b2_status.specs.declared.status.Status.{Status}
 use Rattle.b2_status.specs.declared.status.Status.TheVariants as status
 use Rattle.b2_mvp.specs.declared.top.Command.{Command}
 use Rattle.b2_mvp.specs.declared.top.Command.TheVariants as command
 use Rattle.b2_mvp.specs.declared.top.Job.{Job}
 use Rattle.b2_mvp.specs.Groups.{GroupsShowAsAlone, ListsTheClean}
-use Rattle.b2_mvp.specs.Inputs.{boot_limit, log_limit, image_limit, HasBoot, HasLog, HaveImages, IsNext, FailsBoot, FailsLog, FailsImage}
+use Rattle.b2_mvp.specs.declared.inputs.Source.TheVariants as source
+use Rattle.b2_mvp.specs.Inputs.{HasInputs, HasNumber, HaveImages, Refuses}
 use Rattle.b2_mvp.specs.Outputs.{Output, outputs, with_files, summary, FailsKeep}
 use Rattle.b2_mvp.specs.Parts.{listed_parts}
 
@@ -34,29 +34,41 @@ texts words = map (λ w. w.items) words
 -- the job of three names and a group, where the names are those of files
 abbrev pub job_by : List ℕ → List ℕ → List ℕ → Option (List ℕ) → Option Job
 job_by boot log out group =
-    if is_file_name boot && is_file_name log && is_file_name out then Some (record { boot = boot; log = log; out = out; group = group }) else None
+    if is_file_name boot && is_file_name log && is_file_name out then Some (record { source = source.Files (record { boot = boot; log = log }); out = out; group = group }) else None
 
 abbrev pub run_by : List ℕ → List ℕ → List ℕ → Option (List ℕ) → Option Command
 run_by boot log out group = option_map command.Run (job_by boot log out group)
+
+-- the drill of a number, where it is one, and the name that of a file
+abbrev pub drill_from : Option ℕ → List ℕ → Option Command
+drill_from None out = None
+drill_from (Some n) out = if is_file_name out then Some (command.Run (record { source = source.Drill n; out = out; group = None })) else None
+
+abbrev pub drill_by : List ℕ → List ℕ → Option Command
+drill_by number out = drill_from (drill_number number) out
 
 -- a view of a file, where the name is one
 abbrev pub show_by : View → List ℕ → Option Command
 show_by v name = if is_file_name name then Some (command.Show v name) else None
 
--- `screen FILE`, `check IMAGE`, `run BOOT LOG OUT` and `alone BOOT LOG OUT PARTS`
+-- `screen FILE`, `check IMAGE`, `drill N OUT`, `run BOOT LOG OUT` and `alone BOOT LOG OUT PARTS`
 abbrev pub command_of : List (List ℕ) → Option Command
 command_of (word ∷ name ∷ []) =
     if pointwise nat_eq word (codes "screen") then show_by view.Screen name
     else (if pointwise nat_eq word (codes "check") then show_by view.Check name else None)
+command_of (word ∷ number ∷ out ∷ []) = if pointwise nat_eq word (codes "drill") then drill_by number out else None
 command_of (word ∷ boot ∷ log ∷ out ∷ []) = if pointwise nat_eq word (codes "run") then run_by boot log out None else None
 command_of (word ∷ boot ∷ log ∷ out ∷ parts ∷ []) =
     if pointwise nat_eq word (codes "alone") then option_and_then (λ group. run_by boot log out (Some group)) (listed_parts parts) else None
 command_of words = None
 
--- the front of the outputs' names leaves room for their endings
-abbrev pub HasShortOut : Command → Type 0
-HasShortOut (command.Run job) = length job.out ≤ 190
-HasShortOut (command.Show v name) = Unit {0}
+-- the front of the outputs' names leaves room for their endings, and a drill has a number of one
+abbrev pub IsReady : Job → Type 0
+IsReady job = (length job.out ≤ 190) × HasNumber job.source
+
+abbrev pub CanRun : Command → Type 0
+CanRun (command.Run job) = IsReady job
+CanRun (command.Show v name) = Unit {0}
 
 -- the boot that a job runs: the whole one, or that with its group alone
 abbrev pub boot_for : Option (List ℕ) → BootState → BootState
@@ -67,18 +79,11 @@ boot_for (Some parts) boot = alone (is_in_group parts) boot
 abbrev pub world_after : BootState → Images → List Event → WorldState
 world_after boot images events = ran events (booted boot images)
 
--- a job's boot and log pass their checks; the log is checked against the whole boot, whoever runs
-pub record HasInputs (c : Job) (files : Option Files) : Type 0 where
-  pub boot : BootState
-  pub events : List Event
-  pub has_boot : HasBoot c.boot files boot
-  pub has_log : HasLog c.log files boot events
-
 -- the words run these, and each platter of the boot has its image
 pub record Runs (words : List (List ℕ)) (files : Option Files) : Type 0 where
   pub job : Job
   pub is_command : command_of words ≡ Some (command.Run job)
-  pub inputs : HasInputs job files
+  pub inputs : HasInputs job.source files
   pub images : Images
   pub have_images : HaveImages files inputs.boot.platters images
 
@@ -109,47 +114,11 @@ pub record IsRun (words : List (List ℕ)) (old new : ShelfSeen) (before after :
   pub groups : GroupsShowAsAlone run.job.out (boot_run run) run.images run.inputs.events
   pub listed : ListsTheClean (boot_run run) run.images run.inputs.events
 
--- the inputs of a job, in the order in which they are fetched
-pub data Input : Type 0 where
-  TheBoot : Input
-  TheLog : Input
-  TheImage : (platter : BootPlatter) (name : List ℕ) → Input
-
-abbrev pub name_of : Job → Input → List ℕ
-name_of c TheBoot = c.boot
-name_of c TheLog = c.log
-name_of c (TheImage platter name) = name
-
-abbrev pub limit_of : Input → ℕ
-limit_of TheBoot = boot_limit
-limit_of TheLog = log_limit
-limit_of (TheImage platter name) = image_limit
-
--- the log is fetched after the boot has passed its checks, and an image after the log and the images before it have
-abbrev pub IsReached : Job → Option Files → Input → Type 0
-IsReached c files TheBoot = Unit {0}
-IsReached c files TheLog = (boot : BootState) × HasBoot c.boot files boot
-IsReached c files (TheImage platter name) = (inputs : HasInputs c files) × IsNext files inputs.boot.platters platter name
-
--- the fetch of an input that is reached ends the call
-pub record FailsFetch (c : Job) (old new : ShelfSeen) (s : Status) : Type 0 where
-  pub input : Input
-  pub reached : IsReached c old.files input
-  pub fails : FetchFails (name_of c input) (limit_of input) old new s
-
--- when a job ends before its run: by a check, for want of memory, or by the fetch of an input
-abbrev pub Refuses : Job → ShelfSeen → ShelfSeen → Status → Type 0
-Refuses c old new (status.BadBoot check) = FailsBoot c.boot old.files check
-Refuses c old new (status.BadLog line check) = (boot : BootState) × HasBoot c.boot old.files boot × FailsLog c.log old.files boot line check
-Refuses c old new (status.BadImage address check) = (inputs : HasInputs c old.files) × FailsImage inputs.boot.platters old.files address check
-Refuses c old new status.NoMemory = Unit {0}
-Refuses c old new s = FailsFetch c old new s
-
 -- a job ended before its run, so nothing was kept or put
 pub record Stops (words : List (List ℕ)) (old new : ShelfSeen) (before after : SinkSeen) (s : Status) : Type 0 where
   pub job : Job
   pub is_command : command_of words ≡ Some (command.Run job)
-  pub refuses : Refuses job old new s
+  pub refuses : Refuses job.source old new s
   pub untouched : IsUntouched old new before after
 
 -- a keep failed, and nothing was put; or the line did, which has the empty name, and all was kept

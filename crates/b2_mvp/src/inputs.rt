@@ -7,14 +7,38 @@ ghost use Rattle.b2_boot.specs.Rows.{is_between};
 ghost use Rattle.b2_platter.specs.Edits.{blank_image};
 ghost use Rattle.b2_platter.specs.Image.{index_of};
 ghost use Rattle.b2_platter.specs.declared.layout.Layout.TheVariants.{Narrow};
+ghost use Rattle.b2_mvp.specs.declared.inputs.Source.TheVariants as source;
 ghost use Rattle.b2_status.specs.declared.status.Status.{Status};
 ghost use Rattle.b2_mvp.specs.Inputs as spec;
 
 use b2_base::{Addr, FileName, Shelf};
-use b2_boot::{Boot, BootErr, BootPlatter, Event, LogErr, boot_of, log_of};
+use b2_boot::{Boot, BootErr, BootPlatter, Event, LogErr, boot_of, drill, log_of};
 use b2_platter::Platter;
 use b2_status::{Status, fetch_input};
 use std::alloc::Global;
+
+/// The files of a boot and of a log.
+#[derive(Drop)]
+pub struct BootAndLog {
+    pub boot: FileName,
+    pub log: FileName,
+}
+
+/// Where a run takes its boot and its log from.
+#[derive(Drop)]
+pub enum Source {
+    /// A boot file and a log.
+    Files(BootAndLog),
+    /// The drill of a number.
+    Drill(u16),
+}
+
+/// A boot and the events of its log.
+#[derive(Drop)]
+pub struct Inputs {
+    pub boot: Boot,
+    pub events: Vec<Event>,
+}
 
 /// How many bytes a boot file may have.
 const BOOT_LIMIT: u32 = 65_536;
@@ -46,7 +70,7 @@ fn log_status(refused: LogErr) -> Status
 }
 
 /// The boot of a file.
-pub fn read_boot<F: Shelf>(alloc: Global, name: FileName, shelf: &mut F) -> Result<Boot, Status>
+fn read_boot<F: Shelf>(alloc: Global, name: FileName, shelf: &mut F) -> Result<Boot, Status>
     ensures same { F.files shelf.new ≡ F.files shelf.old }
     ensures later { Later (shelf_seen F.files F.faults F.misses F.longs shelf.old) (shelf_seen F.files F.faults F.misses F.longs shelf.new) }
     ensures ok { IfOk result (λ boot. spec.HasBoot name (F.files shelf.old) boot) }
@@ -64,7 +88,7 @@ pub fn read_boot<F: Shelf>(alloc: Global, name: FileName, shelf: &mut F) -> Resu
 }
 
 /// The events of a log for a boot.
-pub fn read_log<F: Shelf>(
+fn read_log<F: Shelf>(
     alloc: Global,
     name: FileName,
     boot: &Boot,
@@ -82,6 +106,51 @@ pub fn read_log<F: Shelf>(
     match log_of(alloc, &bytes, boot) {
         Ok(events) => Ok(events),
         Err(refused) => Err(log_status(refused)),
+    }
+}
+
+/// The boot and the log of two files.
+fn read_files<F: Shelf>(alloc: Global, files: BootAndLog, shelf: &mut F) -> Result<Inputs, Status>
+    ensures same { F.files shelf.new ≡ F.files shelf.old }
+    ensures later { Later (shelf_seen F.files F.faults F.misses F.longs shelf.old) (shelf_seen F.files F.faults F.misses F.longs shelf.new) }
+    ensures ok { IfOk result (λ inputs. spec.HaveTexts files (F.files shelf.old) inputs.boot inputs.events.items) }
+    ensures good { IfOk result (λ inputs. IsGood inputs.boot) }
+    ensures err { IfErr result (λ status. spec.Refuses (source.Files files) (shelf_seen F.files F.faults F.misses F.longs shelf.old) (shelf_seen F.files F.faults F.misses F.longs shelf.new) status) }
+{
+    let boot = match read_boot(alloc, files.boot, shelf) {
+        Ok(boot) => boot,
+        Err(status) => return Err(status),
+    };
+    match read_log(alloc, files.log, &boot, shelf) {
+        Ok(events) => Ok(Inputs { boot, events }),
+        Err(status) => Err(status),
+    }
+}
+
+/// The boot and the log of a drill.
+fn drill_inputs(alloc: Global, n: u16) -> Result<Inputs, Status>
+    requires { n ≤ 5000 }
+    ensures ok { IfOk result (λ inputs. spec.AreOfDrill n inputs.boot inputs.events.items) }
+    ensures err { IfErr result (λ status. status ≡ Status.NoMemory) }
+{
+    match drill(alloc, n) {
+        Ok((boot, events)) => Ok(Inputs { boot, events }),
+        Err(_) => Err(Status::NoMemory),
+    }
+}
+
+/// The boot and the log of a run.
+pub fn read_inputs<F: Shelf>(alloc: Global, source: Source, shelf: &mut F) -> Result<Inputs, Status>
+    requires { spec.HasNumber source }
+    ensures same { F.files shelf.new ≡ F.files shelf.old }
+    ensures later { Later (shelf_seen F.files F.faults F.misses F.longs shelf.old) (shelf_seen F.files F.faults F.misses F.longs shelf.new) }
+    ensures ok { IfOk result (λ inputs. spec.Gives source (F.files shelf.old) inputs.boot inputs.events.items) }
+    ensures good { IfOk result (λ inputs. IsGood inputs.boot) }
+    ensures err { IfErr result (λ status. spec.Refuses source (shelf_seen F.files F.faults F.misses F.longs shelf.old) (shelf_seen F.files F.faults F.misses F.longs shelf.new) status) }
+{
+    match source {
+        Source::Files(files) => read_files(alloc, files, shelf),
+        Source::Drill(n) => drill_inputs(alloc, n),
     }
 }
 

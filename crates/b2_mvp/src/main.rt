@@ -1,5 +1,6 @@
-//! The machine as a program: `b2_mvp run BOOT LOG OUT`, and `b2_mvp alone BOOT LOG OUT PARTS` for some partitions alone; and
-//! `b2_mvp screen FILE` and `b2_mvp check IMAGE`, which show a transcript's screen and whether a disk image is good.
+//! The machine as a program: `b2_mvp run BOOT LOG OUT`, `b2_mvp alone BOOT LOG OUT PARTS` for some partitions alone, and
+//! `b2_mvp drill N OUT` for a boot and a log that are made from a number; and `b2_mvp screen FILE` and `b2_mvp check IMAGE`, which
+//! show a transcript's screen and whether a disk image is good.
 //!
 //! It reads a boot file, a log of keystrokes, halts and turns, and the images of platters, runs the machine that the boot and its
 //! images start under that log, writes the transcript of each terminal, what each printer printed and the image of each platter to a

@@ -1,28 +1,27 @@
 // The top call.
-ghost use Rattle.std.specs.Prelude.{◌≡◌, ◌≤◌, IfSome, IfOk, None, length};
+ghost use Rattle.std.specs.Prelude.{◌≡◌, ◌≤◌, ◌∷◌, [], IfSome, IfOk, None, length};
 ghost use Rattle.b2_base.specs.Seen.{shelf_seen, sink_seen};
 ghost use Rattle.b2_mvp.specs.Complete.{IsComplete};
 ghost use Rattle.b2_mvp.specs.Outputs.{outputs, summary};
 ghost use Rattle.b2_sched.specs.Start.{CanStart};
-ghost use Rattle.b2_mvp.specs.Top.{command_of, run_by, show_by, boot_for, texts, world_after, HasShortOut, Delivers, JobEnds, Comes};
+ghost use Rattle.b2_mvp.specs.Top.{command_of, run_by, drill_by, show_by, boot_for, texts, world_after, CanRun, IsReady, Delivers, JobEnds, Comes};
 
-use crate::inputs::{read_boot, read_images, read_log};
+use crate::inputs::{BootAndLog, Source, read_images, read_inputs};
 use crate::outputs::{keep_outputs, summarize};
 use crate::parts::Parts;
 use b2_base::{FileName, NoMemory, Shelf, Sink};
-use b2_boot::{Boot, Event};
+use b2_boot::{Boot, Event, drill_number};
 use b2_look::{View, show};
 use b2_platter::Platter;
 use b2_sched::World;
 use b2_status::{Status, put_last};
 use std::alloc::Global;
 
-/// What a run is given: the names of the boot file and of the log, the front of the outputs' names, and the partitions that are to be
+/// What a run is given: where its boot and its log come from, the front of the outputs' names, and the partitions that are to be
 /// there alone, where they are named.
 #[derive(Drop)]
 pub struct Job {
-    pub boot: FileName,
-    pub log: FileName,
+    pub source: Source,
     pub out: FileName,
     pub group: Option<Parts>,
 }
@@ -30,7 +29,7 @@ pub struct Job {
 /// What the words of a command say.
 #[derive(Drop)]
 pub enum Command {
-    /// Run a log from a boot file: `run`, and `alone` for some partitions alone.
+    /// Run a log from a boot: `run`, `alone` for some partitions alone, and `drill`.
     Run(Job),
     /// Show a file: `screen`, and `check`.
     Show(View, FileName),
@@ -46,43 +45,99 @@ struct Ready {
 /// The run of three names and a group, where the names are those of files.
 fn run_by(boot: &[u8], log: &[u8], out: &[u8], group: Option<Parts>) -> Option<Command>
     ensures value { result ≡ run_by boot.now log.now out.now group }
-    ensures short { IfSome result HasShortOut }
+    ensures can_run { IfSome result CanRun }
 {
     let boot = FileName::of(boot)?;
     let log = FileName::of(log)?;
     let out = FileName::of(out)?;
     Some(Command::Run(Job {
-        boot,
-        log,
+        source: Source::Files(BootAndLog { boot, log }),
         out,
         group,
+    }))
+}
+
+/// The run of the drill of a number, where it is one, and the name that of a file.
+fn drill_by(number: &[u8], out: &[u8]) -> Option<Command>
+    ensures value { result ≡ drill_by number.now out.now }
+    ensures can_run { IfSome result CanRun }
+{
+    let n = drill_number(number)?;
+    let out = FileName::of(out)?;
+    Some(Command::Run(Job {
+        source: Source::Drill(n),
+        out,
+        group: None,
     }))
 }
 
 /// The view of a file, where the name is one.
 fn show_by(view: View, name: &[u8]) -> Option<Command>
     ensures value { result ≡ show_by view name.now }
-    ensures short { IfSome result HasShortOut }
+    ensures can_run { IfSome result CanRun }
 {
     let name = FileName::of(name)?;
     Some(Command::Show(view, name))
 }
 
+/// The command of two words.
+fn of_two(word: &[u8], name: &[u8]) -> Option<Command>
+    ensures value { result ≡ command_of (word.now ∷ name.now ∷ []) }
+    ensures can_run { IfSome result CanRun }
+{
+    if word == b"screen".as_slice() {
+        return show_by(View::Screen, name);
+    }
+    if word == b"check".as_slice() {
+        return show_by(View::Check, name);
+    }
+    None
+}
+
+/// The command of three words.
+fn of_three(word: &[u8], number: &[u8], out: &[u8]) -> Option<Command>
+    ensures value { result ≡ command_of (word.now ∷ number.now ∷ out.now ∷ []) }
+    ensures can_run { IfSome result CanRun }
+{
+    if word == b"drill".as_slice() {
+        return drill_by(number, out);
+    }
+    None
+}
+
+/// The command of four words.
+fn of_four(word: &[u8], boot: &[u8], log: &[u8], out: &[u8]) -> Option<Command>
+    ensures value { result ≡ command_of (word.now ∷ boot.now ∷ log.now ∷ out.now ∷ []) }
+    ensures can_run { IfSome result CanRun }
+{
+    if word == b"run".as_slice() {
+        return run_by(boot, log, out, None);
+    }
+    None
+}
+
+/// The command of five words.
+fn of_five(word: &[u8], boot: &[u8], log: &[u8], out: &[u8], parts: &[u8]) -> Option<Command>
+    ensures value { result ≡ command_of (word.now ∷ boot.now ∷ log.now ∷ out.now ∷ parts.now ∷ []) }
+    ensures can_run { IfSome result CanRun }
+{
+    if word == b"alone".as_slice() {
+        let group = Parts::of(parts)?;
+        return run_by(boot, log, out, Some(group));
+    }
+    None
+}
+
 /// The command that the words are.
 fn read_command(words: &[Vec<u8>]) -> Option<Command>
     ensures value { result ≡ command_of (texts words.now) }
-    ensures short { IfSome result HasShortOut }
+    ensures can_run { IfSome result CanRun }
 {
     match words {
-        [word, name] if word.as_slice() == b"screen".as_slice() => show_by(View::Screen, name),
-        [word, name] if word.as_slice() == b"check".as_slice() => show_by(View::Check, name),
-        [word, boot, log, out] if word.as_slice() == b"run".as_slice() => {
-            run_by(boot, log, out, None)
-        }
-        [word, boot, log, out, parts] if word.as_slice() == b"alone".as_slice() => {
-            let group = Parts::of(parts)?;
-            run_by(boot, log, out, Some(group))
-        }
+        [word, name] => of_two(word, name),
+        [word, number, out] => of_three(word, number, out),
+        [word, boot, log, out] => of_four(word, boot, log, out),
+        [word, boot, log, out, parts] => of_five(word, boot, log, out, parts),
         _ => None,
     }
 }
@@ -150,27 +205,23 @@ fn deliver<F: Shelf, O: Sink>(
 
 /// Does a job.
 fn run_job<F: Shelf, O: Sink>(alloc: Global, job: Job, shelf: &mut F, sink: &mut O) -> Status
-    requires { length job.out ≤ 190 }
+    requires { IsReady job }
     ensures { JobEnds job
         (shelf_seen F.files F.faults F.misses F.longs shelf.old) (shelf_seen F.files F.faults F.misses F.longs shelf.new)
         (sink_seen O.written O.faults sink.old) (sink_seen O.written O.faults sink.new) result }
 {
-    let boot = match read_boot(alloc, job.boot, shelf) {
-        Ok(boot) => boot,
+    let inputs = match read_inputs(alloc, job.source, shelf) {
+        Ok(inputs) => inputs,
         Err(status) => return status,
     };
-    let events = match read_log(alloc, job.log, &boot, shelf) {
-        Ok(events) => events,
-        Err(status) => return status,
-    };
-    let platters = match read_images(alloc, &boot.platters, shelf) {
+    let platters = match read_images(alloc, &inputs.boot.platters, shelf) {
         Ok(platters) => platters,
         Err(status) => return status,
     };
-    let Ok(ready) = run_group(alloc, &job.group, &boot, platters, &events) else {
+    let Ok(ready) = run_group(alloc, &job.group, &inputs.boot, platters, &inputs.events) else {
         return Status::NoMemory;
     };
-    deliver(&job.out, &boot, &ready, shelf, sink)
+    deliver(&job.out, &inputs.boot, &ready, shelf, sink)
 }
 
 /// Does what the words say.
@@ -195,7 +246,8 @@ fn run_words<F: Shelf, O: Sink>(
 /// `run BOOT LOG OUT` fetches the boot file, the log and the images of the platters by address, runs the log from the boot, keeps
 /// the transcript of each terminal as `OUT.t` and its number of two digits, what each printer printed as `OUT.p` and its address,
 /// and the image of each platter as `OUT.` and its address, and puts the summary line, which also lists the partitions that are apart. `alone BOOT LOG OUT PARTS` does the same with the
-/// listed partitions alone; the log is checked against the whole boot all the same. `screen FILE` fetches a transcript and puts the
+/// listed partitions alone; the log is checked against the whole boot all the same. `drill N OUT` does as `run` with the boot and
+/// the log of a number from 1 to 5,000, and fetches nothing. `screen FILE` fetches a transcript and puts the
 /// screen that it leaves, as 24 lines, and `check IMAGE` a disk image and puts whether it is good, with its listing, or the first
 /// check that it fails; neither changes a file.
 ///
