@@ -34,6 +34,8 @@ def shows(program, count, put):
         ended = ran(program, ['drill', str(count), 'out'], folder)
         held(f'{count}', ended == (0, put, b''), ended)
         held(f'{count}: its files', set(os.listdir(folder)) == names_of('out'), sorted(os.listdir(folder)))
+        if set(os.listdir(folder)) != names_of('out'):
+            return
         for name in sorted(names_of('out')):
             with open(os.path.join(folder, name), 'rb') as file:
                 content = file.read()
@@ -52,6 +54,8 @@ def is_as_run(program, count):
         by_number = ran(program, ['drill', str(count), 'one'], folder)
         by_files = ran(program, ['run', 'boot', 'log', 'two'], folder)
         held(f'{count} as run', by_number == by_files and by_files[0] == 0, (by_number, by_files))
+        if by_number[0] != 0 or by_files[0] != 0:
+            return
         for one, two in zip(sorted(names_of('one')), sorted(names_of('two'))):
             held(f'{count} as run: {one}', filecmp.cmp(os.path.join(folder, one), os.path.join(folder, two), shallow=False), 'another')
 

@@ -41,14 +41,15 @@ def build(folder):
 
 
 def drill(count):
-    """The boot file and the log of eight partitions, each of which saves the numbers from 1 to `count` on a disk of its own, in turns
-    of changing lengths."""
+    """The boot file and the log of `drill` for a number: eight partitions, each of which saves the numbers up to it on a disk of its own,
+    in turns of changing lengths."""
     lines = ['quota = 20']
     for number in range(1, 9):
         lines += ['[[terminal]]', f'number = {number}', f'front = {number}']
         lines += ['[[partition]]', f'number = {number}', f'terminal = {number}', 'text = 4', 'data = 4', 'globals = 0',
                   f'disk = "D1{number - 1}"']
-        lines += ['[[platter]]', f'address = "D1{number - 1}"', f'blank = {max(16, count + 10)}']
+        lines += ['[[platter]]', f'address = "D1{number - 1}"', f'blank = {max(16, count + 10)}',
+                  f'for = {number}']
     typed = f'DATASAVE DC OPEN T,#1,{count + 2},"F":FOR I=1 TO {count}:DATASAVE DC #1,I:NEXT I:DATASAVE DC #1,END:PRINT I'
     log, state = [f'type {number} {typed}' for number in range(1, 9)], count
     for _ in range(10 * count):
@@ -77,11 +78,12 @@ def next_day(program, folder):
 
 
 class Trial:
-    """A run that is tried under each refusal: its inputs, and what it gives where nothing is refused; what it puts may be wanted."""
+    """A run that is tried under each refusal: its words before the front of the outputs' names, its boot, its inputs, and what it gives
+    where nothing is refused; what it puts may be wanted."""
 
-    def __init__(self, name, program, shim, room, files, wanted=None):
-        self.name, self.program, self.shim, self.room, self.inputs = name, program, shim, room, files
-        self.outputs = ['new.' + output for output in outputs_of(tomllib.loads(files['boot'].decode()))]
+    def __init__(self, name, program, shim, room, words, boot, files, wanted=None):
+        self.name, self.program, self.shim, self.room, self.words, self.inputs = name, program, shim, room, words, files
+        self.outputs = ['new.' + output for output in outputs_of(tomllib.loads(boot.decode()))]
         self.before = {**files, **{output: OLD for output in self.outputs}}
         counts = os.path.join(room, 'counts')
         ended, after = self.run({'B2_COUNTS': counts})
@@ -99,7 +101,7 @@ class Trial:
         with tempfile.TemporaryDirectory(dir=self.room) as folder:
             for name, content in self.before.items():
                 (Path(folder) / name).write_bytes(content)
-            ended = Ended(self.program, ['run', 'boot', 'log', 'new'], folder, {'LD_PRELOAD': self.shim, **environment})
+            ended = Ended(self.program, [*self.words, 'new'], folder, {'LD_PRELOAD': self.shim, **environment})
             return ended, files_in(folder)
 
     def places(self, most):
@@ -152,7 +154,9 @@ class Trial:
 
 def trials(program, shim, room):
     """The runs that are tried."""
-    yield Trial('the day of an office', program, shim, room, office())
-    # Each terminal has 2N + 7 steps and each partition its share of 8(2N + 10) and 10N turns.
-    yield Trial('drill 3', program, shim, room, drill(3), b'turns 158 steps 104 dropped 0 apart 1,2,3,4,5,6,7,8\n')
-    yield Trial('the next day of the depot', program, shim, room, next_day(program, room))
+    run = ['run', 'boot', 'log']
+    day, later = office(), next_day(program, room)
+    yield Trial('the day of an office', program, shim, room, run, day['boot'], day)
+    # Each terminal has 2N + 7 steps and each partition its share of 8(2N + 10) and 10N turns. Nothing is fetched.
+    yield Trial('drill 3', program, shim, room, ['drill', '3'], drill(3)['boot'], {}, b'turns 158 steps 104 dropped 0 apart 1,2,3,4,5,6,7,8\n')
+    yield Trial('the next day of the depot', program, shim, room, run, later['boot'], later)
