@@ -255,6 +255,9 @@ packing_takes_all_that_is_wanted() {
     is_empty "pack: said once" "$work/err"
     gives 23 "pack: the pages are there" env PATH="$PWD/bin" bash -c "cd unpacked/$name && echo '10 PRINT 1/0' >a.bas && exec ./b2 try a.bas"
     has "pack: the pages are there" "$work/err" 'a number is divided by zero'
+    while read -r link; do
+        if [ -e "unpacked/$name/$link" ]; then ok; else bad "pack: README's links" "there is no $link"; fi
+    done < <(sed -n 's/](\([^)#]*\)/\n&\n/gp' "$top/README.md" | sed -n 's/^](//p' | sort -u)
     for tool in lint list vary type live pack; do
         gives 0 "pack: $tool" env PATH="$PWD/bin" bash -c "cd unpacked/$name && exec ./b2 $tool --help"
     done
