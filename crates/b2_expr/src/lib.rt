@@ -33,7 +33,7 @@ mod scope;
 mod value;
 mod workspace;
 
-pub use evaluate::{alpha as alpha_at, climb, located, second};
+pub use evaluate::{climb, located, second};
 pub use found::{Judged, after_condition};
 pub use functions::{fixed, whole_between};
 pub use kinds::suits;
@@ -42,6 +42,6 @@ pub use operators::Level;
 pub use passing::{past_alpha, past_name, past_part, past_sum};
 pub use scope::{Env, Scope, variables_of};
 pub use value::{
-    alpha, condition, condition_at, in_statement, number, number_or_code, plain_number,
+    alpha, alpha_at, condition, condition_at, in_statement, number, number_or_code, plain_number,
 };
 pub use workspace::{Workspace, reached_after, surroundings_of};

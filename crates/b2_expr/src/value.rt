@@ -1,15 +1,16 @@
 // The values of the expressions at a cursor.
-ghost use Rattle.std.specs.Prelude.{◌≡◌, true, false, is_err, MatchResult, None, Ok, Err};
+ghost use Rattle.std.specs.Prelude.{◌≡◌, true, false, is_err, MatchResult, [], None, Ok, Err};
 ghost use Rattle.b2_atom.specs.declared.rows.TheConstants as row;
 ghost use Rattle.b2_rows.specs.Rows.{is_part, tree_at, after_part};
 ghost use Rattle.b2_expr.specs.Condition.{truth};
 ghost use Rattle.b2_expr.specs.Value.{context, in_statement, text, value};
+ghost use Rattle.b2_expr.specs.Value as meaning;
 ghost use Rattle.b2_expr.specs.Reads.{Finds, Judges};
 ghost use Rattle.b2_expr.specs.Scope.{Surroundings, surroundings};
 ghost use Rattle.b2_expr.specs.declared.operators.Level.TheVariants as level_of;
 
 use crate::conditions::truth;
-use crate::evaluate::{alpha as alpha_at, sum};
+use crate::evaluate::{alpha as text_at, sum};
 use crate::found::{Found, Judged, after_condition, after_sum};
 use crate::plain::plain_sum;
 use crate::scope::{Env, Scope};
@@ -79,6 +80,22 @@ pub fn plain_number(text: &[u8], own: &Vars, mode: Mode) -> NumberOrCode
 {
     let found = plain_sum(own, mode, text);
     found.number
+}
+
+/// Puts the bytes of the alpha expression at a text where there are none, and gives what stands after it; or the first code from the
+/// left, and then there are none, as before.
+pub fn alpha_at<'a>(s: &Scope<'_>, text: &'a [u8], into: &mut Bytes) -> Result<&'a [u8], Code>
+    requires part { is_part row.ALPHA text.now ≡ true }
+    requires empty { into.old ≡ [] }
+    ensures { MatchResult result (λ left. (meaning.text (context s.now) (tree_at row.ALPHA text.now) ≡ Ok into.new) × (left.now ≡ after_part row.ALPHA text.now)) (λ code. (meaning.text (context s.now) (tree_at row.ALPHA text.now) ≡ Err code) × (into.new ≡ into.old)) }
+{
+    match text_at(s, text, into) {
+        Ok(rest) => Ok(rest),
+        Err(code) => {
+            into.clear();
+            Err(code)
+        }
+    }
 }
 
 /// Puts the bytes of the alpha expression at a cursor in the place of what was there, and the cursor then stands after it;
