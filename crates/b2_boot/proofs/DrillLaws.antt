@@ -1,14 +1,13 @@
 -- What holds of each drill.
-use Rattle.std.proofs.Common.{◌≡◌, ℕ, zero, suc, ◌+◌, ◌*◌, ◌%◌, ◌≤◌, ◌<◌, ◌&&◌, Bool, true, List, [], ◌∷◌, ◌++◌, flat_map, map, max, Some, None, refl, sym, ap, ◌∙◌, arith}
+use Rattle.std.proofs.Common.{◌≡◌, ℕ, zero, suc, ◌+◌, ◌*◌, ◌%◌, ◌≤◌, true, List, [], ◌∷◌, ◌++◌, flat_map, map, max, Some, None, refl, ◌∙◌, arith}
 use Rattle.std.specs.List.{list_all}
 use Rattle.std.proofs.lemmas.Nat.{mod_below}
 use Rattle.std.proofs.lemmas.Bool.{and_parts, le-leb}
 use Rattle.std.proofs.lemmas.List.Folds.{list_all-append}
-use Rattle.b2_boot.specs.Boots.{BootState, IsGood, has_terminal, is_platter}
+use Rattle.b2_boot.specs.Boots.{BootState, has_terminal, is_platter}
 use Rattle.b2_boot.specs.Drills.{DrillsAreGood, DrillsAreOfTheirBoot, DrillsGrantFew, clerks, disk_of, drill_boot, drill_log, next_of, turns, typed_line}
-use Rattle.b2_boot.specs.Logs.{granted_by, grants, is_of_boot, key_events}
+use Rattle.b2_boot.specs.Logs.{granted_by, is_of_boot, key_events}
 use Rattle.b2_boot.specs.Rows.{is_between}
-use Rattle.b2_boot.specs.declared.log.Event.{Event}
 use Rattle.b2_boot.specs.declared.log.Event.TheVariants as event
 use Rattle.b2_boot.proofs.Events.{keys_fit}
 use Rattle.b2_boot.proofs.Granted.{granted_by-append, keys_grant_nothing}

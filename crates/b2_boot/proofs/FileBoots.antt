@@ -8,7 +8,7 @@ use Rattle.b2_boot.specs.declared.rows.PlatterRow.{PlatterRow}
 use Rattle.b2_boot.specs.declared.rows.PrinterRow.{PrinterRow}
 use Rattle.b2_boot.specs.declared.rows.TerminalRow.{TerminalRow}
 use Rattle.b2_boot.specs.declared.rows.PartitionRow.{PartitionRow}
-use Rattle.b2_boot.specs.Rows.{RowsState, all_known, document_of, is_between, quota_of, number_of_key, terminals_said, partitions_of, platters_said, printers_said, rows_from, document_rows}
+use Rattle.b2_boot.specs.Rows.{RowsState, all_known, document_of, is_between, quota_of, number_of_key, terminal_said, partition_row, platter_row, printer_row, rows_at, rows_from, document_rows}
 use Rattle.b2_boot.specs.Boots.{BootState, IsGood, boot_by_document, boot_by_rows, boot_from, check_of_rows, is_either, partitions_by_number, terminals_by_number, unless_failed}
 use Rattle.b2_boot.specs.Laws.{BootsOfFilesAreGood}
 use Rattle.b2_boot.proofs.Passed.{good_boot, passed}
@@ -39,7 +39,7 @@ document_quota : (ms : Members) → IfSome (document_rows ms) HasQuota
 document_quota ms =
     elim (cases_Bool (all_known section.File ms)) [
       | inl known ↦ rw known
-          (rows_quota (quota_of (number_of_key (codes "quota") ms)) (terminals_said ms) (partitions_of ms) (platters_said ms) (printers_said ms) (quota_within (number_of_key (codes "quota") ms)))
+          (rows_quota (quota_of (number_of_key (codes "quota") ms)) (rows_at terminal_said (codes "terminal") ms) (rows_at partition_row (codes "partition") ms) (rows_at platter_row (codes "platter") ms) (rows_at printer_row (codes "printer") ms) (quota_within (number_of_key (codes "quota") ms)))
       | inr other ↦ rw other tt
     ]
 

@@ -8,7 +8,7 @@ use Rattle.b2_boot.specs.declared.rows.PlatterRow.{PlatterRow}
 use Rattle.b2_boot.specs.declared.rows.PrinterRow.{PrinterRow}
 use Rattle.b2_boot.specs.declared.rows.TerminalRow.{TerminalRow}
 use Rattle.b2_boot.specs.declared.rows.PartitionRow.{PartitionRow}
-use Rattle.b2_boot.specs.Rows.{small, is_between, all_known, sectors_of, text_of_key, only_of_key, platter_from, platter_row, platter_rows, before_rows, items_of_key, platters_said, printers_said, quota_of, number_of_key, terminals_said, partitions_of, rows_from, document_rows}
+use Rattle.b2_boot.specs.Rows.{small, is_between, all_known, sectors_of, text_of_key, only_of_key, platter_from, platter_row, terminal_said, partition_row, printer_row, rows_in, rows_at, before_rows, items_of_key, quota_of, number_of_key, rows_from, document_rows}
 use Rattle.b2_boot.specs.Boots.{is_either}
 
 -- a platter of a row has one source
@@ -54,11 +54,11 @@ both_sources (Some p) (Some ps) here more = rw here more
 both_sources (Some p) None here more = tt
 both_sources None ps here more = tt
 
-rows_sources : (ds : Items) → IfSome (platter_rows ds) HaveSources
+rows_sources : (ds : Items) → IfSome (rows_in platter_row ds) HaveSources
 rows_sources no_items = refl
-rows_sources (item d ds) = both_sources (option_and_then platter_row (as_table d)) (platter_rows ds) (table_source (as_table d)) (rows_sources ds)
+rows_sources (item d ds) = both_sources (option_and_then platter_row (as_table d)) (rows_in platter_row ds) (table_source (as_table d)) (rows_sources ds)
 
-items_sources : (items : Option Items) → IfSome (option_and_then platter_rows items) HaveSources
+items_sources : (items : Option Items) → IfSome (option_and_then (rows_in platter_row) items) HaveSources
 items_sources None = tt
 items_sources (Some ds) = rows_sources ds
 
@@ -75,6 +75,6 @@ pub document_sources : (ms : Members) → IfSome (document_rows ms) (λ b. HaveS
 document_sources ms =
     elim (cases_Bool (all_known section.File ms)) [
       | inl known ↦ rw known
-          (all_sources (quota_of (number_of_key (codes "quota") ms)) (terminals_said ms) (partitions_of ms) (platters_said ms) (printers_said ms) (items_sources (items_of_key (get_member (codes "platter") ms))))
+          (all_sources (quota_of (number_of_key (codes "quota") ms)) (rows_at terminal_said (codes "terminal") ms) (rows_at partition_row (codes "partition") ms) (rows_at platter_row (codes "platter") ms) (rows_at printer_row (codes "printer") ms) (items_sources (items_of_key (get_member (codes "platter") ms))))
       | inr other ↦ rw other tt
     ]

@@ -27,16 +27,16 @@ pub record BootState : Type 0 where
   pub printers : List BootPrinter
 
 -- the numbers of rows
-abbrev pub terminal_numbers : List TerminalRow → List ℕ
-terminal_numbers rows = map (λ r. r.number) rows
+abbrev pub number_of_terminal : TerminalRow → ℕ
+number_of_terminal r = r.number
 
-abbrev pub partition_numbers : List PartitionRow → List ℕ
-partition_numbers rows = map (λ r. r.number) rows
+abbrev pub number_of_partition : PartitionRow → ℕ
+number_of_partition r = r.number
 
 -- 4 and 5: each number is from 1 to the most, and none stands twice
-abbrev pub stand_once : ℕ → List ℕ → Bool
-stand_once most [] = true
-stand_once most (n ∷ ns) = (is_between 1 most n && not (list_any (λ m. m == n) ns)) && stand_once most ns
+abbrev pub stand_once : {A : Type 0} → (A → ℕ) → ℕ → List A → Bool
+stand_once number most [] = true
+stand_once number most (r ∷ rs) = (is_between 1 most (number r) && not (list_any (λ q. number q == number r) rs)) && stand_once number most rs
 
 -- 3: there are 1 to 12 terminals, 1 to 16 partitions, at most 8 platters, and at most 4 printers
 abbrev pub are_counted : RowsState → Bool
@@ -155,12 +155,6 @@ abbrev pub rows_up_to : {A : Type 0} → (A → ℕ) → ℕ → List A → List
 rows_up_to number zero rows = []
 rows_up_to number (suc n) rows = rows_up_to number n rows ++ rows_numbered number (suc n) rows
 
-abbrev pub number_of_terminal : TerminalRow → ℕ
-number_of_terminal r = r.number
-
-abbrev pub number_of_partition : PartitionRow → ℕ
-number_of_partition r = r.number
-
 -- the terminals and the partitions in ascending order
 abbrev pub terminals_by_number : List TerminalRow → List TerminalRow
 terminals_by_number rows = rows_up_to number_of_terminal 12 rows
@@ -184,7 +178,7 @@ checks_of_sorted terminals partitions platters printers =
 -- the checks of what a document says; those of sizes and between rows look at terminals and partitions in ascending order
 abbrev pub checks : RowsState → List TerminalRow → List PartitionRow → List (ℕ × Bool)
 checks b terminals partitions =
-    (3, are_counted b) ∷ (4, stand_once 12 (terminal_numbers b.terminals)) ∷ (5, stand_once 16 (partition_numbers b.partitions))
+    (3, are_counted b) ∷ (4, stand_once number_of_terminal 12 b.terminals) ∷ (5, stand_once number_of_partition 16 b.partitions)
     ∷ checks_of_sorted terminals partitions b.platters b.printers
 
 abbrev pub check_of_rows : RowsState → Option ℕ

@@ -150,39 +150,18 @@ before_rows (Some x) (Some xs) = Some (x ∷ xs)
 before_rows x xs = None
 
 -- each item as a row of its own
-abbrev pub terminal_rows : Items → Option (List TerminalRow)
-terminal_rows no_items = Some []
-terminal_rows (item d ds) = before_rows (option_and_then terminal_said (as_table d)) (terminal_rows ds)
-
-abbrev pub partition_rows : Items → Option (List PartitionRow)
-partition_rows no_items = Some []
-partition_rows (item d ds) = before_rows (option_and_then partition_row (as_table d)) (partition_rows ds)
-
-abbrev pub platter_rows : Items → Option (List PlatterRow)
-platter_rows no_items = Some []
-platter_rows (item d ds) = before_rows (option_and_then platter_row (as_table d)) (platter_rows ds)
-
-abbrev pub printer_rows : Items → Option (List PrinterRow)
-printer_rows no_items = Some []
-printer_rows (item d ds) = before_rows (option_and_then printer_row (as_table d)) (printer_rows ds)
+abbrev pub rows_in : {A : Type 0} → (Members → Option A) → Items → Option (List A)
+rows_in row no_items = Some []
+rows_in row (item d ds) = before_rows (option_and_then row (as_table d)) (rows_in row ds)
 
 -- a quota is from 1 to 1000
 abbrev pub quota_of : Option ℕ → Option ℕ
 quota_of None = None
 quota_of (Some quota) = if is_between 1 1000 quota then Some quota else None
 
--- the rows of all terminals, of all partitions, of all platters, and of all printers
-abbrev pub terminals_said : Members → Option (List TerminalRow)
-terminals_said ms = option_and_then terminal_rows (items_of_key (get_member (codes "terminal") ms))
-
-abbrev pub partitions_of : Members → Option (List PartitionRow)
-partitions_of ms = option_and_then partition_rows (items_of_key (get_member (codes "partition") ms))
-
-abbrev pub platters_said : Members → Option (List PlatterRow)
-platters_said ms = option_and_then platter_rows (items_of_key (get_member (codes "platter") ms))
-
-abbrev pub printers_said : Members → Option (List PrinterRow)
-printers_said ms = option_and_then printer_rows (items_of_key (get_member (codes "printer") ms))
+-- the rows of the tables at a key: none where the key isn't there
+abbrev pub rows_at : {A : Type 0} → (Members → Option A) → List ℕ → Members → Option (List A)
+rows_at row key ms = option_and_then (rows_in row) (items_of_key (get_member key ms))
 
 abbrev pub rows_from : Option ℕ → Option (List TerminalRow) → Option (List PartitionRow) → Option (List PlatterRow) → Option (List PrinterRow) → Option RowsState
 rows_from (Some quota) (Some terminals) (Some partitions) (Some platters) (Some printers) =
@@ -193,5 +172,6 @@ rows_from quota terminals partitions platters printers = None
 abbrev pub document_rows : Members → Option RowsState
 document_rows ms =
     if all_known section.File ms then
-    rows_from (quota_of (number_of_key (codes "quota") ms)) (terminals_said ms) (partitions_of ms) (platters_said ms) (printers_said ms)
+    rows_from (quota_of (number_of_key (codes "quota") ms)) (rows_at terminal_said (codes "terminal") ms) (rows_at partition_row (codes "partition") ms)
+    (rows_at platter_row (codes "platter") ms) (rows_at printer_row (codes "printer") ms)
     else None

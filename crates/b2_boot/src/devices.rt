@@ -4,6 +4,7 @@ ghost use Rattle.std.specs.List.{list_all, list_any};
 ghost use Rattle.b2_boot.specs.Boots as spec;
 ghost use Rattle.b2_boot.specs.Rows.{spells};
 
+use crate::numbered::has_number;
 use crate::platters::{self, are_platter_addresses, images_differ, images_named};
 use crate::printers::{self, are_printer_addresses};
 use crate::rows::{PartitionRow, PlatterRow, PrinterRow};
@@ -40,19 +41,12 @@ fn addresses_fit(platters: &[PlatterRow], printers: &[PrinterRow]) -> bool
         && addresses_differ(printers, platters)
 }
 
-/// Whether a partition of a number is listed.
-fn is_listed(number: u16, partitions: &[PartitionRow]) -> bool
-    ensures { result ≡ list_any (λ p. p.number == number) partitions.now }
-{
-    partitions.iter().any(|p| p.number == number)
-}
-
 /// Whether a device is for all partitions, or for one that is listed.
 fn may_be_for(partitions: &[PartitionRow], only: Option<u16>) -> bool
     ensures { result ≡ spec.may_be_for partitions.now only }
 {
     match only {
-        Some(number) => is_listed(number, partitions),
+        Some(number) => has_number(number, partitions),
         None => true,
     }
 }

@@ -1,14 +1,24 @@
 // What a boot file says before its checks: the rows of its tables, in the file's order.
-ghost use Rattle.std.specs.Prelude.{◌≡◌, IfOk, IfSome, Some, true, codes, option_map, option_and_then};
+ghost use Rattle.std.specs.Prelude.{◌≡◌, IfOk, IfSome, Option, Some, true, codes, option_map, option_and_then};
 ghost use Rattle.std.specs.Option.{option_copied};
 ghost use Rattle.toml.specs.View.{view, table_view, items_view};
-ghost use Rattle.toml.specs.Data.{get_member, as_integer, as_table};
+ghost use Rattle.toml.specs.Data.{Members, get_member, as_integer, as_table};
 ghost use Rattle.b2_boot.specs.Rows as spec;
 
 use b2_base::{ByteList, NoMemory};
 use std::alloc::Global;
 use std::marker::Model;
 use toml::{Table, Value};
+
+/// A row that a table of the file may say.
+pub trait TableRow: Sized + Drop {
+    /// The row that a table says, None where a key is unknown, missing or of another kind.
+    ghost of_table: { Members → Option Self };
+
+    /// That row.
+    fn from_table(alloc: Global, table: &Table) -> Result<Option<Self>, NoMemory>
+        ensures { IfOk result (λ found. found ≡ of_table (table_view table.now)) };
+}
 
 /// Which table of the file a key stands in.
 #[derive(Clone, Copy)]
@@ -427,95 +437,63 @@ fn printer_row(alloc: Global, table: &Table) -> Result<Option<PrinterRow>, NoMem
     }))
 }
 
-/// The row that an item of a table's array is, None where it is none.
-fn terminal_in(item: &Value) -> Option<TerminalRow>
-    ensures { result ≡ option_and_then spec.terminal_said (as_table (view item.now)) }
-{
-    match item.as_table() {
-        Some(table) => terminal_said(table),
-        None => None,
+impl TableRow for TerminalRow {
+    ghost use Rattle.b2_boot.specs.Rows.{terminal_said};
+
+    ghost of_table = { terminal_said };
+
+    fn from_table(alloc: Global, table: &Table) -> Result<Option<TerminalRow>, NoMemory> {
+        Ok(terminal_said(table))
     }
 }
 
-/// The row that an item of a table's array is, None where it is none.
-fn partition_in(alloc: Global, item: &Value) -> Result<Option<PartitionRow>, NoMemory>
-    ensures { IfOk result (λ found. found ≡ option_and_then spec.partition_row (as_table (view item.now))) }
+impl TableRow for PartitionRow {
+    ghost use Rattle.b2_boot.specs.Rows.{partition_row};
+
+    ghost of_table = { partition_row };
+
+    fn from_table(alloc: Global, table: &Table) -> Result<Option<PartitionRow>, NoMemory> {
+        partition_row(alloc, table)
+    }
+}
+
+impl TableRow for PlatterRow {
+    ghost use Rattle.b2_boot.specs.Rows.{platter_row};
+
+    ghost of_table = { platter_row };
+
+    fn from_table(alloc: Global, table: &Table) -> Result<Option<PlatterRow>, NoMemory> {
+        platter_row(alloc, table)
+    }
+}
+
+impl TableRow for PrinterRow {
+    ghost use Rattle.b2_boot.specs.Rows.{printer_row};
+
+    ghost of_table = { printer_row };
+
+    fn from_table(alloc: Global, table: &Table) -> Result<Option<PrinterRow>, NoMemory> {
+        printer_row(alloc, table)
+    }
+}
+
+/// The row that an item of an array is, None where it is none.
+fn row_in<R: TableRow>(alloc: Global, item: &Value) -> Result<Option<R>, NoMemory>
+    ensures { IfOk result (λ found. found ≡ option_and_then R.of_table (as_table (view item.now))) }
 {
     match item.as_table() {
-        Some(table) => partition_row(alloc, table),
+        Some(table) => R::from_table(alloc, table),
         None => Ok(None),
     }
 }
 
-/// The row that an item of a table's array is, None where it is none.
-fn platter_in(alloc: Global, item: &Value) -> Result<Option<PlatterRow>, NoMemory>
-    ensures { IfOk result (λ found. found ≡ option_and_then spec.platter_row (as_table (view item.now))) }
-{
-    match item.as_table() {
-        Some(table) => platter_row(alloc, table),
-        None => Ok(None),
-    }
-}
-
-/// The row that an item of a table's array is, None where it is none.
-fn printer_in(alloc: Global, item: &Value) -> Result<Option<PrinterRow>, NoMemory>
-    ensures { IfOk result (λ found. found ≡ option_and_then spec.printer_row (as_table (view item.now))) }
-{
-    match item.as_table() {
-        Some(table) => printer_row(alloc, table),
-        None => Ok(None),
-    }
-}
-
 /// All items as rows, None where one is none.
-fn terminal_rows(alloc: Global, items: &[Value]) -> Result<Option<Vec<TerminalRow>>, NoMemory>
-    ensures { IfOk result (λ found. option_map (λ rows. rows.items) found ≡ spec.terminal_rows (items_view items.now)) }
+fn rows_in<R: TableRow>(alloc: Global, items: &[Value]) -> Result<Option<Vec<R>>, NoMemory>
+    ensures { IfOk result (λ found. option_map (λ rows. rows.items) found ≡ spec.rows_in R.of_table (items_view items.now)) }
 {
     let mut rows = Vec::new(alloc);
     for item in items {
-        match terminal_in(item) {
-            Some(row) => rows.push(row)?,
-            None => return Ok(None),
-        }
-    }
-    Ok(Some(rows))
-}
-
-/// All items as rows, None where one is none.
-fn partition_rows(alloc: Global, items: &[Value]) -> Result<Option<Vec<PartitionRow>>, NoMemory>
-    ensures { IfOk result (λ found. option_map (λ rows. rows.items) found ≡ spec.partition_rows (items_view items.now)) }
-{
-    let mut rows = Vec::new(alloc);
-    for item in items {
-        match partition_in(alloc, item)? {
-            Some(row) => rows.push(row)?,
-            None => return Ok(None),
-        }
-    }
-    Ok(Some(rows))
-}
-
-/// All items as rows, None where one is none.
-fn platter_rows(alloc: Global, items: &[Value]) -> Result<Option<Vec<PlatterRow>>, NoMemory>
-    ensures { IfOk result (λ found. option_map (λ rows. rows.items) found ≡ spec.platter_rows (items_view items.now)) }
-{
-    let mut rows = Vec::new(alloc);
-    for item in items {
-        match platter_in(alloc, item)? {
-            Some(row) => rows.push(row)?,
-            None => return Ok(None),
-        }
-    }
-    Ok(Some(rows))
-}
-
-/// All items as rows, None where one is none.
-fn printer_rows(alloc: Global, items: &[Value]) -> Result<Option<Vec<PrinterRow>>, NoMemory>
-    ensures { IfOk result (λ found. option_map (λ rows. rows.items) found ≡ spec.printer_rows (items_view items.now)) }
-{
-    let mut rows = Vec::new(alloc);
-    for item in items {
-        match printer_in(alloc, item)? {
+        match row_in(alloc, item)? {
             Some(row) => rows.push(row)?,
             None => return Ok(None),
         }
@@ -551,42 +529,12 @@ fn quota(table: &Table) -> Option<u16>
     }
 }
 
-/// The rows of the terminals, None where a key of one is unknown, missing or of another kind.
-fn terminals(alloc: Global, table: &Table) -> Result<Option<Vec<TerminalRow>>, NoMemory>
-    ensures { IfOk result (λ found. option_map (λ rows. rows.items) found ≡ spec.terminals_said (table_view table.now)) }
+/// The rows of the tables at a key, None where a key of one is unknown, missing or of another kind.
+fn rows_at<R: TableRow>(alloc: Global, table: &Table, key: &str) -> Result<Option<Vec<R>>, NoMemory>
+    ensures { IfOk result (λ found. option_map (λ rows. rows.items) found ≡ spec.rows_at R.of_table key.now (table_view table.now)) }
 {
-    match items_at(table, "terminal") {
-        Some(items) => terminal_rows(alloc, items),
-        None => Ok(None),
-    }
-}
-
-/// The rows of the partitions, None where a key of one is unknown, missing or of another kind.
-fn partitions(alloc: Global, table: &Table) -> Result<Option<Vec<PartitionRow>>, NoMemory>
-    ensures { IfOk result (λ found. option_map (λ rows. rows.items) found ≡ spec.partitions_of (table_view table.now)) }
-{
-    match items_at(table, "partition") {
-        Some(items) => partition_rows(alloc, items),
-        None => Ok(None),
-    }
-}
-
-/// The rows of the platters, None where a key of one is unknown, missing or of another kind.
-fn platters_said(alloc: Global, table: &Table) -> Result<Option<Vec<PlatterRow>>, NoMemory>
-    ensures { IfOk result (λ found. option_map (λ rows. rows.items) found ≡ spec.platters_said (table_view table.now)) }
-{
-    match items_at(table, "platter") {
-        Some(items) => platter_rows(alloc, items),
-        None => Ok(None),
-    }
-}
-
-/// The rows of the printers, None where a key of one is unknown, missing or of another kind.
-fn printers_said(alloc: Global, table: &Table) -> Result<Option<Vec<PrinterRow>>, NoMemory>
-    ensures { IfOk result (λ found. option_map (λ rows. rows.items) found ≡ spec.printers_said (table_view table.now)) }
-{
-    match items_at(table, "printer") {
-        Some(items) => printer_rows(alloc, items),
+    match items_at(table, key) {
+        Some(items) => rows_in(alloc, items),
         None => Ok(None),
     }
 }
@@ -603,16 +551,16 @@ pub fn boot_rows(alloc: Global, table: &Table) -> Result<Option<BootRows>, NoMem
     let Some(quota) = quota(table) else {
         return Ok(None);
     };
-    let Some(terminals) = terminals(alloc, table)? else {
+    let Some(terminals) = rows_at(alloc, table, "terminal")? else {
         return Ok(None);
     };
-    let Some(partitions) = partitions(alloc, table)? else {
+    let Some(partitions) = rows_at(alloc, table, "partition")? else {
         return Ok(None);
     };
-    let Some(platters) = platters_said(alloc, table)? else {
+    let Some(platters) = rows_at(alloc, table, "platter")? else {
         return Ok(None);
     };
-    let Some(printers) = printers_said(alloc, table)? else {
+    let Some(printers) = rows_at(alloc, table, "printer")? else {
         return Ok(None);
     };
     Ok(Some(BootRows {
