@@ -455,7 +455,7 @@ try_has_devices() {
     same "try --disk --keep leaves the same disk" again.D11 my.disk
     echo x >bad.disk
     gives 6 "try --disk of no image" ./b2 try --disk bad.disk listing.bas
-    is_text "try --disk of no image" "$work/err" "try: bad image D11 1\ntry: bad.disk: the length isn't 256 times 16 to 32,512\n"
+    is_text "try --disk of no image" "$work/err" "try: bad image D11 1\ntry: bad.disk: the length isn't 256 times 16 to 262,144\n"
     is_text "try --disk of no image leaves it" bad.disk 'x\n'
     gives 2 "try --disk of a folder" ./b2 try --disk kept listing.bas
     gives 2 "try --disk in no folder" ./b2 try --disk nofolder/my.disk listing.bas

@@ -2,7 +2,7 @@
 
 SECTOR = 256
 
-# Bytes that stand at a place of an image; the rest is 00. Numbers of two bytes have the high byte first.
+# Bytes that stand at a place of an image; the rest is 00. Numbers of several bytes have the high byte first.
 PIECES = {
     # An index of one sector of 16 sectors in all, all of them catalogue, the next free one is 4. In its first slot live data from
     # sector 1 to 3, of the name A, whose control sector says that two sectors are used.
@@ -16,6 +16,14 @@ PIECES = {
         (7, '06'),
         (32, '11 50 0004 0005 0000 4220202020202020'),
         (1280, 'A1 0001'),
+    ],
+    # The same two files on an image of version 2, whose sector numbers have three bytes.
+    'wide_files': [
+        (0, '02 01 000010 000010 000006'),
+        (16, '10 44 000001 000003 4120202020202020'),
+        (32, '11 50 000004 000005 4220202020202020'),
+        (768, 'A1 000002'),
+        (1280, 'A1 000001'),
     ],
     # An index of two sectors, and the file of sectors 2 and 3 in the first slot of its second one. The bytes of the name A make
     # an odd sum, so that its look-up begins there.
@@ -115,9 +123,11 @@ def program_files():
 
 
 def image_of(words):
-    """The image that words name: `two_files`, `program_files`, or a size and pieces."""
+    """The image that words name: `two_files`, `wide_files` and maybe pieces, `program_files`, or a size and pieces."""
     if words == ['two_files']:
         words = ['4096', 'one_file', 'second_file']
+    if words[0] == 'wide_files':
+        words = ['4096', *words]
     if words == ['program_files']:
         return program_files()
     image = bytearray(int(words[0]))

@@ -20,9 +20,19 @@ LINES = {
 SUMMARY = re.compile(rb'turns \d+ steps \d+ dropped \d+ apart (-|\d+(?:,\d+)*)\n')
 
 
-def word_at(image, place):
-    """The number of two bytes at a place."""
-    return image[place] * SECTOR + image[place + 1]
+# How many bytes a sector number takes in each version of an image, and how many sectors one may have.
+WIDTHS = {1: 2, 2: 3}
+MOST = {1: 32512, 2: 262144}
+
+
+def width_of(image):
+    """How many bytes a sector number takes in an image."""
+    return WIDTHS.get(image[0], 2)
+
+
+def number_at(some, place, width):
+    """The number of some bytes at a place."""
+    return int.from_bytes(some[place:place + width], 'big')
 
 
 def slots_of(image):
@@ -32,11 +42,11 @@ def slots_of(image):
             yield sector, image[place:place + 16]
 
 
-def is_spelled(slot):
+def is_spelled(slot, width):
     """Whether a slot is spelled as its status wants."""
     if slot[0] in (0x10, 0x11):
         name = slot[8:]
-        return slot[1] in (0x44, 0x50) and slot[6:8] == b'\0\0' and all(0x20 <= byte <= 0x7E for byte in name) and name[0] != 0x20
+        return slot[1] in (0x44, 0x50) and not any(slot[2 + 2 * width:8]) and all(0x20 <= byte <= 0x7E for byte in name) and name[0] != 0x20
     return slot[0] in (0x00, 0x12) and not any(slot[1:])
 
 
@@ -52,27 +62,31 @@ def is_found(sector, name, index, free):
 
 def is_controlled(image, start, end):
     """Whether the last sector of a file is its control sector."""
+    width = width_of(image)
     control = image[SECTOR * end:SECTOR * (end + 1)]
-    return control[0] == 0xA1 and 1 <= word_at(control, 1) <= end - start and not any(control[3:])
+    return control[0] == 0xA1 and 1 <= number_at(control, 1, width) <= end - start and not any(control[1 + width:])
 
 
 def first_check(image):
     """The first of the nine checks that an image fails, or none."""
     total = len(image) // SECTOR
-    if len(image) % SECTOR or not 16 <= total <= 32512:
+    if len(image) % SECTOR or not 16 <= total <= MOST[2]:
         return 1
-    if image[0] != 1 or image[1] == 0 or word_at(image, 2) != total or any(image[8:16]):
+    if image[0] not in MOST or total > MOST[image[0]]:
         return 2
-    index, end_of_files, following = image[1], word_at(image, 4), word_at(image, 6)
+    width = width_of(image)
+    if image[1] == 0 or number_at(image, 2, width) != total or any(image[2 + 3 * width:16]):
+        return 2
+    index, end_of_files, following = image[1], number_at(image, 2 + width, width), number_at(image, 2 + 2 * width, width)
     if not index <= following <= end_of_files <= total:
         return 3
     slots = list(slots_of(image))
-    files = [(sector, word_at(slot, 2), word_at(slot, 4), slot[8:]) for sector, slot in slots if slot[0] in (0x10, 0x11)]
+    files = [(sector, number_at(slot, 2, width), number_at(slot, 2 + width, width), slot[8:]) for sector, slot in slots if slot[0] in (0x10, 0x11)]
     free = {sector for sector, slot in slots if slot[0] == 0}
     taken = [sector for _, start, end, _ in files for sector in range(start, end + 1)]
     if not all(index <= start < end < following for _, start, end, _ in files):
         return 4
-    if not all(is_spelled(slot) for _, slot in slots):
+    if not all(is_spelled(slot, width) for _, slot in slots):
         return 5
     if len({name for *_, name in files}) != len(files):
         return 6

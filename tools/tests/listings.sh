@@ -179,7 +179,7 @@ BOOTS
 b2: bad.log:2: a number is out of its range: a terminal from 1 to 12, a partition from 1 to 16, and the numbers above: turn 1 1001\n'
     head -c 4096 /dev/zero >out.D11
     gives 6 "run: an image" ./b2 run examples/kept.toml examples/kept.log next
-    is_text "run: an image" "$work/err" 'bad image D11 2\nb2: out.D11: version, index count, total or the eight 00 differ\n'
+    is_text "run: an image" "$work/err" "bad image D11 2\nb2: out.D11: the version isn't 1 or 2; or it is 1 and there are more than 32,512 sectors; or index count, total or the 00 of the head differ\n"
     gives 1 "test with a word" ./b2 test fun
 }
 

@@ -7,7 +7,7 @@ from pathlib import Path
 
 import grammar
 from images import PROGRAMS, put_bytes
-from judge import SECTOR, SUMMARY, Ended, files_in, first_check, outputs_of
+from judge import SECTOR, SUMMARY, WIDTHS, Ended, files_in, first_check, outputs_of
 
 sys.path.insert(0, str(Path(__file__).resolve().parents[1]))
 from machine import toml_value  # noqa: E402
@@ -297,7 +297,9 @@ class Maker:
         return b''.join(sector.ljust(SECTOR, b'\0') for sector in sectors)
 
     def image(self):
-        """A good image with some files."""
+        """A good image of either version with some files."""
+        version = self.one([1, 1, 2])
+        width = WIDTHS[version]
         total, index = self.one([16, 17, 40, 64, 300]), self.one([1, 2, 2, 5])
         image, following = bytearray(SECTOR * total), index
         slots = {sector: 15 if sector == 0 else 16 for sector in range(index)}
@@ -312,13 +314,13 @@ class Maker:
             slots[sector] -= 1
             end = following + size - 1
             is_program = name in dict(PROGRAMS)
-            entry = bytes([self.one([0x10, 0x10, 0x10, 0x11]), 0x50 if is_program else 0x44]) + following.to_bytes(2) + end.to_bytes(2)
-            put_bytes(image, place, entry + b'\0\0' + name.encode().ljust(8))
+            entry = bytes([self.one([0x10, 0x10, 0x10, 0x11]), 0x50 if is_program else 0x44]) + following.to_bytes(width) + end.to_bytes(width)
+            put_bytes(image, place, entry.ljust(8, b'\0') + name.encode().ljust(8))
             content = bytes.fromhex(dict(PROGRAMS)[name]) if is_program else self.data_sectors(size - 1)
             put_bytes(image, SECTOR * following, content)
-            put_bytes(image, SECTOR * end, bytes([0xA1, 0, self.chance.randint(1, size - 1)]))
+            put_bytes(image, SECTOR * end, bytes([0xA1]) + self.chance.randint(1, size - 1).to_bytes(width))
             following = end + 1
-        put_bytes(image, 0, bytes([1, index]) + total.to_bytes(2) + end_of_files.to_bytes(2) + following.to_bytes(2))
+        put_bytes(image, 0, bytes([version, index]) + total.to_bytes(width) + end_of_files.to_bytes(width) + following.to_bytes(width))
         return bytes(image)
 
     def contradicted(self, image):
@@ -335,7 +337,7 @@ class Maker:
                 from_place = self.one(slots)
                 image[place:place + 16] = image[from_place:from_place + 16]
             case 'end':
-                at = SECTOR * (image[self.one(slots) + 5])
+                at = SECTOR * (image[self.one(slots) + (7 if image[0] == 2 else 5)])
                 put_bytes(image, at + self.one([0, 1, 2, 3, 255]), bytes([self.chance.randint(0, 255)]))
             case 'byte':
                 image[self.chance.randrange(len(image))] = self.chance.randint(0, 255)
@@ -376,7 +378,7 @@ class Maker:
                 (folder / name).unlink()
                 (folder / name).mkdir()
             case 'long':
-                name, limit = self.one([('boot', 65_536), ('log', 4_194_304), ('image0', 8_323_072)])
+                name, limit = self.one([('boot', 65_536), ('log', 4_194_304), ('image0', 67_108_864)])
                 content = (folder / name).read_bytes()
                 (folder / name).write_bytes(content.ljust(limit + self.one([0, 1]), b'\n'))
             case 'output':

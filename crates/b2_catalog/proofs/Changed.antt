@@ -5,14 +5,16 @@ use Rattle.std.specs.Str.{bytes_eq}
 use Rattle.std.proofs.lemmas.Bool.{and_parts, and_from, cases_eq, ltb-true, lt-ltb}
 use Rattle.std.proofs.lemmas.Slice.Eq.{bytes_eq-Decides}
 use Rattle.std.proofs.lemmas.Bool.Decides.{same_from_decides}
-use Rattle.b2_platter.specs.declared.layout.Layout.TheVariants.{Narrow}
+use Rattle.b2_platter.specs.declared.layout.Layout.{Layout}
+use Rattle.b2_platter.specs.Layout.{layout_of}
 use Rattle.b2_platter.specs.Slot.{is_free, is_entry, is_spelled, slot_start, slot_end, slot_name}
 use Rattle.b2_platter.specs.Image.{row, sector, index_of, next_free, first_slot, has_free, hash, cyclic_from, is_clear_to}
-use Rattle.b2_platter.specs.Checks.{has_head, is_ordered, lies_in, differ_in_name, is_reachable, lie_apart, is_controlled, Good}
+use Rattle.b2_platter.specs.Checks.{has_head, is_ordered, lies_in, differ_in_name, is_reachable, lie_apart, is_controlled, Good, IsGood}
 use Rattle.b2_platter.proofs.Ranges.{list_any-found, list_any-at}
 use Rattle.b2_platter.proofs.Goodness.{Parts-of}
 use Rattle.b2_platter.proofs.Soundness.{Sound-from_Good, Good-from_Sound}
 use Rattle.b2_platter.proofs.Kept.{clear_fewer, sized-same, guard_step, controlled-same}
+use Rattle.b2_platter.proofs.Layouts.{own_good, same_layout}
 use Rattle.b2_catalog.proofs.Looking.{in_slots}
 
 same_bytes : (xs ys : List ℕ) → bytes_eq xs ys ≡ bytes_eq ys xs
@@ -39,38 +41,38 @@ unfolding differ_in_name
 differ_turned slot other =
     ap (λ (b : Bool). not (is_entry slot && is_entry other && b)) (same_bytes (slot_name slot) (slot_name other)) ∙ ap not (turned_two (is_entry slot) (is_entry other) (bytes_eq (slot_name other) (slot_name slot)))
 
-pub apart_turned : (slot other : List ℕ) → lie_apart Narrow slot other ≡ lie_apart Narrow other slot
+pub apart_turned : (layout : Layout) (slot other : List ℕ) → lie_apart layout slot other ≡ lie_apart layout other slot
 unfolding lie_apart
-apart_turned slot other =
-    ap not (turned_four (is_entry slot) (is_entry other) (nat_le (slot_start Narrow slot) (slot_end Narrow other)) (nat_le (slot_start Narrow other) (slot_end Narrow slot)))
+apart_turned layout slot other =
+    ap not (turned_four (is_entry slot) (is_entry other) (nat_le (slot_start layout slot) (slot_end layout other)) (nat_le (slot_start layout other) (slot_end layout slot)))
 
 -- more free sectors
-pub lies_more : (index next next' : ℕ) (slot : List ℕ) → next ≤ next' → lies_in Narrow index next slot ≡ true → lies_in Narrow index next' slot ≡ true
+pub lies_more : (layout : Layout) (index next next' : ℕ) (slot : List ℕ) → next ≤ next' → lies_in layout index next slot ≡ true → lies_in layout index next' slot ≡ true
 unfolding lies_in
-lies_more index next next' slot more h =
-    guard_step (is_entry slot) _ _ (λ inner. let parts = and_parts _ _ inner in let high : slot_end Narrow slot < next = ltb-true _ _ parts.1 in and_from _ _ parts.0 (lt-ltb _ _ (omega arith))) h
+lies_more layout index next next' slot more h =
+    guard_step (is_entry slot) _ _ (λ inner. let parts = and_parts _ _ inner in let high : slot_end layout slot < next = ltb-true _ _ parts.1 in and_from _ _ parts.0 (lt-ltb _ _ (omega arith))) h
 
 -- what changed
 pub record Changes (a b : List ℕ) (k : ℕ) : Type 0 where
   pub long : length b ≡ length a
-  pub head : has_head Narrow b ≡ true
-  pub ordered : is_ordered Narrow b ≡ true
+  pub head : has_head (layout_of a) b ≡ true
+  pub ordered : is_ordered (layout_of a) b ≡ true
   pub index : index_of b ≡ index_of a
-  pub next : next_free Narrow a ≤ next_free Narrow b
+  pub next : next_free (layout_of a) a ≤ next_free (layout_of a) b
   pub rows : (j : ℕ) → 1 ≤ j → j < 16 * index_of a → j ≢ k → row b j ≡ row a j
-  pub spelled : is_spelled Narrow (row b k) ≡ true
-  pub lies : lies_in Narrow (index_of b) (next_free Narrow b) (row b k) ≡ true
+  pub spelled : is_spelled (layout_of a) (row b k) ≡ true
+  pub lies : lies_in (layout_of a) (index_of b) (next_free (layout_of a) b) (row b k) ≡ true
   pub names : (j : ℕ) → 1 ≤ j → j < 16 * index_of a → j ≢ k → differ_in_name (row b k) (row a j) ≡ true
-  pub apart : (j : ℕ) → 1 ≤ j → j < 16 * index_of a → j ≢ k → lie_apart Narrow (row b k) (row a j) ≡ true
+  pub apart : (j : ℕ) → 1 ≤ j → j < 16 * index_of a → j ≢ k → lie_apart (layout_of a) (row b k) (row a j) ≡ true
   pub free : is_free (row b k) ≡ true → is_free (row a k) ≡ true
   pub reached : is_reachable b k ≡ true
-  pub controlled : is_controlled Narrow b (row b k) ≡ true
-  pub ends : (j : ℕ) → 1 ≤ j → j < 16 * index_of a → j ≢ k → is_entry (row a j) ≡ true → sector b (slot_end Narrow (row a j)) ≡ sector a (slot_end Narrow (row a j))
+  pub controlled : is_controlled (layout_of a) b (row b k) ≡ true
+  pub ends : (j : ℕ) → 1 ≤ j → j < 16 * index_of a → j ≢ k → is_entry (row a j) ≡ true → sector b (slot_end (layout_of a) (row a j)) ≡ sector a (slot_end (layout_of a) (row a j))
 
 -- no sector gets a free slot where the changed slot doesn't become free
-module _ (a b : List ℕ) (k : ℕ) (good : Good Narrow a) (index : index_of b ≡ index_of a) (rows : (j : ℕ) → 1 ≤ j → j < 16 * index_of a → j ≢ k → row b j ≡ row a j) (free : is_free (row b k) ≡ true → is_free (row a k) ≡ true) where
+module _ (a b : List ℕ) (k : ℕ) (good : IsGood a) (index : index_of b ≡ index_of a) (rows : (j : ℕ) → 1 ≤ j → j < 16 * index_of a → j ≢ k → row b j ≡ row a j) (free : is_free (row b k) ≡ true → is_free (row a k) ≡ true) where
   some : 1 ≤ index_of a
-  some = (Parts-of Narrow a good).some
+  some = (Parts-of (layout_of a) a good).some
 
   pub fewer_free : (s : ℕ) → s < index_of a → has_free b s ≡ true → has_free a s ≡ true
   unfolding has_free
@@ -93,21 +95,21 @@ module _ (a b : List ℕ) (k : ℕ) (good : Good Narrow a) (index : index_of b �
       rw (entry, name, index)
       (guard_step (is_entry (row a j)) _ _ (clear_still (j / 16) (hash (index_of a) (slot_name (row a j)))) was)
 
-module _ (a b : List ℕ) (k : ℕ) (good : Good Narrow a) (changes : Changes a b k) where
-  pub changed_good : Good Narrow b
+module _ (a b : List ℕ) (k : ℕ) (good : IsGood a) (changes : Changes a b k) where
+  pub changed_good : Good (layout_of a) b
   changed_good =
-      let s = Sound-from_Good Narrow a good in
+      let s = Sound-from_Good (layout_of a) a good in
       let i = changes.index in
-      Good-from_Sound Narrow b (record {
-        sized = sized-same Narrow a b changes.long s.sized;
+      Good-from_Sound (layout_of a) b (record {
+        sized = sized-same a b changes.long s.sized;
         head = changes.head;
         ordered = changes.ordered;
         lies = λ j low high. elim (cases_eq j k) [
-          | inl same ↦ subst (λ (j : ℕ). lies_in Narrow (index_of b) (next_free Narrow b) (row b j) ≡ true) (sym same) changes.lies
-          | inr other ↦ (let high' : j < 16 * index_of a = omega (arith, i) in rw (changes.rows j low high' other, i) (lies_more (index_of a) (next_free Narrow a) (next_free Narrow b) (row a j) changes.next (s.lies j low high')))
+          | inl same ↦ subst (λ (j : ℕ). lies_in (layout_of a) (index_of b) (next_free (layout_of a) b) (row b j) ≡ true) (sym same) changes.lies
+          | inr other ↦ (let high' : j < 16 * index_of a = omega (arith, i) in rw (changes.rows j low high' other, i) (lies_more (layout_of a) (index_of a) (next_free (layout_of a) a) (next_free (layout_of a) b) (row a j) changes.next (s.lies j low high')))
         ];
         spelled = λ j low high. elim (cases_eq j k) [
-          | inl same ↦ subst (λ (j : ℕ). is_spelled Narrow (row b j) ≡ true) (sym same) changes.spelled
+          | inl same ↦ subst (λ (j : ℕ). is_spelled (layout_of a) (row b j) ≡ true) (sym same) changes.spelled
           | inr other ↦ (let high' : j < 16 * index_of a = omega (arith, i) in rw (changes.rows j low high' other) (s.spelled j low high'))
         ];
         names = λ j m low order high. (let high' : m < 16 * index_of a = omega (arith, i) in elim (cases_eq j k) [
@@ -122,14 +124,21 @@ module _ (a b : List ℕ) (k : ℕ) (good : Good Narrow a) (changes : Changes a 
           | inr other ↦ (let high' : j < 16 * index_of a = omega (arith, i) in (let same = changes.rows j low high' other in reached_still a b k good changes.index changes.rows changes.free j (ap is_entry same) (ap slot_name same) (s.reached j low high')))
         ];
         apart = λ j m low order high. (let high' : m < 16 * index_of a = omega (arith, i) in elim (cases_eq j k) [
-          | inl same ↦ (let other : m ≢ k = λ e. omega (arith, same, e) in subst (λ (q : ℕ). lie_apart Narrow (row b q) (row b m) ≡ true) (sym same) (rw (changes.rows m (omega arith) high' other) (changes.apart m (omega arith) high' other)))
+          | inl same ↦ (let other : m ≢ k = λ e. omega (arith, same, e) in subst (λ (q : ℕ). lie_apart (layout_of a) (row b q) (row b m) ≡ true) (sym same) (rw (changes.rows m (omega arith) high' other) (changes.apart m (omega arith) high' other)))
           | inr other ↦ elim (cases_eq m k) [
-            | inl same ↦ subst (λ (q : ℕ). lie_apart Narrow (row b j) (row b q) ≡ true) (sym same) (apart_turned (row b j) (row b k) ∙ rw (changes.rows j low (omega arith) other) (changes.apart j low (omega arith) other))
+            | inl same ↦ subst (λ (q : ℕ). lie_apart (layout_of a) (row b j) (row b q) ≡ true) (sym same) (apart_turned (layout_of a) (row b j) (row b k) ∙ rw (changes.rows j low (omega arith) other) (changes.apart j low (omega arith) other))
             | inr other' ↦ rw (changes.rows j low (omega arith) other, changes.rows m (omega arith) high' other') (s.apart j m low order high')
           ]
         ]);
         controls = λ j low high. elim (cases_eq j k) [
-          | inl same ↦ subst (λ (j : ℕ). is_controlled Narrow b (row b j) ≡ true) (sym same) changes.controlled
-          | inr other ↦ (let high' : j < 16 * index_of a = omega (arith, i) in rw (changes.rows j low high' other) (controlled-same Narrow a b (row a j) (changes.ends j low high' other) (s.controls j low high')))
+          | inl same ↦ subst (λ (j : ℕ). is_controlled (layout_of a) b (row b j) ≡ true) (sym same) changes.controlled
+          | inr other ↦ (let high' : j < 16 * index_of a = omega (arith, i) in rw (changes.rows j low high' other) (controlled-same (layout_of a) a b (row a j) (changes.ends j low high' other) (s.controls j low high')))
         ];
       })
+
+  -- in its own layout, which is that of the image before
+  pub changed_own : IsGood b
+  changed_own = own_good (layout_of a) b changed_good
+
+  pub changed_layout : layout_of b ≡ layout_of a
+  changed_layout = same_layout a b changed_good

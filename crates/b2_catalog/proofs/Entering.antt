@@ -1,16 +1,18 @@
 -- A new file: the image stays good, and the catalogue gains its entry.
-use Rattle.std.proofs.Common.{◌≡◌, ◌≢◌, ℕ, zero, suc, ◌+◌, ◌-◌, ◌*◌, ◌/◌, ◌%◌, ◌<◌, ◌≤◌, Bool, true, false, not, List, [], ◌∷◌, get_or, None, length, refl, sym, ap, ◌∙◌, inl, inr, arith, lit<}
+use Rattle.std.proofs.Common.{◌≡◌, ◌≢◌, ℕ, zero, suc, ◌+◌, ◌-◌, ◌*◌, ◌/◌, ◌%◌, ◌<◌, ◌≤◌, Bool, true, false, not, List, [], ◌∷◌, get_or, None, length, refl, sym, ap, ◌∙◌, inl, inr, arith}
 use Rattle.std.specs.FinMap.{insert}
 use Rattle.std.proofs.lemmas.Bool.{and_from, le-leb, lt-ltb, false≢true, false_from_ne_true, cases_order, not_from_false, and_parts, or_right, leb-true, eqb-true}
 use Rattle.std.proofs.lemmas.Slice.Eq.{bytes_eq-Decides}
 use Rattle.b2_base.specs.Names.{is_name8}
-use Rattle.b2_platter.specs.declared.layout.Layout.TheVariants.{Narrow}
+use Rattle.b2_platter.specs.declared.layout.Layout.{Layout}
+use Rattle.b2_platter.specs.Layout.{layout_of, most_sectors, number_limit}
 use Rattle.b2_platter.specs.Slot.{is_free, is_entry, is_spelled, slot_start, slot_end, slot_name}
 use Rattle.b2_platter.specs.Image.{row, sector, index_of, total_of, catalogue_end, next_free, has_free, hash, cyclic_from, is_clear_to}
-use Rattle.b2_platter.specs.Checks.{has_head, is_ordered, lies_in, differ_in_name, is_reachable, lie_apart, is_controlled, is_control, Good}
+use Rattle.b2_platter.specs.Checks.{has_head, is_ordered, lies_in, differ_in_name, is_reachable, lie_apart, is_controlled, is_control, IsGood}
 use Rattle.b2_platter.specs.Edits.{put_sector}
 use Rattle.b2_platter.proofs.Rooms.{Parts, LiesIn, LiesIn-from}
 use Rattle.b2_platter.proofs.Goodness.{Parts-of, most_of_good}
+use Rattle.b2_platter.proofs.Layouts.{own_fits}
 use Rattle.b2_platter.proofs.Soundness.{Sound-from_Good}
 use Rattle.b2_platter.proofs.Puts.{length-put_sector, row_before, sector_before, sector_after, sector_same}
 use Rattle.b2_platter.proofs.Fresh.{HeadSays, head_says_row, head_passes, length-head_bytes}
@@ -22,7 +24,7 @@ use Rattle.b2_catalog.proofs.Looking.{has_name-from, find-missed}
 use Rattle.b2_catalog.proofs.Scratching.{row_in_sector}
 use Rattle.b2_catalog.proofs.Rows.{whole_first, length-put_row, row_same, row_below, row_above, sector_above}
 use Rattle.b2_catalog.proofs.Spelled.{SaysFile, says_file, control_long, control_used, control_spelled}
-use Rattle.b2_catalog.proofs.Changed.{Changes, changed_good, clear_still}
+use Rattle.b2_catalog.proofs.Changed.{Changes, changed_own, changed_layout, clear_still}
 use Rattle.b2_catalog.proofs.Maps.{catalogue-inserted}
 use Rattle.b2_catalog.proofs.Placing.{Placed}
 
@@ -37,40 +39,40 @@ unfolding differ_in_name
 differ_from_missed slot other name is miss =
     not_from_false _ (false_from_ne_true _ (λ h. let parts = and_parts _ _ h in let entries = and_parts _ _ parts.0 in false≢true (sym miss ∙ has_name-from name other entries.1 (sym ((bytes_eq-Decides (slot_name slot) (slot_name other)).0 parts.1) ∙ is))))
 
-pub apart_from_after : (slot other : List ℕ) → (is_entry other ≡ true → slot_end Narrow other < slot_start Narrow slot) → lie_apart Narrow slot other ≡ true
+pub apart_from_after : (layout : Layout) (slot other : List ℕ) → (is_entry other ≡ true → slot_end layout other < slot_start layout slot) → lie_apart layout slot other ≡ true
 unfolding lie_apart
-apart_from_after slot other after =
-    not_from_false _ (false_from_ne_true _ (λ h. (let outer = and_parts _ _ h in let inner = and_parts _ _ outer.0 in let entries = and_parts _ _ inner.0 in let meets : slot_start Narrow slot ≤ slot_end Narrow other = leb-true _ _ inner.1 in omega (arith, meets, after entries.1))))
+apart_from_after layout slot other after =
+    not_from_false _ (false_from_ne_true _ (λ h. (let outer = and_parts _ _ h in let inner = and_parts _ _ outer.0 in let entries = and_parts _ _ inner.0 in let meets : slot_start layout slot ≤ slot_end layout other = leb-true _ _ inner.1 in omega (arith, meets, after entries.1))))
 
-pub lies_from : (index next : ℕ) (slot : List ℕ) → index ≤ slot_start Narrow slot → slot_start Narrow slot < slot_end Narrow slot → slot_end Narrow slot < next → lies_in Narrow index next slot ≡ true
+pub lies_from : (layout : Layout) (index next : ℕ) (slot : List ℕ) → index ≤ slot_start layout slot → slot_start layout slot < slot_end layout slot → slot_end layout slot < next → lies_in layout index next slot ≡ true
 unfolding lies_in
-lies_from index next slot low order high = or_right (not (is_entry slot)) _ (and_from _ _ (and_from _ _ (le-leb _ _ low) (lt-ltb _ _ order)) (lt-ltb _ _ high))
+lies_from layout index next slot low order high = or_right (not (is_entry slot)) _ (and_from _ _ (and_from _ _ (le-leb _ _ low) (lt-ltb _ _ order)) (lt-ltb _ _ high))
 
 pub reached_from : (image : List ℕ) (k : ℕ) → is_clear_to (has_free image) (k / 16) (cyclic_from (index_of image) (hash (index_of image) (slot_name (row image k)))) ≡ true → is_reachable image k ≡ true
 unfolding is_reachable
 reached_from image k h = or_right (not (is_entry (row image k))) _ h
 
-pub controlled_from : (image slot : List ℕ) → is_control Narrow (slot_end Narrow slot - slot_start Narrow slot) (sector image (slot_end Narrow slot)) ≡ true → is_controlled Narrow image slot ≡ true
+pub controlled_from : (layout : Layout) (image slot : List ℕ) → is_control layout (slot_end layout slot - slot_start layout slot) (sector image (slot_end layout slot)) ≡ true → is_controlled layout image slot ≡ true
 unfolding is_controlled
-controlled_from image slot h = or_right (not (is_entry slot)) _ h
+controlled_from layout image slot h = or_right (not (is_entry slot)) _ h
 
 -- a free slot is no file's
 pub free_is_none : (slot : List ℕ) → is_free slot ≡ true → is_entry slot ≡ false
 unfolding is_free is_entry
 free_is_none slot e = (let zero_is = eqb-true _ _ e in rw zero_is refl)
 
-module _ (a : List ℕ) (good : Good Narrow a) (name : List ℕ) (legal : is_name8 name ≡ true) (eight : length name ≡ 8) (k : ℕ) (placed : Placed a (way_of a name) k) (none : slot_found a name ≡ None) (program : Bool) (sectors : ℕ) (some : 2 ≤ sectors) (room : next_free Narrow a + sectors ≤ catalogue_end Narrow a) where
+module _ (a : List ℕ) (good : IsGood a) (name : List ℕ) (legal : is_name8 name ≡ true) (eight : length name ≡ 8) (k : ℕ) (placed : Placed a (way_of a name) k) (none : slot_found a name ≡ None) (program : Bool) (sectors : ℕ) (some : 2 ≤ sectors) (room : next_free (layout_of a) a + sectors ≤ catalogue_end (layout_of a) a) where
   abbrev start : ℕ
-  start = next_free Narrow a
+  start = next_free (layout_of a) a
 
   abbrev last : ℕ
-  last = next_free Narrow a + sectors - 1
+  last = next_free (layout_of a) a + sectors - 1
 
   abbrev front : List ℕ
-  front = head_with_next a (next_free Narrow a + sectors)
+  front = head_with_next a (next_free (layout_of a) a + sectors)
 
   abbrev slot : List ℕ
-  slot = file_slot program (next_free Narrow a) (next_free Narrow a + sectors - 1) name
+  slot = file_slot (layout_of a) program (next_free (layout_of a) a) (next_free (layout_of a) a + sectors - 1) name
 
   abbrev one : List ℕ
   one = put_row a 0 front
@@ -79,20 +81,20 @@ module _ (a : List ℕ) (good : Good Narrow a) (name : List ℕ) (legal : is_nam
   two = put_row one k slot
 
   abbrev b : List ℕ
-  b = put_sector two last (control_sector 1)
+  b = put_sector two last (control_sector (layout_of a) 1)
 
-  parts : Parts Narrow a
-  parts = Parts-of Narrow a good
+  parts : Parts (layout_of a) a
+  parts = Parts-of (layout_of a) a good
 
-  most : total_of Narrow a ≤ 32512
-  most = most_of_good Narrow a good
+  most : total_of (layout_of a) a ≤ most_sectors (layout_of a)
+  most = most_of_good (layout_of a) a good
 
-  says : SaysFile slot program start last name
-  says = let p = parts in let m = most in says_file program start last name (omega arith) (omega arith) eight legal
+  says : SaysFile (layout_of a) slot program start last name
+  says = let p = parts in says_file (layout_of a) program start last name (own_fits a good _ (omega arith)) (own_fits a good _ (omega arith)) eight legal
 
   long_front : length front ≡ 16
   unfolding head_with_next
-  long_front = length-head_bytes Narrow (index_of a) (total_of Narrow a) (catalogue_end Narrow a) (next_free Narrow a + sectors)
+  long_front = length-head_bytes (layout_of a) (index_of a) (total_of (layout_of a) a) (catalogue_end (layout_of a) a) (next_free (layout_of a) a + sectors)
 
   room_front : 16 * 0 + 16 ≤ length a
   room_front = let p = parts in omega arith
@@ -110,10 +112,10 @@ module _ (a : List ℕ) (good : Good Narrow a) (name : List ℕ) (legal : is_nam
   room_last = let p = parts in let l = long_two in omega arith
 
   long_b : length b ≡ length a
-  long_b = length-put_sector two last (control_sector 1) (control_long 1) room_last ∙ long_two
+  long_b = length-put_sector two last (control_sector (layout_of a) 1) (control_long (layout_of a) 1) room_last ∙ long_two
 
   rows_before : (j : ℕ) → j < 16 * index_of a → row b j ≡ row two j
-  rows_before j high = let p = parts in row_before two last (control_sector 1) (control_long 1) room_last j (omega arith)
+  rows_before j high = let p = parts in row_before two last (control_sector (layout_of a) 1) (control_long (layout_of a) 1) room_last j (omega arith)
 
   front_now : row b 0 ≡ front
   front_now =
@@ -135,27 +137,26 @@ module _ (a : List ℕ) (good : Good Narrow a) (name : List ℕ) (legal : is_nam
   sectors_now : (n : ℕ) → index_of a ≤ n → n < last → sector b n ≡ sector a n
   sectors_now n low below =
       let p = parts in
-      sector_before two last (control_sector 1) (control_long 1) room_last n below
+      sector_before two last (control_sector (layout_of a) 1) (control_long (layout_of a) 1) room_last n below
       ∙ sector_above one k slot says.long room_slot n (omega (arith, placed.high))
       ∙ sector_above a 0 front long_front room_front n (omega arith)
 
-  last_now : sector b last ≡ control_sector 1
-  last_now = sector_same two last (control_sector 1) (control_long 1) room_last
+  last_now : sector b last ≡ control_sector (layout_of a) 1
+  last_now = sector_same two last (control_sector (layout_of a) 1) (control_long (layout_of a) 1) room_last
 
-  head_now : HeadSays Narrow b (index_of a) (total_of Narrow a) (catalogue_end Narrow a) (next_free Narrow a + sectors)
+  head_now : HeadSays (layout_of a) b (index_of a) (total_of (layout_of a) a) (catalogue_end (layout_of a) a) (next_free (layout_of a) a + sectors)
   unfolding head_with_next
   head_now =
       let p = parts in
-      let m = most in
-      head_says_row Narrow b (index_of a) (total_of Narrow a) (catalogue_end Narrow a) (next_free Narrow a + sectors) (omega arith) (omega arith) (omega arith) front_now
+      head_says_row (layout_of a) b (index_of a) (total_of (layout_of a) a) (catalogue_end (layout_of a) a) (next_free (layout_of a) a + sectors) (own_fits a good _ (omega arith)) (own_fits a good _ (omega arith)) (own_fits a good _ (omega arith)) front_now
 
-  passes : (has_head Narrow b ≡ true) × (is_ordered Narrow b ≡ true)
+  passes : (has_head (layout_of a) b ≡ true) × (is_ordered (layout_of a) b ≡ true)
   passes =
       let p = parts in
-      head_passes Narrow b (index_of a) (total_of Narrow a) (catalogue_end Narrow a) (next_free Narrow a + sectors) head_now (omega (arith, long_b)) p.some (omega arith) room p.rest
+      head_passes (layout_of a) b (index_of a) (total_of (layout_of a) a) (catalogue_end (layout_of a) a) (next_free (layout_of a) a + sectors) head_now (omega (arith, long_b)) most p.some (omega arith) room p.rest
 
-  lies_of : (j : ℕ) → 1 ≤ j → j < 16 * index_of a → is_entry (row a j) ≡ true → LiesIn Narrow (index_of a) (next_free Narrow a) (row a j)
-  lies_of j low high e = let s = Sound-from_Good Narrow a good in LiesIn-from Narrow (index_of a) (next_free Narrow a) (row a j) (s.lies j low high) e
+  lies_of : (j : ℕ) → 1 ≤ j → j < 16 * index_of a → is_entry (row a j) ≡ true → LiesIn (layout_of a) (index_of a) (next_free (layout_of a) a) (row a j)
+  lies_of j low high e = let s = Sound-from_Good (layout_of a) a good in LiesIn-from (layout_of a) (index_of a) (next_free (layout_of a) a) (row a j) (s.lies j low high) e
 
   taken : is_free (row b k) ≡ true → is_free (row a k) ≡ true
   taken e = placed.free
@@ -165,11 +166,14 @@ module _ (a : List ℕ) (good : Good Narrow a) (name : List ℕ) (legal : is_nam
       let same : slot_name (row b k) ≡ name = ap slot_name slot_now ∙ says.name in
       reached_from b k (rw (head_now.index, same) (clear_still a b k good head_now.index others_now taken (k / 16) (hash (index_of a) name) placed.clear))
 
-  controlled_now : is_controlled Narrow b (row b k) ≡ true
+  one_fits : 1 < number_limit (layout_of a)
+  one_fits = let p = parts in own_fits a good 1 (omega arith)
+
+  controlled_now : is_controlled (layout_of a) b (row b k) ≡ true
   controlled_now =
-      let end : slot_end Narrow (row b k) ≡ last = ap (slot_end Narrow) slot_now ∙ says.end in
-      let begin : slot_start Narrow (row b k) ≡ start = ap (slot_start Narrow) slot_now ∙ says.start in
-      controlled_from b (row b k) (rw (end, begin, last_now) (control_spelled 1 (last - start) (lit< tt) (omega arith) (omega arith)))
+      let end : slot_end (layout_of a) (row b k) ≡ last = ap (slot_end (layout_of a)) slot_now ∙ says.end in
+      let begin : slot_start (layout_of a) (row b k) ≡ start = ap (slot_start (layout_of a)) slot_now ∙ says.start in
+      controlled_from (layout_of a) b (row b k) (rw (end, begin, last_now) (control_spelled (layout_of a) 1 (last - start) one_fits (omega arith) (omega arith)))
 
   entered_changes : Changes a b k
   entered_changes =
@@ -185,26 +189,30 @@ module _ (a : List ℕ) (good : Good Narrow a) (name : List ℕ) (legal : is_nam
         index = i;
         next = omega (arith, n);
         rows = others_now;
-        spelled = ap (is_spelled Narrow) slot_now ∙ says.spelled;
-        lies = rw (i, n, slot_now) (lies_from (index_of a) (next_free Narrow a + sectors) slot (omega (arith, start_is)) (omega (arith, start_is, end_is)) (omega (arith, end_is)));
+        spelled = ap (is_spelled (layout_of a)) slot_now ∙ says.spelled;
+        lies = rw (i, n, slot_now) (lies_from (layout_of a) (index_of a) (next_free (layout_of a) a + sectors) slot (omega (arith, start_is)) (omega (arith, start_is, end_is)) (omega (arith, end_is)));
         names = λ j low high other. rw slot_now (differ_from_missed slot (row a j) name says.name (slot_missed a name none j low high));
-        apart = λ j low high other. rw slot_now (apart_from_after slot (row a j) (λ e. omega (arith, start_is, (lies_of j low high e).high)));
+        apart = λ j low high other. rw slot_now (apart_from_after (layout_of a) slot (row a j) (λ e. omega (arith, start_is, (lies_of j low high e).high)));
         free = taken;
         reached = reached_now;
         controlled = controlled_now;
-        ends = λ j low high other e. (let l = lies_of j low high e in sectors_now (slot_end Narrow (row a j)) (omega (arith, l.low, l.order)) (omega (arith, l.high)));
+        ends = λ j low high other e. (let l = lies_of j low high e in sectors_now (slot_end (layout_of a) (row a j)) (omega (arith, l.low, l.order)) (omega (arith, l.high)));
       }
 
   entry_entered : entry_at b k ≡ new_entry a name program sectors
   unfolding entry_at
-  entry_entered = rw (slot_now, says.name, says.live, says.program, says.start, says.end, last_now, control_used 1 (lit< tt)) refl
+  entry_entered = rw (changed_layout a b k good entered_changes, slot_now, says.name, says.live, says.program, says.start, says.end, last_now, control_used (layout_of a) 1 one_fits) refl
 
   free_no_entry : is_entry (row a k) ≡ true → slot_name (row a k) ≡ name
   free_no_entry e = absurd (false≢true (sym (free_is_none (row a k) placed.free) ∙ e))
 
-  pub entered_good : Good Narrow (entered a k name program sectors)
+  pub entered_good : IsGood (entered a k name program sectors)
   unfolding entered
-  entered_good = changed_good a b k good entered_changes
+  entered_good = changed_own a b k good entered_changes
+
+  pub entered_layout : layout_of (entered a k name program sectors) ≡ layout_of a
+  unfolding entered
+  entered_layout = changed_layout a b k good entered_changes
 
   pub catalogue-entered : catalogue (entered a k name program sectors) ≡ insert (catalogue a) name (new_entry a name program sectors)
   unfolding entered
@@ -212,21 +220,21 @@ module _ (a : List ℕ) (good : Good Narrow a) (name : List ℕ) (legal : is_nam
       catalogue-inserted a b k good entered_changes placed.low placed.high name (ap (has_name name) slot_now ∙ has_name-from name slot says.entry says.name) free_no_entry
       ∙ ap (insert (catalogue a) name) entry_entered
 
-  pub entered_head : HeadSays Narrow (entered a k name program sectors) (index_of a) (total_of Narrow a) (catalogue_end Narrow a) (next_free Narrow a + sectors)
+  pub entered_head : HeadSays (layout_of a) (entered a k name program sectors) (index_of a) (total_of (layout_of a) a) (catalogue_end (layout_of a) a) (next_free (layout_of a) a + sectors)
   unfolding entered
   entered_head = head_now
 
   -- the sectors after the index and before the new control sector stay
-  pub entered_sectors : (n : ℕ) → index_of a ≤ n → n < next_free Narrow a + sectors - 1 → sector (entered a k name program sectors) n ≡ sector a n
+  pub entered_sectors : (n : ℕ) → index_of a ≤ n → n < next_free (layout_of a) a + sectors - 1 → sector (entered a k name program sectors) n ≡ sector a n
   unfolding entered
   entered_sectors n low below = sectors_now n low below
 
   -- and those after it
-  pub entered_after : (n : ℕ) → next_free Narrow a + sectors ≤ n → sector (entered a k name program sectors) n ≡ sector a n
+  pub entered_after : (n : ℕ) → next_free (layout_of a) a + sectors ≤ n → sector (entered a k name program sectors) n ≡ sector a n
   unfolding entered
   entered_after n above =
       let p = parts in
-      sector_after two last (control_sector 1) (control_long 1) room_last n (omega arith)
+      sector_after two last (control_sector (layout_of a) 1) (control_long (layout_of a) 1) room_last n (omega arith)
       ∙ sector_above one k slot says.long room_slot n (omega (arith, placed.high))
       ∙ sector_above a 0 front long_front room_front n (omega arith)
 
@@ -239,7 +247,7 @@ module _ (a : List ℕ) (good : Good Narrow a) (name : List ℕ) (legal : is_nam
   entered_slot = ap is_entry slot_now ∙ says.entry
 
 -- three sectors put in place make that image
-pub entered_made : (a first own control front slot name : List ℕ) (k start sectors : ℕ) (program : Bool) → start ≡ next_free Narrow a → front ≡ head_with_next a (start + sectors) → first ≡ sector (put_row a 0 front) 0 → slot ≡ file_slot program start (start + sectors - 1) name → own ≡ put_row (sector (put_row a 0 front) (k / 16)) (k % 16) slot → control ≡ control_sector 1 → length front ≡ 16 → 256 * (k / 16) + 256 ≤ length a → put_sector (put_sector (put_sector a 0 first) (k / 16) own) (start + sectors - 1) control ≡ entered a k name program sectors
+pub entered_made : (a first own control front slot name : List ℕ) (k start sectors : ℕ) (program : Bool) → start ≡ next_free (layout_of a) a → front ≡ head_with_next a (start + sectors) → first ≡ sector (put_row a 0 front) 0 → slot ≡ file_slot (layout_of a) program start (start + sectors - 1) name → own ≡ put_row (sector (put_row a 0 front) (k / 16)) (k % 16) slot → control ≡ control_sector (layout_of a) 1 → length front ≡ 16 → 256 * (k / 16) + 256 ≤ length a → put_sector (put_sector (put_sector a 0 first) (k / 16) own) (start + sectors - 1) control ≡ entered a k name program sectors
 unfolding entered
 entered_made a first own control front slot name k start sectors program start_is front_is first_is slot_is own_is control_is long room =
     let step1 : put_sector a 0 first ≡ put_row a 0 front = ap (put_sector a 0) first_is ∙ whole_first a front long (omega arith) in
@@ -256,4 +264,4 @@ three_edits l m n total x y z hl hm hn (suc (suc (suc k))) d h = absurd (omega a
 
 pub length-head_with_next : (a : List ℕ) (next : ℕ) → length (head_with_next a next) ≡ 16
 unfolding head_with_next
-length-head_with_next a next = length-head_bytes Narrow (index_of a) (total_of Narrow a) (catalogue_end Narrow a) next
+length-head_with_next a next = length-head_bytes (layout_of a) (index_of a) (total_of (layout_of a) a) (catalogue_end (layout_of a) a) next

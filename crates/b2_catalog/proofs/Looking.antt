@@ -5,10 +5,10 @@ use Rattle.std.specs.List.{range_with_len, find}
 use Rattle.std.proofs.lemmas.Bool.{and_parts, and_from, cases_order, cases_eq, not-true, false≢true, ne_eqb, eqb-true, eqb-false, cases_lt, cond_both, false_from_ne_true}
 use Rattle.std.proofs.Math.Nat.{add-mod_right, mod-eq_of_lt}
 use Rattle.std.proofs.lemmas.Slice.Eq.{bytes_eq-Decides}
-use Rattle.b2_platter.specs.declared.layout.Layout.TheVariants.{Narrow}
+use Rattle.b2_platter.specs.Layout.{layout_of}
 use Rattle.b2_platter.specs.Slot.{is_entry, slot_start, slot_end, slot_name}
 use Rattle.b2_platter.specs.Image.{row, index_of, total_of, next_free, first_slot, has_free, hash, is_clear_to}
-use Rattle.b2_platter.specs.Checks.{differ_in_name, is_reachable, Good}
+use Rattle.b2_platter.specs.Checks.{differ_in_name, is_reachable, IsGood}
 use Rattle.b2_platter.proofs.Ranges.{here}
 use Rattle.b2_platter.proofs.Rooms.{LiesIn-from}
 use Rattle.b2_platter.proofs.Goodness.{Parts-of}
@@ -129,14 +129,14 @@ pub clear_of : (e rest : Bool) → (not e || rest) ≡ true → e ≡ true → r
 clear_of true rest h e = h
 clear_of false rest h e = cc
 
-module _ (image : List ℕ) (good : Good Narrow image) (name : List ℕ) where
+module _ (image : List ℕ) (good : IsGood image) (name : List ℕ) where
   some : 1 ≤ index_of image
-  some = (Parts-of Narrow image good).some
+  some = (Parts-of (layout_of image) image good).some
 
   -- no other slot has the name
   pub one_slot : (j k : ℕ) → 1 ≤ j → j < 16 * index_of image → 1 ≤ k → k < 16 * index_of image → has_name name (row image j) ≡ true → has_name name (row image k) ≡ true → j ≡ k
   one_slot j k j_low j_high k_low k_high hj hk =
-      let s = Sound-from_Good Narrow image good in
+      let s = Sound-from_Good (layout_of image) image good in
       let a = Holds-from name (row image j) hj in
       let b = Holds-from name (row image k) hk in
       elim (cases_order j k) [
@@ -187,7 +187,7 @@ module _ (image : List ℕ) (good : Good Narrow image) (name : List ℕ) where
     present =
         let f = found in
         let h = Holds-from name (row image k) f.passes in
-        let s = Sound-from_Good Narrow image good in
+        let s = Sound-from_Good (layout_of image) image good in
         let was : is_reachable image k ≡ true = s.reached k f.low k_high in
         let clear = clear_of (is_entry (row image k)) _ was h.entry in
         let clear' : is_clear_to (has_free image) (k / 16) (way_of image name) ≡ true = subst (λ (n : List ℕ). is_clear_to (has_free image) (k / 16) (way_of image n) ≡ true) h.same clear in
@@ -215,17 +215,17 @@ held-from_found image name (Some k) e = IsSlotOf-from image name k (sym e)
 -- what a good image says of the slot of a file
 pub record FileSlot (image : List ℕ) (k : ℕ) : Type 0 where
   pub room : 16 * k + 16 ≤ length image
-  pub low : index_of image ≤ slot_start Narrow (row image k)
-  pub order : slot_start Narrow (row image k) < slot_end Narrow (row image k)
-  pub high : slot_end Narrow (row image k) < next_free Narrow image
-  pub within : slot_end Narrow (row image k) < total_of Narrow image
-  pub inside : 256 * slot_end Narrow (row image k) + 256 ≤ length image
+  pub low : index_of image ≤ slot_start (layout_of image) (row image k)
+  pub order : slot_start (layout_of image) (row image k) < slot_end (layout_of image) (row image k)
+  pub high : slot_end (layout_of image) (row image k) < next_free (layout_of image) image
+  pub within : slot_end (layout_of image) (row image k) < total_of (layout_of image) image
+  pub inside : 256 * slot_end (layout_of image) (row image k) + 256 ≤ length image
 
-pub FileSlot-from : (image name : List ℕ) (k : ℕ) → Good Narrow image → IsSlotOf image name k → FileSlot image k
+pub FileSlot-from : (image name : List ℕ) (k : ℕ) → IsGood image → IsSlotOf image name k → FileSlot image k
 FileSlot-from image name k good at =
-    let parts = Parts-of Narrow image good in
-    let s = Sound-from_Good Narrow image good in
-    let lies = LiesIn-from Narrow (index_of image) (next_free Narrow image) (row image k) (s.lies k at.low at.high) (Holds-from name (row image k) at.held).entry in
+    let parts = Parts-of (layout_of image) image good in
+    let s = Sound-from_Good (layout_of image) image good in
+    let lies = LiesIn-from (layout_of image) (index_of image) (next_free (layout_of image) image) (row image k) (s.lies k at.low at.high) (Holds-from name (row image k) at.held).entry in
     record {
       room = omega (arith, parts.whole, parts.files, parts.free, parts.rest, at.high);
       low = lies.low;

@@ -7,9 +7,9 @@ use Rattle.std.specs.FinMap.{get, insert, get-insert, same_map, slice_cmp-IsAnti
 use Rattle.std.proofs.lemmas.Bool.{ltb-false}
 use Rattle.b2_base.specs.Names.{is_name8}
 use Rattle.b2_base.specs.declared.codes.TheConstants.{D83_NAME_PRESENT, D84_NOT_SCRATCHED, D85_INDEX_FULL, D86_NO_ROOM}
-use Rattle.b2_platter.specs.declared.layout.Layout.TheVariants.{Narrow}
-use Rattle.b2_platter.specs.Image.{index_of, catalogue_end, next_free, sector}
-use Rattle.b2_platter.specs.Checks.{Good}
+use Rattle.b2_platter.specs.Image.{index_of, sector}
+use Rattle.b2_platter.specs.Own.{end_of, next_of}
+use Rattle.b2_platter.specs.Checks.{IsGood}
 use Rattle.b2_catalog.specs.declared.entry.Entry.{Entry}
 use Rattle.b2_catalog.specs.Catalogue.{Catalogue, catalogue}
 use Rattle.b2_catalog.specs.Ways.{place, slot_found}
@@ -39,19 +39,19 @@ pub record Enters (image name : List ℕ) (sectors : ℕ) : Type 0 where
   pub absent : slot_found image name ≡ None
   pub k : ℕ
   pub place_is : place image name ≡ Some k
-  pub room : next_free Narrow image + sectors ≤ catalogue_end Narrow image
+  pub room : next_of image + sectors ≤ end_of image
 
 pub enters : (image name : List ℕ) (sectors : ℕ) → enter_refusal image name sectors ≡ None → Enters image name sectors
 enters image name sectors h =
     let first = refused-by (is_some (get (catalogue image) name)) true _ D83_NAME_PRESENT h in
     let second = refused-by (is_none (place image name)) true _ D85_INDEX_FULL first.1 in
-    let third = refused-by (nat_lt (catalogue_end Narrow image) (next_free Narrow image + sectors)) true None D86_NO_ROOM second.1 in
+    let third = refused-by (nat_lt (end_of image) (next_of image + sectors)) true None D86_NO_ROOM second.1 in
     let k = none-or (place image name) second.0 in
     record {
       absent = slot_none image name (sym (present image name) ∙ first.0);
       k = k.0;
       place_is = k.1;
-      room = ltb-false (catalogue_end Narrow image) (next_free Narrow image + sectors) third.0;
+      room = ltb-false (end_of image) (next_of image + sectors) third.0;
     }
 
 -- ---- maps
@@ -82,15 +82,15 @@ pub record Stays (image new : List ℕ) (e : Entry) : Type 0 where
   pub index : index_of new ≡ index_of image
   pub others : KeepsOthers image new e
 
-module _ (image : List ℕ) (good : Good Narrow image) (name : List ℕ) (legal : is_name8 name ≡ true) (eight : length name ≡ 8) (program : Bool) (new : List ℕ) where
+module _ (image : List ℕ) (good : IsGood image) (name : List ℕ) (legal : is_name8 name ≡ true) (eight : length name ≡ 8) (program : Bool) (new : List ℕ) where
   entered-by : (sectors : ℕ) → 2 ≤ sectors → (e : Entry) → enter_refusal image name sectors ≡ None → e ≡ new_entry image name program sectors
       → IfSome (place image name) (λ k. new ≡ entered image k name program sectors) → Stays image new e
   entered-by sectors some e allowed made is =
       let n = enters image name sectors allowed in
       let placed = Placed-from image good name n.k n.place_is in
       let same : new ≡ entered image n.k name program sectors = subst (λ (o : Option ℕ). IfSome o (λ k. new ≡ entered image k name program sectors)) n.place_is is in
-      let start : e.start ≡ next_free Narrow image = ap (λ (f : Entry). f.start) made in
-      let end : e.end ≡ next_free Narrow image + sectors - 1 = ap (λ (f : Entry). f.end) made in
+      let start : e.start ≡ next_of image = ap (λ (f : Entry). f.start) made in
+      let end : e.end ≡ next_of image + sectors - 1 = ap (λ (f : Entry). f.end) made in
       record {
         index = ap index_of same ∙ (entered_head image good name legal eight n.k placed n.absent program sectors some n.room).index;
         others = λ m low out. ap (λ (q : List ℕ). sector q m) same ∙ elim out as (λ _. sector (entered image n.k name program sectors) m ≡ sector image m) [
@@ -121,7 +121,7 @@ pub goes-by : (same : Bool) (o p : Option ℕ) (k : ℕ) → o ≡ Some k → (n
 goes-by true o p k is h = (k, is)
 goes-by false o p k is h = none-or p h
 
-module _ (image : List ℕ) (good : Good Narrow image) (old name : List ℕ) (legal : is_name8 name ≡ true) (eight : length name ≡ 8) (program : Bool) (new : List ℕ) where
+module _ (image : List ℕ) (good : IsGood image) (old name : List ℕ) (legal : is_name8 name ≡ true) (eight : length name ≡ 8) (program : Bool) (new : List ℕ) where
   reused-by : (e : Entry) → reuse_refusal image old name ≡ None → IfSome (slot_found image old) (λ k. IfSome (reused_place image old name) (λ to. new ≡ reused image k to name program)) → Stays image new e
   reused-by e allowed is =
       let first = refused-by (not (bytes_eq old name) && is_some (get (catalogue image) name)) true (old_refusal (get (catalogue image) old) (not (bytes_eq old name) && is_none (place image name))) D83_NAME_PRESENT allowed in

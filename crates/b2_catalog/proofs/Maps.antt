@@ -7,15 +7,14 @@ use Rattle.std.specs.Cmp.Lexicographic.{nat_list_cmp_total}
 use Rattle.std.specs.FinMap.{get, insert, remove, get-insert, get-remove, same_map, slice_cmp-IsAntisymmetric, nat_cmp-IsAntisymmetric}
 use Rattle.std.proofs.lemmas.Bool.{cases_eq, cases_Bool, false≢true, false_from_ne_true}
 use Rattle.std.proofs.lemmas.Slice.Eq.{bytes_eq-Decides}
-use Rattle.b2_platter.specs.declared.layout.Layout.TheVariants.{Narrow}
 use Rattle.b2_platter.specs.Slot.{is_entry, slot_name}
 use Rattle.b2_platter.specs.Image.{row, index_of}
-use Rattle.b2_platter.specs.Checks.{Good}
+use Rattle.b2_platter.specs.Checks.{IsGood}
 use Rattle.b2_catalog.specs.Catalogue.{entry_at, catalogue}
 use Rattle.b2_catalog.specs.Ways.{has_name, slot_found, IsSlotOf}
 use Rattle.b2_catalog.proofs.Looking.{find-none, find-only, Holds-from, one_slot, IsSlotOf-from}
 use Rattle.b2_catalog.proofs.Mapping.{tie-eq, get-catalogue}
-use Rattle.b2_catalog.proofs.Changed.{Changes, changed_good}
+use Rattle.b2_catalog.proofs.Changed.{Changes, changed_own, changed_layout}
 
 find-same : (p q : ℕ → Bool) (a n : ℕ) → ((k : ℕ) → a ≤ k → k < a + n → p k ≡ q k) → find p (range_with_len a n) ≡ find q (range_with_len a n)
 find-same p q a zero h = refl
@@ -24,13 +23,13 @@ find-same p q a (suc n) h =
     ∙ ap (λ (o : Option ℕ). cond (q a) (Some a) o) (find-same p q (a + 1) n (λ k low high. h k (omega arith) (omega arith)))
 
 -- the only slot with a name is found
-pub slot_found-only : (image : List ℕ) (good : Good Narrow image) (name : List ℕ) (k : ℕ) → IsSlotOf image name k → slot_found image name ≡ Some k
+pub slot_found-only : (image : List ℕ) (good : IsGood image) (name : List ℕ) (k : ℕ) → IsSlotOf image name k → slot_found image name ≡ Some k
 unfolding slot_found
 slot_found-only image good name k at =
     find-only (λ (k : ℕ). has_name name (row image k)) 1 (16 * index_of image - 1) k at.low (omega (arith, at.low, at.high)) at.held
     (λ j low high h. one_slot image good name j k low (omega arith) at.low at.high h at.held)
 
-pub get-at : (image : List ℕ) (good : Good Narrow image) (name : List ℕ) (k : ℕ) → IsSlotOf image name k → get (catalogue image) name ≡ Some (entry_at image k)
+pub get-at : (image : List ℕ) (good : IsGood image) (name : List ℕ) (k : ℕ) → IsSlotOf image name k → get (catalogue image) name ≡ Some (entry_at image k)
 get-at image good name k at = get-catalogue image name ∙ ap (option_map (entry_at image)) (slot_found-only image good name k at)
 
 other_name : (name other slot : List ℕ) → slot_name slot ≡ other → bytes_eq other name ≡ false → has_name name slot ≡ false
@@ -40,13 +39,13 @@ other_name name other slot same differ =
 no_file : (name slot : List ℕ) → is_entry slot ≡ false → has_name name slot ≡ false
 no_file name slot e = false_from_ne_true _ (λ h. false≢true (sym e ∙ (Holds-from name slot h).entry))
 
-module _ (a b : List ℕ) (k : ℕ) (good : Good Narrow a) (changes : Changes a b k) (low : 1 ≤ k) (high : k < 16 * index_of a) where
-  good' : Good Narrow b
-  good' = changed_good a b k good changes
+module _ (a b : List ℕ) (k : ℕ) (good : IsGood a) (changes : Changes a b k) (low : 1 ≤ k) (high : k < 16 * index_of a) where
+  good' : IsGood b
+  good' = changed_own a b k good changes
 
   entry-same : (j : ℕ) → 1 ≤ j → j < 16 * index_of a → j ≢ k → is_entry (row a j) ≡ true → entry_at b j ≡ entry_at a j
   unfolding entry_at
-  entry-same j j_low j_high other e = rw (changes.rows j j_low j_high other, changes.ends j j_low j_high other e) refl
+  entry-same j j_low j_high other e = rw (changed_layout a b k good changes, changes.rows j j_low j_high other, changes.ends j j_low j_high other e) refl
 
   slots-same : (q : List ℕ) → has_name q (row b k) ≡ false → has_name q (row a k) ≡ false → slot_found b q ≡ slot_found a q
   unfolding slot_found

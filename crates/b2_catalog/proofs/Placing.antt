@@ -3,10 +3,10 @@ use Rattle.std.proofs.Common.{◌≡◌, ℕ, zero, suc, ◌+◌, ◌-◌, ◌*�
 use Rattle.std.specs.Prelude.{is_some}
 use Rattle.std.specs.List.{range_with_len}
 use Rattle.std.proofs.lemmas.Bool.{eq-eqb, or_left, or_right, and_from}
-use Rattle.b2_platter.specs.declared.layout.Layout.TheVariants.{Narrow}
+use Rattle.b2_platter.specs.Layout.{layout_of}
 use Rattle.b2_platter.specs.Slot.{is_free}
 use Rattle.b2_platter.specs.Image.{row, index_of, first_slot, has_free, hash, is_clear_to}
-use Rattle.b2_platter.specs.Checks.{Good}
+use Rattle.b2_platter.specs.Checks.{IsGood}
 use Rattle.b2_platter.proofs.Ranges.{list_any-none}
 use Rattle.b2_platter.proofs.Goodness.{Parts-of}
 use Rattle.b2_catalog.specs.Ways.{lowest_free, place, place_along, way_of}
@@ -18,9 +18,9 @@ pub record Placed (a : List ℕ) (way : List ℕ) (k : ℕ) : Type 0 where
   pub free : is_free (row a k) ≡ true
   pub clear : is_clear_to (has_free a) (k / 16) way ≡ true
 
-module _ (a : List ℕ) (good : Good Narrow a) (first : ℕ) where
+module _ (a : List ℕ) (good : IsGood a) (first : ℕ) where
   some : 1 ≤ index_of a
-  some = (Parts-of Narrow a good).some
+  some = (Parts-of (layout_of a) a good).some
 
   full : (s : ℕ) → lowest_free a s ≡ None → has_free a s ≡ false
   unfolding lowest_free has_free
@@ -47,6 +47,6 @@ module _ (a : List ℕ) (good : Good Narrow a) (first : ℕ) where
   placed_along j (suc n) k h =
       here_or_later ((first + j) % index_of a) k (lowest_free a ((first + j) % index_of a)) _ (let s = some in omega arith) refl h (placed_along (j + 1) n k)
 
-pub Placed-from : (a : List ℕ) → Good Narrow a → (name : List ℕ) (k : ℕ) → place a name ≡ Some k → Placed a (way_of a name) k
+pub Placed-from : (a : List ℕ) → IsGood a → (name : List ℕ) (k : ℕ) → place a name ≡ Some k → Placed a (way_of a name) k
 unfolding place
 Placed-from a good name k is = placed_along a good (hash (index_of a) name) 0 (index_of a) k is

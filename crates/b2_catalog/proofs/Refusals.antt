@@ -6,8 +6,7 @@ use Rattle.std.specs.Str.{bytes_eq}
 use Rattle.std.specs.FinMap.{get}
 use Rattle.std.proofs.lemmas.Bool.{lt-ltb, le-ltb}
 use Rattle.b2_base.specs.declared.codes.TheConstants.{D83_NAME_PRESENT, D84_NOT_SCRATCHED, D85_INDEX_FULL, D86_NO_ROOM}
-use Rattle.b2_platter.specs.declared.layout.Layout.TheVariants.{Narrow}
-use Rattle.b2_platter.specs.Image.{catalogue_end, next_free}
+use Rattle.b2_platter.specs.Own.{end_of, next_of}
 use Rattle.b2_catalog.specs.declared.entry.Entry.{Entry}
 use Rattle.b2_catalog.specs.Catalogue.{entry_at, catalogue}
 use Rattle.b2_catalog.specs.Ways.{slot_found, place}
@@ -24,24 +23,24 @@ present a name = ap is_some (get-catalogue a name) ∙ some_mapped (entry_at a) 
 
 pub enter_present : (a name : List ℕ) (sectors : ℕ) → is_some (slot_found a name) ≡ true → enter_refusal a name sectors ≡ Some D83_NAME_PRESENT
 enter_present a name sectors e =
-    ap (λ (b : Bool). cond b (Some D83_NAME_PRESENT) (cond (is_none (place a name)) (Some D85_INDEX_FULL) (cond (nat_lt (catalogue_end Narrow a) (next_free Narrow a + sectors)) (Some D86_NO_ROOM) None))) (present a name ∙ e)
+    ap (λ (b : Bool). cond b (Some D83_NAME_PRESENT) (cond (is_none (place a name)) (Some D85_INDEX_FULL) (cond (nat_lt (end_of a) (next_of a + sectors)) (Some D86_NO_ROOM) None))) (present a name ∙ e)
 
-new_name : (a name : List ℕ) (sectors : ℕ) → is_some (slot_found a name) ≡ false → enter_refusal a name sectors ≡ cond (is_none (place a name)) (Some D85_INDEX_FULL) (cond (nat_lt (catalogue_end Narrow a) (next_free Narrow a + sectors)) (Some D86_NO_ROOM) None)
+new_name : (a name : List ℕ) (sectors : ℕ) → is_some (slot_found a name) ≡ false → enter_refusal a name sectors ≡ cond (is_none (place a name)) (Some D85_INDEX_FULL) (cond (nat_lt (end_of a) (next_of a + sectors)) (Some D86_NO_ROOM) None)
 new_name a name sectors e =
-    ap (λ (b : Bool). cond b (Some D83_NAME_PRESENT) (cond (is_none (place a name)) (Some D85_INDEX_FULL) (cond (nat_lt (catalogue_end Narrow a) (next_free Narrow a + sectors)) (Some D86_NO_ROOM) None))) (present a name ∙ e)
+    ap (λ (b : Bool). cond b (Some D83_NAME_PRESENT) (cond (is_none (place a name)) (Some D85_INDEX_FULL) (cond (nat_lt (end_of a) (next_of a + sectors)) (Some D86_NO_ROOM) None))) (present a name ∙ e)
 
 pub enter_full : (a name : List ℕ) (sectors : ℕ) → is_some (slot_found a name) ≡ false → place a name ≡ None → enter_refusal a name sectors ≡ Some D85_INDEX_FULL
 enter_full a name sectors e none =
-    new_name a name sectors e ∙ ap (λ (o : Option ℕ). cond (is_none o) (Some D85_INDEX_FULL) (cond (nat_lt (catalogue_end Narrow a) (next_free Narrow a + sectors)) (Some D86_NO_ROOM) None)) none
+    new_name a name sectors e ∙ ap (λ (o : Option ℕ). cond (is_none o) (Some D85_INDEX_FULL) (cond (nat_lt (end_of a) (next_of a + sectors)) (Some D86_NO_ROOM) None)) none
 
-pub enter_short : (a name : List ℕ) (sectors k : ℕ) → is_some (slot_found a name) ≡ false → place a name ≡ Some k → catalogue_end Narrow a < next_free Narrow a + sectors → enter_refusal a name sectors ≡ Some D86_NO_ROOM
+pub enter_short : (a name : List ℕ) (sectors k : ℕ) → is_some (slot_found a name) ≡ false → place a name ≡ Some k → end_of a < next_of a + sectors → enter_refusal a name sectors ≡ Some D86_NO_ROOM
 enter_short a name sectors k e some short =
-    new_name a name sectors e ∙ ap (λ (o : Option ℕ). cond (is_none o) (Some D85_INDEX_FULL) (cond (nat_lt (catalogue_end Narrow a) (next_free Narrow a + sectors)) (Some D86_NO_ROOM) None)) some
+    new_name a name sectors e ∙ ap (λ (o : Option ℕ). cond (is_none o) (Some D85_INDEX_FULL) (cond (nat_lt (end_of a) (next_of a + sectors)) (Some D86_NO_ROOM) None)) some
     ∙ ap (λ (b : Bool). cond b (Some D86_NO_ROOM) None) (lt-ltb _ _ short)
 
-pub enter_taken : (a name : List ℕ) (sectors k : ℕ) → is_some (slot_found a name) ≡ false → place a name ≡ Some k → next_free Narrow a + sectors ≤ catalogue_end Narrow a → enter_refusal a name sectors ≡ None
+pub enter_taken : (a name : List ℕ) (sectors k : ℕ) → is_some (slot_found a name) ≡ false → place a name ≡ Some k → next_of a + sectors ≤ end_of a → enter_refusal a name sectors ≡ None
 enter_taken a name sectors k e some room =
-    new_name a name sectors e ∙ ap (λ (o : Option ℕ). cond (is_none o) (Some D85_INDEX_FULL) (cond (nat_lt (catalogue_end Narrow a) (next_free Narrow a + sectors)) (Some D86_NO_ROOM) None)) some
+    new_name a name sectors e ∙ ap (λ (o : Option ℕ). cond (is_none o) (Some D85_INDEX_FULL) (cond (nat_lt (end_of a) (next_of a + sectors)) (Some D86_NO_ROOM) None)) some
     ∙ ap (λ (b : Bool). cond b (Some D86_NO_ROOM) None) (le-ltb _ _ room)
 
 no_slot : (o : Option ℕ) → is_some o ≡ false → o ≡ None

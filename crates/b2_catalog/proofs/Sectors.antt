@@ -3,9 +3,8 @@ use Rattle.std.proofs.Common.{◌≡◌, ℕ, suc, ◌+◌, ◌%◌, ◌<◌, Bo
 use Rattle.std.specs.Prelude.{is_some, sum}
 use Rattle.std.specs.Option.{option_map}
 use Rattle.std.specs.FinMap.{get}
-use Rattle.b2_platter.specs.declared.layout.Layout.TheVariants.{Narrow}
 use Rattle.b2_platter.specs.Image.{index_of, has_free, hash, cyclic_from}
-use Rattle.b2_platter.specs.Checks.{Good}
+use Rattle.b2_platter.specs.Checks.{IsGood}
 use Rattle.b2_catalog.specs.Catalogue.{catalogue, entry_at}
 use Rattle.b2_catalog.specs.Ways.{slot_in, look_up_ends, way_of, count_up_to, way, slot_found}
 use Rattle.b2_catalog.proofs.Finding.{count_here, count_free, count_later}
@@ -49,7 +48,7 @@ module _ (image name : List ℕ) where
     pub reads_one : has_free image (hash 2 name) ≡ true → way image name ≡ 1
     reads_one free = ap (count_up_to (look_up_ends image name)) two_on_way ∙ one_by (hash 2 name) ((hash 2 name + 1) % 2 ∷ []) (is_some (slot_in image name (hash 2 name))) refl free
 
-    pub reads_both : Good Narrow image → get (catalogue image) name ≡ None → has_free image (hash 2 name) ≡ false → way image name ≡ 2
+    pub reads_both : IsGood image → get (catalogue image) name ≡ None → has_free image (hash 2 name) ≡ false → way image name ≡ 2
     reads_both good none full =
         let no_slot : slot_found image name ≡ None = none_of (entry_at image) (slot_found image name) (sym (get-catalogue image name) ∙ none) in
         let low : hash 2 name < 2 = below_two (sum name) in

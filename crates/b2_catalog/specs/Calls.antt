@@ -3,8 +3,7 @@ use Rattle.std.specs.Prelude.{ℕ, ◌+◌, ◌-◌, Bool, true, false, not, ◌
 use Rattle.std.specs.Str.{bytes_eq}
 use Rattle.std.specs.FinMap.{get, insert}
 use Rattle.b2_base.specs.declared.codes.TheConstants.{D82_NO_FILE, D83_NAME_PRESENT, D84_NOT_SCRATCHED, D85_INDEX_FULL, D86_NO_ROOM}
-use Rattle.b2_platter.specs.declared.layout.Layout.TheVariants.{Narrow}
-use Rattle.b2_platter.specs.Image.{catalogue_end, next_free}
+use Rattle.b2_platter.specs.Own.{end_of, next_of}
 use Rattle.b2_catalog.specs.declared.entry.Entry.{Entry}
 use Rattle.b2_catalog.specs.Catalogue.{Catalogue, catalogue}
 use Rattle.b2_catalog.specs.Ways.{place, slot_found}
@@ -22,12 +21,12 @@ abbrev pub enter_refusal : List ℕ → List ℕ → ℕ → Option ℕ
 enter_refusal image name sectors =
     if is_some (get (catalogue image) name) then Some D83_NAME_PRESENT
     else (if is_none (place image name) then Some D85_INDEX_FULL
-    else (if nat_lt (catalogue_end Narrow image) (next_free Narrow image + sectors) then Some D86_NO_ROOM else None))
+    else (if nat_lt (end_of image) (next_of image + sectors) then Some D86_NO_ROOM else None))
 
 -- the file that is entered
 abbrev pub new_entry : List ℕ → List ℕ → Bool → ℕ → Entry
 new_entry image name program sectors =
-    record { name = name; live = true; program = program; start = next_free Narrow image; end = next_free Narrow image + sectors - 1; used = 1 }
+    record { name = name; live = true; program = program; start = next_of image; end = next_of image + sectors - 1; used = 1 }
 
 -- why an old file is refused: it isn't there, or it is live, or its new name has no slot
 abbrev pub old_refusal : Option Entry → Bool → Option ℕ

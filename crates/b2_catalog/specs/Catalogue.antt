@@ -4,10 +4,9 @@ use Rattle.std.specs.List.{filter_map}
 use Rattle.std.specs.Ordering.{nat_cmp}
 use Rattle.std.specs.Cmp.Lexicographic.{slice_cmp}
 use Rattle.std.specs.FinMap.{FinMap, from_entries}
-use Rattle.b2_platter.specs.declared.layout.Layout.TheVariants.{Narrow}
-use Rattle.b2_platter.specs.Slot.{is_entry, is_live, is_program, slot_start, slot_end, slot_name}
-use Rattle.b2_platter.specs.Image.{row, sector, index_of, slots_of}
-use Rattle.b2_platter.specs.Checks.{used_of}
+use Rattle.b2_platter.specs.Slot.{is_entry, is_live, is_program, slot_name}
+use Rattle.b2_platter.specs.Image.{row, index_of, slots_of}
+use Rattle.b2_platter.specs.Own.{first_of, last_of, used_by}
 use Rattle.b2_catalog.specs.declared.entry.Entry.{Entry}
 
 -- the file of a slot
@@ -17,9 +16,9 @@ entry_at image k =
       name = slot_name (row image k);
       live = is_live (row image k);
       program = is_program (row image k);
-      start = slot_start Narrow (row image k);
-      end = slot_end Narrow (row image k);
-      used = used_of Narrow (sector image (slot_end Narrow (row image k)));
+      start = first_of image k;
+      end = last_of image k;
+      used = used_by image k;
     }
 
 -- a slot with its name, where it is that of a file

@@ -1,15 +1,14 @@
 -- The listing of a catalogue: a line for the head, and a line for each file in the order of the slots.
 use Rattle.std.specs.Prelude.{ℕ, Bool, List, [], ◌++◌, codes, decimal, if◌then◌else◌}
 use Rattle.std.specs.List.{flat_map}
-use Rattle.b2_platter.specs.declared.layout.Layout.TheVariants.{Narrow}
-use Rattle.b2_platter.specs.Slot.{is_entry, is_live, is_program, slot_start, slot_end, slot_name}
-use Rattle.b2_platter.specs.Image.{row, sector, index_of, catalogue_end, next_free, slots_of}
-use Rattle.b2_platter.specs.Checks.{used_of}
+use Rattle.b2_platter.specs.Slot.{is_entry, is_live, is_program, slot_name}
+use Rattle.b2_platter.specs.Image.{row, index_of, slots_of}
+use Rattle.b2_platter.specs.Own.{end_of, next_of, first_of, last_of, used_by}
 
 -- `INDEX i END e NEXT n`
 unfoldable pub head_line : List ℕ → List ℕ
 head_line image =
-    codes "INDEX " ++ decimal (index_of image) ++ codes " END " ++ decimal (catalogue_end Narrow image) ++ codes " NEXT " ++ decimal (next_free Narrow image) ++ codes "\n"
+    codes "INDEX " ++ decimal (index_of image) ++ codes " END " ++ decimal (end_of image) ++ codes " NEXT " ++ decimal (next_of image) ++ codes "\n"
 
 -- a space, P or D, and S where the file is scratched
 abbrev pub marks_of : Bool → Bool → List ℕ
@@ -22,8 +21,7 @@ spaced n = codes " " ++ decimal n
 -- the name in eight bytes, the marks, and the first, the last and the used sectors
 unfoldable pub file_line : List ℕ → ℕ → List ℕ
 file_line image k =
-    slot_name (row image k) ++ marks_of (is_program (row image k)) (is_live (row image k)) ++ spaced (slot_start Narrow (row image k)) ++ spaced (slot_end Narrow (row image k))
-    ++ spaced (used_of Narrow (sector image (slot_end Narrow (row image k)))) ++ codes "\n"
+    slot_name (row image k) ++ marks_of (is_program (row image k)) (is_live (row image k)) ++ spaced (first_of image k) ++ spaced (last_of image k) ++ spaced (used_by image k) ++ codes "\n"
 
 -- the line of a slot, where it is a file's
 abbrev pub slot_line : List ℕ → ℕ → List ℕ

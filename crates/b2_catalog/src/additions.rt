@@ -1,9 +1,9 @@
 // A new file.
 ghost use Rattle.std.specs.Prelude.{◌≡◌, ◌+◌, ◌-◌, ◌*◌, ◌<◌, ◌≤◌, true, Some, None, IfOk, IfErr, IfSome, OnOk};
 ghost use Rattle.std.specs.FinMap.{insert};
-ghost use Rattle.b2_platter.specs.declared.layout.Layout.TheVariants.{Narrow};
-ghost use Rattle.b2_platter.specs.Image.{sector, index_of, catalogue_end, next_free};
-ghost use Rattle.b2_platter.specs.Checks.{Good};
+ghost use Rattle.b2_platter.specs.Image.{sector, index_of};
+ghost use Rattle.b2_platter.specs.Own.{end_of, next_of};
+ghost use Rattle.b2_platter.specs.Checks.{IsGood};
 ghost use Rattle.b2_catalog.specs.Catalogue.{catalogue};
 ghost use Rattle.b2_catalog.specs.Ways.{place};
 ghost use Rattle.b2_catalog.specs.Changes.{put_row, head_with_next, entered};
@@ -12,17 +12,17 @@ ghost use Rattle.b2_catalog.specs.Calls.{enter_refusal, new_entry};
 use crate::{Entry, limits, lookup, place, spelling};
 use b2_base::Name8;
 use b2_base::codes::{Code, D83_NAME_PRESENT, D85_INDEX_FULL, D86_NO_ROOM};
-use b2_platter::{Layout, Platter, edits, image};
+use b2_platter::{Platter, edits, image};
 
 /// The head with another next free sector.
 #[tactic(auto, unfolding(crate::specs::Changes::head_with_next))]
 fn head_with_next(p: &Platter, next: u32) -> [u8; 16]
-    requires { next ≤ catalogue_end Narrow p.now }
+    requires { next ≤ end_of p.now }
     ensures { result ≡ head_with_next p.now next }
 {
     let sectors = p.sectors();
     let (index, end, _) = limits(p);
-    edits::image_head(Layout::Narrow, index as u8, sectors, end, next)
+    edits::image_head(p.layout(), index as u8, sectors, end, next)
 }
 
 /// A sector of the index, with the head in place.
@@ -42,20 +42,21 @@ fn put_new(p: &mut Platter, k: usize, name: Name8, program: bool, sectors: u32)
     requires low { 1 ≤ k }
     requires high { k < 16 * index_of p.old }
     requires some { 2 ≤ sectors }
-    requires room { next_free Narrow p.old + sectors ≤ catalogue_end Narrow p.old }
-    requires good { Good Narrow (entered p.old k name program sectors) }
+    requires room { next_of p.old + sectors ≤ end_of p.old }
+    requires good { IsGood (entered p.old k name program sectors) }
     ensures { p.new ≡ entered p.old k name program sectors }
 {
+    let layout = p.layout();
     let (_, _, start) = limits(p);
     let end = start + sectors - 1;
     let head = head_with_next(p, start + sectors);
     let first = index_sector(p, 0, &head);
-    let slot = spelling::file_slot(program, start, end, name);
+    let slot = spelling::file_slot(layout, program, start, end, name);
     let own = spelling::with_row(&index_sector(p, k / 16, &head), k % 16, &slot);
     p.put_catalogue(&[
         (0, first),
         ((k / 16) as u32, own),
-        (end, spelling::control_sector(1)),
+        (end, spelling::control_sector(layout, 1)),
     ]);
 }
 

@@ -2,9 +2,9 @@
 ghost use Rattle.std.specs.Prelude.{◌≡◌, ◌-◌, ◌*◌, ◌<◌, ◌≤◌, true, Some, None, IsSome, IfSome, OnOk, IfErr};
 ghost use Rattle.std.specs.FinMap.{get, insert};
 ghost use Rattle.b2_base.specs.declared.codes.TheConstants.{D82_NO_FILE};
-ghost use Rattle.b2_platter.specs.declared.layout.Layout.TheVariants.{Narrow};
+ghost use Rattle.b2_platter.specs.Layout.{layout_of};
 ghost use Rattle.b2_platter.specs.Image.{row, index_of};
-ghost use Rattle.b2_platter.specs.Checks.{Good};
+ghost use Rattle.b2_platter.specs.Checks.{IsGood};
 ghost use Rattle.b2_platter.specs.Edits.{put_sector};
 ghost use Rattle.b2_catalog.specs.Catalogue.{catalogue};
 ghost use Rattle.b2_catalog.specs.Ways.{slot_found};
@@ -19,7 +19,7 @@ use b2_platter::{Platter, image};
 /// Puts a row of the index in place.
 pub fn put_row(p: &mut Platter, k: usize, row: &[u8; 16])
     requires within { k < 16 * index_of p.old }
-    requires good { Good Narrow (put_row p.old k row.now) }
+    requires good { IsGood (put_row p.old k row.now) }
     ensures { p.new ≡ put_row p.old k row.now }
 {
     let own = spelling::with_row(image::sector(p.image(), k / 16), k % 16, row);
@@ -48,9 +48,10 @@ pub fn set_used(p: &mut Platter, e: Entry, used: u32)
     requires some { 1 ≤ used }
     requires few { used ≤ e.end - e.start }
     ensures catalogue { catalogue p.new ≡ insert (catalogue p.old) e.name (record e { used = used }) }
-    ensures image { p.new ≡ put_sector p.old e.end (control_sector used) }
+    ensures image { p.new ≡ put_sector p.old e.end (control_sector (layout_of p.old) used) }
 {
     let sectors = p.sectors();
     prove!(e.end < sectors);
-    p.put_catalogue(&[(e.end, spelling::control_sector(used))]);
+    let control = spelling::control_sector(p.layout(), used);
+    p.put_catalogue(&[(e.end, control)]);
 }

@@ -1,13 +1,12 @@
 // The listing of a catalogue.
 ghost use Rattle.std.specs.Prelude.{◌≡◌, ◌*◌, ◌<◌, ◌≤◌, ◌++◌, true, OnOk, decimal};
-ghost use Rattle.b2_platter.specs.declared.layout.Layout.TheVariants.{Narrow};
 ghost use Rattle.b2_platter.specs.Slot.{is_entry, is_live, is_program};
 ghost use Rattle.b2_platter.specs.Image.{row, index_of};
 ghost use Rattle.b2_catalog.specs.Listing.{head_line, file_line, slot_line, listing_of, marks_of, spaced};
 
 use crate::limits;
 use b2_base::NoMemory;
-use b2_platter::{Layout, Platter, checks, image, slot};
+use b2_platter::{Platter, checks, image, slot};
 use itoa::Buffer;
 
 fn push_number(into: &mut Vec<u8>, n: u32) -> Result<(), NoMemory>
@@ -61,12 +60,13 @@ fn push_file(p: &Platter, k: usize, into: &mut Vec<u8>) -> Result<(), NoMemory>
     requires entry { is_entry (row p.now k) ≡ true }
     ensures { OnOk result (into.new.items ≡ into.old.items ++ file_line p.now k) }
 {
+    let layout = p.layout();
     let slot = image::row(p.image(), k);
-    let end = slot::last_sector(Layout::Narrow, slot);
-    let used = checks::used(Layout::Narrow, p.sector(end));
+    let end = slot::last_sector(layout, slot);
+    let used = checks::used(layout, p.sector(end));
     into.extend_from_slice(slot::name(slot))?;
     into.extend_from_slice(marks_of(slot))?;
-    push_spaced(into, slot::first_sector(Layout::Narrow, slot))?;
+    push_spaced(into, slot::first_sector(layout, slot))?;
     push_spaced(into, end)?;
     push_spaced(into, used)?;
     into.extend_from_slice(b"\n")?;

@@ -1,14 +1,13 @@
 // How a name is looked up: from its hash on, all slots of an index sector, up to the name or a sector with a free slot.
 ghost use Rattle.std.specs.Prelude.{◌≡◌, ◌+◌, ◌*◌, ◌<◌, ◌≤◌, IfSome, length};
 ghost use Rattle.std.specs.FinMap.{get};
-ghost use Rattle.b2_platter.specs.declared.layout.Layout.TheVariants.{Narrow};
 ghost use Rattle.b2_platter.specs.Image.{row, index_of, has_free};
 ghost use Rattle.b2_catalog.specs.Catalogue.{catalogue, entry_at};
 ghost use Rattle.b2_catalog.specs.Ways.{has_name, slot_in, way_of, way, found_along, slot_found, IsSlotOf};
 
 use crate::Entry;
 use b2_base::{Name8, Steps};
-use b2_platter::{Layout, Platter, checks, image, slot};
+use b2_platter::{Platter, checks, image, slot};
 use std::marker::Brand;
 use std::sync::ledger::{Blank, Ledger};
 
@@ -64,15 +63,16 @@ pub fn entry_at(p: &Platter, k: usize, name: Name8) -> Entry
     ensures value { result ≡ entry_at p.now k }
     ensures named { result.name ≡ name }
 {
+    let layout = p.layout();
     let slot = image::row(p.image(), k);
-    let end = slot::last_sector(Layout::Narrow, slot);
+    let end = slot::last_sector(layout, slot);
     Entry {
         name,
         live: slot::is_live(slot),
         program: slot::is_program(slot),
-        start: slot::first_sector(Layout::Narrow, slot),
+        start: slot::first_sector(layout, slot),
         end,
-        used: checks::used(Layout::Narrow, p.sector(end)),
+        used: checks::used(layout, p.sector(end)),
     }
 }
 

@@ -2,8 +2,7 @@
 ghost use Rattle.std.specs.Prelude.{◌≡◌, ◌&&◌, true, not, is_some, Some, None, IfOk, IfErr, IfSome, OnOk};
 ghost use Rattle.std.specs.Str.{bytes_eq};
 ghost use Rattle.std.specs.FinMap.{get, insert, remove};
-ghost use Rattle.b2_platter.specs.declared.layout.Layout.TheVariants.{Narrow};
-ghost use Rattle.b2_platter.specs.Checks.{Good};
+ghost use Rattle.b2_platter.specs.Checks.{IsGood};
 ghost use Rattle.b2_catalog.specs.Catalogue.{catalogue, entry_at};
 ghost use Rattle.b2_catalog.specs.Ways.{slot_found};
 ghost use Rattle.b2_catalog.specs.Changes.{reused};
@@ -25,7 +24,7 @@ fn is_same(old: Name8, name: Name8) -> bool
 /// Whether another name is in the catalogue already.
 fn is_name_taken(p: &Platter, old: Name8, name: Name8) -> bool
     ensures value { result ≡ (not (bytes_eq old name) && is_some (slot_found p.now name)) }
-    ensures good { Good Narrow p.now }
+    ensures good { IsGood p.now }
 {
     let _image = p.image();
     !is_same(old, name) && lookup::look_slot(p, name).is_some()
@@ -64,7 +63,7 @@ pub fn reuse(p: &mut Platter, old: Name8, name: Name8, program: bool) -> Result<
     let Some(to) = new_place(p, k, old, name) else {
         return Err(Code::known(D85_INDEX_FULL));
     };
-    let slot = spelling::file_slot(program, was.start, was.end, name);
+    let slot = spelling::file_slot(p.layout(), program, was.start, was.end, name);
     put_row(p, k, &spelling::gone_slot());
     put_row(p, to, &slot);
     Ok(Entry {

@@ -1,6 +1,7 @@
 // Slots and control sectors as they are written.
 ghost use Rattle.std.specs.Prelude.{◌≡◌, ◌+◌, ◌*◌, ◌<◌, true, length};
 ghost use Rattle.b2_base.specs.Names.{is_name8};
+ghost use Rattle.b2_platter.specs.Layout.{number_limit};
 ghost use Rattle.b2_catalog.specs.Changes.{put_row, kind_of, file_slot, scratched_slot, gone_slot, control_sector};
 
 use b2_base::Name8;
@@ -13,19 +14,19 @@ fn kind(program: bool) -> u8
     if program { slot::PROGRAM } else { slot::DATA }
 }
 
-/// The slot of a live file.
-pub fn file_slot(program: bool, start: u32, end: u32, name: Name8) -> [u8; 16]
-    requires start_fits { start < 65536 }
-    requires end_fits { end < 65536 }
-    ensures value { result ≡ file_slot program start end name }
+/// The slot of a live file, in a layout.
+pub fn file_slot(layout: Layout, program: bool, start: u32, end: u32, name: Name8) -> [u8; 16]
+    requires start_fits { start < number_limit layout }
+    requires end_fits { end < number_limit layout }
+    ensures value { result ≡ file_slot layout program start end name }
     ensures legal { is_name8 name ≡ true }
     ensures len { length name ≡ 8 }
 {
     let mut bytes = [0; 16];
     bytes[0] = slot::LIVE;
     bytes[1] = kind(program);
-    edits::put_sector_number(Layout::Narrow, &mut bytes, 2, start);
-    edits::put_sector_number(Layout::Narrow, &mut bytes, 4, end);
+    edits::put_sector_number(layout, &mut bytes, 2, start);
+    edits::put_sector_number(layout, &mut bytes, layout.second_place(), end);
     bytes[8..].copy_from_slice(&name.bytes());
     bytes
 }
@@ -51,13 +52,13 @@ pub fn gone_slot() -> [u8; 16]
 }
 
 /// A control sector that says how many sectors are used.
-pub fn control_sector(used: u32) -> [u8; 256]
-    requires { used < 65536 }
-    ensures { result ≡ control_sector used }
+pub fn control_sector(layout: Layout, used: u32) -> [u8; 256]
+    requires { used < number_limit layout }
+    ensures { result ≡ control_sector layout used }
 {
     let mut bytes = [0; 256];
     bytes[0] = checks::CONTROL;
-    edits::put_sector_number(Layout::Narrow, &mut bytes, 1, used);
+    edits::put_sector_number(layout, &mut bytes, 1, used);
     bytes
 }
 

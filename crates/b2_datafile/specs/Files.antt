@@ -2,6 +2,7 @@
 use Rattle.std.specs.Prelude.{◌≡◌, ℕ, ◌+◌, ◌-◌, ◌≤◌, ◌⊎◌, Bool, false, ◌||◌, nat_le, List, [], ◌∷◌, replicate, Option, Result, Ok, Err}
 use Rattle.std.specs.Str.{bytes_eq}
 use Rattle.b2_dec.specs.declared.values.Value.{Value}
+use Rattle.b2_platter.specs.Layout.{layout_of}
 use Rattle.b2_platter.specs.Image.{sector, sectors_at}
 use Rattle.b2_platter.specs.Edits.{put_sector}
 use Rattle.b2_base.specs.declared.files.Slot.{Slot}
@@ -40,7 +41,7 @@ ends_records image e pos = nat_le e.end pos || bytes_eq (sector image pos) end_m
 
 -- the end mark at a place, and the control sector that says so
 abbrev pub with_end : List ℕ → Entry → ℕ → List ℕ
-with_end image e pos = put_sector (put_sector image pos end_mark) e.end (control_sector (pos - e.start + 1))
+with_end image e pos = put_sector (put_sector image pos end_mark) e.end (control_sector (layout_of image) (pos - e.start + 1))
 
 -- a data file that is made, with the end mark in its first sector
 pub record MadeEmpty (image : List ℕ) (old : Option (List ℕ)) (name : List ℕ) (sectors : ℕ) (new : List ℕ) : Type 0 where

@@ -7,9 +7,8 @@ ghost use Rattle.b2_base.specs.declared.files.By.{By as Way};
 ghost use Rattle.b2_base.specs.declared.files.Slot.{Slot as OpenFile};
 ghost use Rattle.b2_dec.specs.declared.values.Kind.{Kind as AnyKind};
 ghost use Rattle.b2_dec.specs.declared.values.Value.{Value as AnyValue};
-ghost use Rattle.b2_platter.specs.declared.layout.Layout.TheVariants.{Narrow};
 ghost use Rattle.b2_platter.specs.Image.{sector};
-ghost use Rattle.b2_platter.specs.Checks.{Good};
+ghost use Rattle.b2_platter.specs.Checks.{IsGood};
 ghost use Rattle.b2_platter.specs.Edits.{put_from};
 ghost use Rattle.b2_catalog.specs.declared.entry.Entry.{Entry as File};
 ghost use Rattle.b2_catalog.specs.Catalogue.{catalogue};
@@ -28,7 +27,7 @@ pub fn saving_adds_the_record()
 
 /// Saving leaves the catalogue, the image good, and all sectors but those of the record.
 pub fn saving_leaves_the_rest()
-    ensures good { (image : List ℕ) (e : File) (pos : ℕ) (values : List AnyValue) → SavesAt image e pos values → Good Narrow (put_from image pos (record_of values)) }
+    ensures good { (image : List ℕ) (e : File) (pos : ℕ) (values : List AnyValue) → SavesAt image e pos values → IsGood (put_from image pos (record_of values)) }
     ensures files { (image : List ℕ) (e : File) (pos : ℕ) (values : List AnyValue) → SavesAt image e pos values → catalogue (put_from image pos (record_of values)) ≡ catalogue image }
     ensures before { (image : List ℕ) (e : File) (pos : ℕ) (values : List AnyValue) (k : ℕ) → SavesAt image e pos values → k < pos → sector (put_from image pos (record_of values)) k ≡ sector image k }
     ensures after { (image : List ℕ) (e : File) (pos : ℕ) (values : List AnyValue) (k : ℕ) → SavesAt image e pos values → pos + length (record_of values) ≤ k → sector (put_from image pos (record_of values)) k ≡ sector image k }
@@ -42,7 +41,7 @@ pub fn ending_makes_the_file_whole()
 /// Ending leaves the image good, the catalogue but for how many of the file's sectors are used, and all sectors but that of
 /// the place and the file's control sector.
 pub fn ending_leaves_the_rest()
-    ensures good { (image : List ℕ) (e : File) (pos : ℕ) → EndsAt image e pos → Good Narrow (with_end image e pos) }
+    ensures good { (image : List ℕ) (e : File) (pos : ℕ) → EndsAt image e pos → IsGood (with_end image e pos) }
     ensures files { (image : List ℕ) (e : File) (pos : ℕ) → EndsAt image e pos → catalogue (with_end image e pos) ≡ insert (catalogue image) e.name (record e { used = pos - e.start + 1 }) }
     ensures others { (image : List ℕ) (e : File) (pos k : ℕ) → EndsAt image e pos → (k ≡ pos → ⊥) → (k ≡ e.end → ⊥) → sector (with_end image e pos) k ≡ sector image k }
 {}

@@ -1,7 +1,6 @@
 // Records are read.
 ghost use Rattle.std.specs.Prelude.{◌≡◌, ◌↔◌, ◌<◌, ◌≤◌, IsTrue, IfOk, IfErr, Ok};
-ghost use Rattle.b2_platter.specs.declared.layout.Layout.TheVariants.{Narrow};
-ghost use Rattle.b2_platter.specs.Image.{total_of};
+ghost use Rattle.b2_platter.specs.Own.{sectors_of};
 ghost use Rattle.b2_datafile.specs.Files.{IsEndOfRecords};
 ghost use Rattle.b2_catalog.specs.Results.{FailsBy};
 ghost use Rattle.b2_datafile.specs.Loading.{Loads, LoadFails, agree, as_values, is_of, values_loaded};
@@ -18,7 +17,7 @@ use std::alloc::Global;
 
 /// Whether the records of a file end at a place: that of its control sector, one after it, or one with the end mark.
 pub(crate) fn is_end_of_records(p: &Platter, e: &Entry, pos: u32) -> bool
-    requires { e.now.end < total_of Narrow p.now }
+    requires { e.now.end < sectors_of p.now }
     ensures { IsTrue result ↔ IsEndOfRecords p.now e.now pos }
 {
     e.end <= pos || marks::is_end_mark(p.sector(pos))

@@ -1,7 +1,6 @@
 // A place in a file is moved over records.
 ghost use Rattle.std.specs.Prelude.{◌≡◌, ◌+◌, ◌-◌, ◌<◌, ◌≤◌, Some, Ok, IfOk, IfErr};
-ghost use Rattle.b2_platter.specs.declared.layout.Layout.TheVariants.{Narrow};
-ghost use Rattle.b2_platter.specs.Image.{total_of};
+ghost use Rattle.b2_platter.specs.Own.{sectors_of};
 ghost use Rattle.b2_platter.specs.Reading.{Unspelled};
 ghost use Rattle.b2_catalog.specs.declared.entry.Entry.{Entry as File};
 ghost use Rattle.b2_datafile.specs.Slots.{file_of};
@@ -41,7 +40,7 @@ pub fn skip(alloc: Global, p: &Platter, s: &Slot, by: By) -> Result<u32, Fault>
 /// The place after a number of records from a place on, or that where they end.
 fn forward(alloc: Global, p: &Platter, e: &Entry, from: u32, count: u32) -> Result<u32, Fault>
     requires order { e.now.start < e.now.end }
-    requires within { e.now.end < total_of Narrow p.now }
+    requires within { e.now.end < sectors_of p.now }
     ensures ok { IfOk result (Ahead p.now e.now count from) }
     ensures err { IfErr result (Unspelled (NoneAhead p.now e.now count from)) }
 {
@@ -61,7 +60,7 @@ fn forward(alloc: Global, p: &Platter, e: &Entry, from: u32, count: u32) -> Resu
 
 /// The place a number of records before a place, or the file's first.
 fn back(alloc: Global, p: &Platter, e: &Entry, from: u32, count: u32) -> Result<u32, Fault>
-    requires within { from ≤ total_of Narrow p.now }
+    requires within { from ≤ sectors_of p.now }
     ensures ok { IfOk result (Behind p.now e.now count from) }
     ensures err { IfErr result (Unspelled (NoneBehind p.now e.now count from)) }
 {
@@ -82,7 +81,7 @@ fn back(alloc: Global, p: &Platter, e: &Entry, from: u32, count: u32) -> Result<
 /// many sectors it has.
 fn before(alloc: Global, p: &Platter, e: &Entry, pos: u32) -> Result<u32, Fault>
     requires low { e.now.start < pos }
-    requires high { pos ≤ total_of Narrow p.now }
+    requires high { pos ≤ sectors_of p.now }
     ensures ok { IfOk result (IsRecordFrom p.now e.now pos) }
     ensures err { IfErr result (Unspelled (IsNoRecordBefore p.now e.now pos)) }
 {

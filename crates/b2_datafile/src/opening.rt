@@ -1,9 +1,8 @@
 // A file is opened, and found again by its slot.
 ghost use Rattle.std.specs.Prelude.{◌≡◌, ◌-◌, ◌<◌, ◌≤◌, [], true, false, Some, None, Ok, Err, is_some, IfSome, IfOk, IfErr, OnOk};
 ghost use Rattle.std.specs.FinMap.{get, insert};
-ghost use Rattle.b2_platter.specs.declared.layout.Layout.TheVariants.{Narrow};
-ghost use Rattle.b2_platter.specs.Image.{total_of};
-ghost use Rattle.b2_platter.specs.Checks.{Good};
+ghost use Rattle.b2_platter.specs.Own.{sectors_of};
+ghost use Rattle.b2_platter.specs.Checks.{IsGood};
 ghost use Rattle.b2_catalog.specs.Catalogue.{catalogue};
 ghost use Rattle.b2_catalog.specs.Making.{KeepsOthers, files_without, make_refusal};
 ghost use Rattle.b2_datafile.specs.Slots.{open_refusal, opened, file_of};
@@ -54,10 +53,10 @@ pub(crate) fn file_of(p: &Platter, s: &Slot) -> Option<Entry>
     ensures live { IfSome result (λ e. e.live ≡ true) }
     ensures start { IfSome result (λ e. e.start ≡ s.now.start) }
     ensures order { IfSome result (λ e. e.start < e.end) }
-    ensures within { IfSome result (λ e. e.end < total_of Narrow p.now) }
+    ensures within { IfSome result (λ e. e.end < sectors_of p.now) }
     ensures used { IfSome result (λ e. 1 ≤ e.used) }
     ensures few { IfSome result (λ e. e.used ≤ e.end - e.start) }
-    ensures good { Good Narrow p.now }
+    ensures good { IsGood p.now }
 {
     let _image = p.image();
     let e = look(p, s.name)?;

@@ -2,7 +2,7 @@
 ghost use Rattle.std.specs.Prelude.{◌≡◌, ◌+◌, ◌-◌, ◌^◌, ◌<◌, ◌≤◌, ℕ, true, Some, None, IfSome, IfOk, IfErr, OnOk, length};
 ghost use Rattle.std.specs.FinMap.{get, insert};
 ghost use Rattle.std.specs.List.{list_all};
-ghost use Rattle.b2_platter.specs.declared.layout.Layout.TheVariants.{Narrow};
+ghost use Rattle.b2_platter.specs.Layout.{layout_of};
 ghost use Rattle.b2_platter.specs.Edits.{is_data_sector, put_from};
 ghost use Rattle.b2_catalog.specs.Catalogue.{catalogue};
 ghost use Rattle.b2_record.specs.Items.{is_short};
@@ -25,7 +25,7 @@ fn put_record(p: &mut Platter, at: u32, values: &[Value], count: u32)
     requires count { count ≡ length (record_of values.now) }
     requires few { count ≤ 255 }
     requires ends { at + count < 2 ^ 32 }
-    requires sectors { (n : ℕ) → at ≤ n → n < at + count → is_data_sector Narrow p.old n ≡ true }
+    requires sectors { (n : ℕ) → at ≤ n → n < at + count → is_data_sector (layout_of p.old) p.old n ≡ true }
     ensures { p.new ≡ put_from p.old at (record_of values.now) }
 {
     let _image = p.image();

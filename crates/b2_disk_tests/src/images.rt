@@ -1,9 +1,11 @@
 // Calls on a platter as a whole.
 use crate::answers::{show_number, show_pairs, show_sector};
 use crate::words::{hex_byte_of, whole};
+use b2_base::NoMemory;
 use b2_base::lexical::{first_bytes, rest_after};
 use b2_cases::Sheet;
 use b2_platter::{ImageErr, Platter};
+use std::alloc::Global;
 
 /// Makes the call of that name, and returns whether it is one of these.
 pub fn is_answered(p: &mut Platter, call: &str, sheet: &mut Sheet<'_>) -> bool {
@@ -14,20 +16,35 @@ pub fn is_answered(p: &mut Platter, call: &str, sheet: &mut Sheet<'_>) -> bool {
         "sector" => show_one(p, sheet),
         "bytes" => show_some(p, sheet),
         "size" => show_number(sheet, p.sectors()),
+        "version" => show_number(sheet, u32::from(p.version())),
         _ => return false,
     }
     true
 }
 
-/// `blank SECTORS`: a blank disk in place of this one.
+/// A blank disk of a version, None where it has no disk of so many sectors.
+pub fn blank_of(alloc: Global, sectors: u32, version: u32) -> Option<Result<Platter, NoMemory>> {
+    if version == 1 && sectors >= 16 && sectors <= 32512 {
+        return Some(Platter::blank(alloc, sectors, 1));
+    }
+    if version == 2 && sectors >= 16 && sectors <= 262144 {
+        return Some(Platter::blank(alloc, sectors, 2));
+    }
+    None
+}
+
+/// `blank SECTORS`, or `blank SECTORS VERSION`: a blank disk in place of this one, of its version where none is said.
 fn make_blank(p: &mut Platter, sheet: &mut Sheet<'_>) {
     let sectors = whole(sheet);
-    if sectors < 16 || sectors > 32512 {
-        return sheet.misread();
-    }
-    match Platter::blank(sheet.alloc(), sectors) {
-        Ok(blank) => *p = blank,
-        Err(_) => sheet.no_memory(),
+    let version = if sheet.has_items() {
+        whole(sheet)
+    } else {
+        u32::from(p.version())
+    };
+    match blank_of(sheet.alloc(), sectors, version) {
+        Some(Ok(blank)) => *p = blank,
+        Some(Err(_)) => sheet.no_memory(),
+        None => sheet.misread(),
     }
 }
 

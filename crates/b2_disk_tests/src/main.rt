@@ -2,8 +2,9 @@
 //! rows, each a line as `b2_cases` reads it.
 //!
 //! A row `disk` has a call in each cell. The calls are made one after the other, from a blank disk of sixteen sectors and an
-//! empty text on, and the answers of all of them are what the row gives. A row `record` shows the sectors of a record, and a
-//! row `sectors` how many they are.
+//! empty text on, and the answers of all of them are what the row gives. Its disks are of version 1, those of a row `wide` of
+//! version 2, and the calls of a row `both` are made over either. A row `record` shows the sectors of a record, and a row
+//! `sectors` how many they are.
 #![tactic(auto)]
 
 mod answers;
@@ -28,6 +29,8 @@ impl Calls for DiskCalls {
         let mut sheet = Sheet::new(alloc, cells);
         match str_of(call) {
             "disk" => sessions::all_answers(&mut sheet),
+            "wide" => sessions::wide_answers(&mut sheet),
+            "both" => return sessions::both_answers(alloc, cells),
             "record" => records::show_sectors(&mut sheet),
             "sectors" => records::count_sectors(&mut sheet),
             _ => sheet.no_such_call(),

@@ -1,7 +1,7 @@
 // The calls of a row, one after the other.
 use crate::{catalogs, data_files, each, images, programs, records};
 use b2_base::cut;
-use b2_cases::{Sheet, str_of};
+use b2_cases::{Cells, Sheet, str_of};
 use b2_datafile::Slot;
 use b2_platter::Platter;
 use b2_text::Text;
@@ -27,12 +27,40 @@ const SECTORS: u32 = 16;
 /// How many bytes the text has room for at first.
 const AREA: usize = 2048;
 
-/// `disk | CALL | CALL ..`: the answers of all calls that answer, with commas between them.
+/// `disk | CALL | CALL ..`: the answers of all calls that answer, with commas between them, where the disks are of version 1.
 pub fn all_answers(sheet: &mut Sheet<'_>) {
+    show_session(sheet, 1);
+}
+
+/// `wide | CALL | CALL ..`: the same where the disks are of version 2.
+pub fn wide_answers(sheet: &mut Sheet<'_>) {
+    show_session(sheet, 2);
+}
+
+/// `both | CALL | CALL ..`: the same over either version, one after the other, with `or` between where they aren't the same.
+pub fn both_answers(alloc: Global, cells: Cells<'_>) -> Result<String, AllocError> {
+    let mut said = version_answers(alloc, cells, 1)?;
+    let wide = version_answers(alloc, cells, 2)?;
+    if said.as_str() != wide.as_str() {
+        said.push_str(" or ")?;
+        said.push_str(wide.as_str())?;
+    }
+    Ok(said)
+}
+
+/// The answers of a row's calls on disks of a version.
+fn version_answers(alloc: Global, cells: Cells<'_>, version: u32) -> Result<String, AllocError> {
+    let mut sheet = Sheet::new(alloc, cells);
+    show_session(&mut sheet, version);
+    sheet.finish()
+}
+
+/// Shows the answers of a row's calls on disks of a version.
+fn show_session(sheet: &mut Sheet<'_>, version: u32) {
     let alloc = sheet.alloc();
-    let (Ok(disk), Ok(other), Ok(text)) = (
-        Platter::blank(alloc, SECTORS),
-        Platter::blank(alloc, SECTORS),
+    let (Some(Ok(disk)), Some(Ok(other)), Ok(text)) = (
+        images::blank_of(alloc, SECTORS, version),
+        images::blank_of(alloc, SECTORS, version),
         Text::new(alloc, AREA),
     ) else {
         return sheet.no_memory();

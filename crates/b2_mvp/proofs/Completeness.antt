@@ -12,8 +12,7 @@ use Rattle.b2_boot.specs.Logs.{LogRead, log_of}
 use Rattle.b2_boot.specs.Logs.LogRead.{Events, Refused}
 use Rattle.b2_boot.specs.declared.boot.BootPlatter.{BootPlatter}
 use Rattle.b2_boot.specs.declared.log.Event.{Event}
-use Rattle.b2_platter.specs.Checks.{first_check}
-use Rattle.b2_platter.specs.declared.layout.Layout.TheVariants.{Narrow}
+use Rattle.b2_platter.specs.Checks.{own_check}
 use Rattle.b2_sched.specs.Start.{Images}
 use Rattle.b2_mvp.specs.Inputs.{boot_limit, log_limit, image_limit, Gives, HasBoot, HasInputs, HasSource, HaveImages, FailsImage, Input, IsReached, ReachesLog, RefusesBoot, RefusesLog, limit_of, name_of}
 use Rattle.b2_mvp.specs.Inputs.Input.{TheBoot, TheLog, TheImage}
@@ -179,7 +178,7 @@ within_fine false name r h = inr refl
 
 file_fine : (address name : List ℕ) (file : Option (List ℕ)) → IsFine (by_image_file address name file)
 file_fine address name None = inr refl
-file_fine address name (Some bytes) = within_fine (nat_le (length bytes) image_limit) name _ (check_fine address bytes (first_check Narrow bytes))
+file_fine address name (Some bytes) = within_fine (nat_le (length bytes) image_limit) name _ (check_fine address bytes (own_check bytes))
 
 source_fine : (m : Files) (address : List ℕ) (image : Option (List ℕ)) (blank : Option ℕ) → IsFine (by_source m address image blank)
 source_fine m address (Some name) blank = file_fine address name (get m name)

@@ -7,10 +7,11 @@ use Rattle.std.proofs.lemmas.List.Elements.{All-nil, All-cons}
 use Rattle.b2_base.specs.Files.{Files}
 use Rattle.b2_boot.specs.Boots.{is_either, is_platter, is_platter_address, may_be_named}
 use Rattle.b2_boot.specs.declared.boot.BootPlatter.{BootPlatter}
-use Rattle.b2_platter.specs.declared.layout.Layout.TheVariants.{Narrow}
+use Rattle.b2_platter.specs.Layout.{by_version}
 use Rattle.b2_platter.specs.Edits.{blank_image}
 use Rattle.b2_platter.specs.Image.{index_of, row}
 use Rattle.b2_platter.proofs.Fresh.{blank_good, head_says}
+use Rattle.b2_platter.proofs.Layouts.{own_good}
 use Rattle.b2_store.specs.Files.{IsSound}
 use Rattle.b2_sched.specs.Start.{Images}
 use Rattle.b2_mvp.specs.Inputs.{HasSource, HaveImages}
@@ -23,10 +24,10 @@ few_in_index image small =
     omega arith
 
 -- a blank image
-blank_sound : (sectors : ℕ) → 16 ≤ sectors → sectors ≤ 32512 → IsSound (blank_image Narrow sectors)
+blank_sound : (sectors : ℕ) → 16 ≤ sectors → sectors ≤ 32512 → IsSound (blank_image (by_version 1) sectors)
 blank_sound sectors least most =
-    let says = (head_says Narrow 2 sectors sectors 2 (replicate (256 * sectors - 16) 0) (omega arith) (omega arith) (omega arith)).index in
-    (blank_good Narrow sectors least most, omega arith)
+    let says = (head_says (by_version 1) 2 sectors sectors 2 (replicate (256 * sectors - 16) 0) (omega arith) (omega arith) (omega arith)).index in
+    (own_good (by_version 1) _ (blank_good (by_version 1) sectors least most), omega arith)
 
 -- one of either kind
 source_sound : (image : Option (List ℕ)) (blank : Option ℕ) (files : Option Files) (bytes : List ℕ) → is_either image blank ≡ true → HasSource image blank files bytes → IsSound bytes

@@ -10,9 +10,9 @@ use Rattle.b2_boot.specs.Logs.{LogRead, log_of}
 use Rattle.b2_boot.specs.Logs.LogRead.{Events, Refused}
 use Rattle.b2_boot.specs.declared.boot.BootPlatter.{BootPlatter}
 use Rattle.b2_boot.specs.declared.log.Event.{Event}
-use Rattle.b2_platter.specs.Checks.{first_check}
+use Rattle.b2_platter.specs.Checks.{own_check}
 use Rattle.b2_platter.specs.Edits.{blank_image}
-use Rattle.b2_platter.specs.declared.layout.Layout.TheVariants.{Narrow}
+use Rattle.b2_platter.specs.Layout.{by_version}
 use Rattle.b2_sched.specs.Start.{Images}
 use Rattle.b2_sched.specs.World.{WorldState}
 use Rattle.b2_look.specs.Shows.{file_limit, shown}
@@ -46,12 +46,12 @@ by_check address bytes (Some check) = Err (FailsImageCheck address check)
 
 abbrev pub by_image_file : List ℕ → List ℕ → Option (List ℕ) → Result (List ℕ) Expected
 by_image_file address name None = Err (IsMissing name)
-by_image_file address name (Some bytes) = if nat_le (length bytes) image_limit then by_check address bytes (first_check Narrow bytes) else Err (IsLong name image_limit)
+by_image_file address name (Some bytes) = if nat_le (length bytes) image_limit then by_check address bytes (own_check bytes) else Err (IsLong name image_limit)
 
 -- every platter of a boot has one of the two
 abbrev pub by_source : Files → List ℕ → Option (List ℕ) → Option ℕ → Result (List ℕ) Expected
 by_source files address (Some name) blank = by_image_file address name (get files name)
-by_source files address None (Some sectors) = Ok (blank_image Narrow sectors)
+by_source files address None (Some sectors) = Ok (blank_image (by_version 1) sectors)
 by_source files address None None = Ok []
 
 abbrev pub by_platter : Files → BootPlatter → Result (List ℕ) Expected

@@ -13,9 +13,9 @@ use Rattle.b2_boot.specs.declared.boot_file.BootErr.TheVariants as boot_err
 use Rattle.b2_boot.specs.declared.log.Event.{Event}
 use Rattle.b2_boot.specs.declared.log.LogErr.{LogErr}
 use Rattle.b2_boot.specs.declared.log.LogErr.TheVariants as log_err
-use Rattle.b2_platter.specs.Checks.{first_check}
+use Rattle.b2_platter.specs.Checks.{own_check}
 use Rattle.b2_platter.specs.Edits.{blank_image}
-use Rattle.b2_platter.specs.declared.layout.Layout.TheVariants.{Narrow}
+use Rattle.b2_platter.specs.Layout.{by_version}
 use Rattle.b2_store.specs.Files.{IsSound}
 use Rattle.b2_sched.specs.Start.{Images}
 use Rattle.b2_mvp.specs.declared.inputs.BootAndLog.{BootAndLog}
@@ -33,7 +33,7 @@ abbrev pub log_limit : ℕ
 log_limit = 4194304
 
 abbrev pub image_limit : ℕ
-image_limit = 8323072
+image_limit = 67108864
 
 -- a boot file is read, and passes its checks
 pub record HasBoot (name : List ℕ) (files : Option Files) (boot : BootState) : Type 0 where
@@ -67,7 +67,7 @@ pub record IsRead (name : List ℕ) (files : Option Files) (image : List ℕ) : 
 -- what is on a platter as the machine starts: the image of a file, or blank sectors
 abbrev pub HasSource : Option (List ℕ) → Option ℕ → Option Files → List ℕ → Type 0
 HasSource (Some name) blank files image = IsRead name files image
-HasSource None (Some sectors) files image = image ≡ blank_image Narrow sectors
+HasSource None (Some sectors) files image = image ≡ blank_image (by_version 1) sectors
 HasSource None None files image = ⊥
 
 abbrev pub HasImage : Option Files → BootPlatter → List ℕ → Type 0
@@ -89,7 +89,7 @@ pub record IsNext (files : Option Files) (platters : List BootPlatter) (platter 
 pub record FailsChecks (name : List ℕ) (files : Option Files) (check : ℕ) : Type 0 where
   pub bytes : List ℕ
   pub fetched : IsFetched files name image_limit bytes
-  pub fails : first_check Narrow bytes ≡ Some check
+  pub fails : own_check bytes ≡ Some check
 
 -- so the first platter whose image isn't good has this address, and its image fails this check first
 pub record FailsImage (platters : List BootPlatter) (files : Option Files) (address : List ℕ) (check : ℕ) : Type 0 where

@@ -6,7 +6,7 @@ ghost use Rattle.b2_boot.specs.Boots.{IsGood, is_platter};
 ghost use Rattle.b2_boot.specs.Rows.{is_between};
 ghost use Rattle.b2_platter.specs.Edits.{blank_image};
 ghost use Rattle.b2_platter.specs.Image.{index_of};
-ghost use Rattle.b2_platter.specs.declared.layout.Layout.TheVariants.{Narrow};
+ghost use Rattle.b2_platter.specs.Layout.{by_version};
 ghost use Rattle.b2_mvp.specs.declared.inputs.Source.TheVariants as source;
 ghost use Rattle.b2_status.specs.declared.status.Status.{Status};
 ghost use Rattle.b2_mvp.specs.Inputs as spec;
@@ -46,8 +46,8 @@ const BOOT_LIMIT: u32 = 65_536;
 /// How many bytes a log may have.
 const LOG_LIMIT: u32 = 4_194_304;
 
-/// How many bytes the image of a platter may have: 32,512 sectors.
-const IMAGE_LIMIT: u32 = 8_323_072;
+/// How many bytes the image of a platter may have: 262,144 sectors.
+const IMAGE_LIMIT: u32 = 67_108_864;
 
 /// What a boot file that is refused ends the call with.
 fn boot_status(refused: BootErr) -> Status
@@ -192,10 +192,10 @@ fn open_image<F: Shelf>(
 /// A blank platter of so many sectors.
 fn blank_platter(alloc: Global, sectors: u32) -> Result<Platter, Status>
     requires { is_between 16 32512 sectors ≡ true }
-    ensures ok { IfOk result (λ image. image ≡ blank_image Narrow sectors) }
+    ensures ok { IfOk result (λ image. image ≡ blank_image (by_version 1) sectors) }
     ensures err { IfErr result (λ status. status ≡ Status.NoMemory) }
 {
-    match Platter::blank(alloc, sectors) {
+    match Platter::blank(alloc, sectors, 1) {
         Ok(platter) => Ok(platter),
         Err(_) => Err(Status::NoMemory),
     }

@@ -4,7 +4,7 @@ use Rattle.std.specs.List.{list_all, range_with_len}
 use Rattle.std.proofs.lemmas.Bool.{and_from, le-leb, eq-eqb}
 use Rattle.std.proofs.lemmas.List.{take_at, drop_at, drop-drop, length-replicate, drop-append-le, drop-replicate, take-append-le, take-replicate, drop_all}
 use Rattle.b2_platter.specs.declared.layout.Layout.{Layout}
-use Rattle.b2_platter.specs.declared.layout.Layout.TheVariants.{Narrow}
+use Rattle.b2_platter.specs.declared.layout.Layout.TheVariants.{Narrow, Wide}
 use Rattle.b2_platter.specs.Layout.{version_of, width_of, fourth_place, most_sectors, is_zero, sector_number_at, first_place, second_place, third_place}
 use Rattle.b2_platter.specs.Slot.{is_entry, is_free, is_spelled}
 use Rattle.b2_platter.specs.Image.{row, image_head, index_of, total_of, catalogue_end, next_free}
@@ -25,6 +25,9 @@ pub record HeadSays (layout : Layout) (image : List ℕ) (i t e n : ℕ) : Type 
 two_bytes : (n : ℕ) → n < 65536 → n / 256 % 256 * 256 + (n % 256 * 1 + 0) ≡ n
 two_bytes n h = omega arith
 
+three_bytes : (n : ℕ) → n < 16777216 → n / 65536 % 256 * 65536 + (n / 256 % 256 * 256 + (n % 256 * 1 + 0)) ≡ n
+three_bytes n h = omega arith
+
 pub head_says : (layout : Layout) (index total end next : ℕ) (tail : List ℕ) → total < 256 ^ width_of layout → end < 256 ^ width_of layout → next < 256 ^ width_of layout → HeadSays layout (head_bytes layout index total end next ++ tail) index total end next
 unfolding head_bytes row index_of total_of catalogue_end next_free
 head_says Narrow index total end next tail ht he hn =
@@ -36,10 +39,20 @@ head_says Narrow index total end next tail ht he hn =
       next = two_bytes next hn;
       rest = refl;
     }
+head_says Wide index total end next tail ht he hn =
+    record {
+      version = refl;
+      index = refl;
+      total = three_bytes total ht;
+      end = three_bytes end he;
+      next = three_bytes next hn;
+      rest = refl;
+    }
 
 pub length-head_bytes : (layout : Layout) (index total end next : ℕ) → length (head_bytes layout index total end next) ≡ 16
 unfolding head_bytes
 length-head_bytes Narrow index total end next = refl
+length-head_bytes Wide index total end next = refl
 
 -- a slot of 00 is spelled, and is no file's
 no_entry : is_entry (replicate 16 0) ≡ false
@@ -80,7 +93,7 @@ module _ (layout : Layout) (image : List ℕ) (empty : (k : ℕ) → 1 ≤ k →
   free_row : (k : ℕ) → 1 ≤ k → k < 1 + (16 * index_of image - 1) → is_entry (row image k) ≡ false
   free_row k low high = ap is_entry (empty k low high) ∙ no_entry
 
-  pub empty_good : is_sized layout image ≡ true → has_head layout image ≡ true → is_ordered layout image ≡ true → Good layout image
+  pub empty_good : is_sized image ≡ true → has_head layout image ≡ true → is_ordered layout image ≡ true → Good layout image
   empty_good sized image_head ordered =
       Good-from_Checked layout image (record {
         sized = sized;
@@ -107,8 +120,13 @@ row-fresh front rest n k long low high =
     ∙ take-append-le 16 (replicate (n - 16 - 16 * (k - 1)) 0) rest (omega (arith, length-replicate {A = ℕ} (n - 16 - 16 * (k - 1)) 0))
     ∙ take-replicate 16 (n - 16 - 16 * (k - 1)) 0 (omega arith)
 
-most_fits : (layout : Layout) (n : ℕ) → n ≤ most_sectors layout → n < 256 ^ width_of layout
+pub most_fits : (layout : Layout) (n : ℕ) → n ≤ most_sectors layout → n < 256 ^ width_of layout
 most_fits Narrow n h = let m : n ≤ 32512 = h in omega arith
+most_fits Wide n h = let m : n ≤ 262144 = h in omega arith
+
+pub most_at_all : (layout : Layout) → most_sectors layout ≤ 262144
+most_at_all Narrow = lit≤ tt
+most_at_all Wide = lit≤ tt
 
 -- a head whose numbers are in order, and 00 over the whole index
 pub fresh_good : (layout : Layout) (index total end next n : ℕ) (rest : List ℕ) → 1 ≤ index → 256 * index ≤ n → length (head_bytes layout index total end next ++ (replicate (n - 16) 0 ++ rest)) ≡ 256 * total → 16 ≤ total → total ≤ most_sectors layout → index ≤ next → next ≤ end → end ≤ total → Good layout (head_bytes layout index total end next ++ (replicate (n - 16) 0 ++ rest))
@@ -116,6 +134,7 @@ unfolding is_sized has_head is_ordered
 fresh_good layout index total end next n rest some room whole least most files free last =
     let image = head_bytes layout index total end next ++ (replicate (n - 16) 0 ++ rest) in
     let says : HeadSays layout image index total end next = head_says layout index total end next (replicate (n - 16) 0 ++ rest) (most_fits layout total most) (most_fits layout end (omega arith)) (most_fits layout next (omega arith)) in
+    let at_most = most_at_all layout in
     let even : length image % 256 ≡ 0 = omega arith in
     let many : length image / 256 ≡ total = omega arith in
     let first : nat_le (index_of image) (next_free layout image) ≡ true = le-leb _ _ (omega (arith, says.index, says.next)) in
@@ -124,7 +143,7 @@ fresh_good layout index total end next n rest some room whole least most files f
     empty_good layout image
     (λ k low high. row-fresh _ rest n k (length-head_bytes layout index total end next) low (let bound : k < 1 + (16 * index_of image - 1) = high in let is = says.index in omega arith))
     (and_from _ _ (and_from _ _ (eq-eqb _ _ even) (le-leb _ _ (omega arith))) (le-leb _ _ (omega arith)))
-    (and_from _ _ (and_from _ _ (and_from _ _ (eq-eqb _ _ says.version) (le-leb _ _ (omega (arith, says.index)))) (eq-eqb _ _ (omega (arith, says.total)))) says.rest)
+    (and_from _ _ (and_from _ _ (and_from _ _ (and_from _ _ (eq-eqb _ _ says.version) (le-leb _ _ (omega (arith, many, most)))) (le-leb _ _ (omega (arith, says.index)))) (eq-eqb _ _ (omega (arith, says.total)))) says.rest)
     (and_from _ _ (and_from _ _ first second) third)
 
 pub blank_good : (layout : Layout) (sectors : ℕ) → 16 ≤ sectors → sectors ≤ most_sectors layout → Good layout (blank_image layout sectors)
@@ -180,14 +199,15 @@ head_says_row layout image index total end next ht he hn is =
     }
 
 -- a head whose numbers are in order passes the second and the third check
-pub head_passes : (layout : Layout) (image : List ℕ) (i t e n : ℕ) → HeadSays layout image i t e n → length image ≡ 256 * t → 1 ≤ i → i ≤ n → n ≤ e → e ≤ t → (has_head layout image ≡ true) × (is_ordered layout image ≡ true)
+pub head_passes : (layout : Layout) (image : List ℕ) (i t e n : ℕ) → HeadSays layout image i t e n → length image ≡ 256 * t → t ≤ most_sectors layout → 1 ≤ i → i ≤ n → n ≤ e → e ≤ t → (has_head layout image ≡ true) × (is_ordered layout image ≡ true)
 unfolding has_head is_ordered
-head_passes layout image i t e n says whole some files free last =
+head_passes layout image i t e n says whole most some files free last =
     let many : length image / 256 ≡ t = omega arith in
     let a : (slice_index (image_head image) 0 == version_of layout) ≡ true = eq-eqb _ _ says.version in
+    let m : nat_le (length image / 256) (most_sectors layout) ≡ true = le-leb _ _ (omega (arith, many, most)) in
     let b : nat_le 1 (index_of image) ≡ true = le-leb _ _ (omega (arith, says.index)) in
     let c : (total_of layout image == length image / 256) ≡ true = eq-eqb _ _ (omega (arith, says.total)) in
     let first : nat_le (index_of image) (next_free layout image) ≡ true = le-leb _ _ (omega (arith, says.index, says.next)) in
     let second : nat_le (next_free layout image) (catalogue_end layout image) ≡ true = le-leb _ _ (omega (arith, says.next, says.end)) in
     let third : nat_le (catalogue_end layout image) (total_of layout image) ≡ true = le-leb _ _ (omega (arith, says.end, says.total)) in
-    (and_from _ _ (and_from _ _ (and_from _ _ a b) c) says.rest, and_from _ _ (and_from _ _ first second) third)
+    (and_from _ _ (and_from _ _ (and_from _ _ (and_from _ _ a m) b) c) says.rest, and_from _ _ (and_from _ _ first second) third)

@@ -8,7 +8,7 @@ use Rattle.b2_platter.specs.Checks.{is_sized, has_head, is_ordered, all_lie_in, 
 use Rattle.b2_platter.proofs.Rooms.{Parts, Parts-from}
 
 pub record Checked (layout : Layout) (image : List ℕ) : Type 0 where
-  pub sized : is_sized layout image ≡ true
+  pub sized : is_sized image ≡ true
   pub head : has_head layout image ≡ true
   pub ordered : is_ordered layout image ≡ true
   pub files : all_lie_in layout image ≡ true
@@ -29,7 +29,7 @@ passes false n rest e h = cc
 pub Checked-from_Good : (layout : Layout) (image : List ℕ) → Good layout image → Checked layout image
 unfolding first_check
 Checked-from_Good layout image good =
-    let one = passed (is_sized layout image) 1 _ good in
+    let one = passed (is_sized image) 1 _ good in
     let two = passed (has_head layout image) 2 _ one.1 in
     let three = passed (is_ordered layout image) 3 _ two.1 in
     let four = passed (all_lie_in layout image) 4 _ three.1 in
@@ -67,12 +67,13 @@ pub least_of_good : (layout : Layout) (image : List ℕ) → Good layout image �
 least_of_good layout image good = (Parts-of layout image good).least
 
 pub most_of_good : (layout : Layout) (image : List ℕ) → Good layout image → total_of layout image ≤ most_sectors layout
-unfolding is_sized has_head
+unfolding has_head
 most_of_good layout image good =
     let c = Checked-from_Good layout image good in
-    let s = and_parts _ _ c.sized in
     let h = and_parts _ _ c.head in
     let h' = and_parts _ _ h.0 in
-    let most : length image / 256 ≤ most_sectors layout = leb-true _ _ s.1 in
+    let h'' = and_parts _ _ h'.0 in
+    let front = and_parts _ _ h''.0 in
+    let most : length image / 256 ≤ most_sectors layout = leb-true _ _ front.1 in
     let total : total_of layout image ≡ length image / 256 = eqb-true _ _ h'.1 in
     omega (arith, most, total)

@@ -47,9 +47,9 @@ module _ (layout : Layout) (a b : List ℕ) (same : image_head b ≡ image_head 
   unfolding next_free
   next-same = ap (sector_number_at layout (third_place layout)) same
 
-pub sized-same : (layout : Layout) (a b : List ℕ) → length b ≡ length a → is_sized layout a ≡ true → is_sized layout b ≡ true
+pub sized-same : (a b : List ℕ) → length b ≡ length a → is_sized a ≡ true → is_sized b ≡ true
 unfolding is_sized
-sized-same layout a b long h = rw long h
+sized-same a b long h = rw long h
 
 pub image_head-same : (layout : Layout) (a b : List ℕ) → length b ≡ length a → image_head b ≡ image_head a → has_head layout a ≡ true → has_head layout b ≡ true
 unfolding has_head
@@ -97,7 +97,7 @@ module _ (layout : Layout) (a b : List ℕ) (long : length b ≡ length a) (good
       let i = index-same layout a b heads in
       let next = next-same layout a b heads in
       Good-from_Sound layout b (record {
-        sized = sized-same layout a b long s.sized;
+        sized = sized-same a b long s.sized;
         head = image_head-same layout a b long heads s.head;
         ordered = ordered-same layout a b heads s.ordered;
         lies = λ k low high. rw (i, next, rows k (omega (arith, i))) (s.lies k low (omega (arith, i)));

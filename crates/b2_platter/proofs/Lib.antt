@@ -8,8 +8,10 @@ pub mod Fresh
 pub mod Soundness
 pub mod Puts
 pub mod Kept
+pub mod Layouts
 pub mod Volumes
 pub mod DataSectors
+pub mod OwnSectors
 pub mod SectorRuns
 pub mod Zeros
 pub mod Reading

@@ -45,7 +45,7 @@ pub record Parts (layout : Layout) (image : List ℕ) : Type 0 where
   pub free : next_free layout image ≤ catalogue_end layout image
   pub rest : catalogue_end layout image ≤ total_of layout image
 
-pub Parts-from : (layout : Layout) (image : List ℕ) → is_sized layout image ≡ true → has_head layout image ≡ true → is_ordered layout image ≡ true → Parts layout image
+pub Parts-from : (layout : Layout) (image : List ℕ) → is_sized image ≡ true → has_head layout image ≡ true → is_ordered layout image ≡ true → Parts layout image
 unfolding is_sized has_head is_ordered
 Parts-from layout image sized image_head ordered =
     let s = and_parts _ _ sized in
@@ -67,9 +67,9 @@ Parts-from layout image sized image_head ordered =
       rest = leb-true _ _ o.1;
     }
 
-pub least_length : (layout : Layout) (image : List ℕ) → is_sized layout image ≡ true → 16 ≤ length image
+pub least_length : (image : List ℕ) → is_sized image ≡ true → 16 ≤ length image
 unfolding is_sized
-least_length layout image sized =
+least_length image sized =
     let s = and_parts _ _ sized in
     let s' = and_parts _ _ s.0 in
     let most : 16 ≤ length image / 256 = leb-true _ _ s'.1 in
@@ -83,10 +83,10 @@ some_index layout image image_head =
     let h'' = and_parts _ _ h'.0 in
     leb-true _ _ h''.1
 
-pub room_for_index : (layout : Layout) (image : List ℕ) → is_sized layout image ≡ true → has_head layout image ≡ true → is_ordered layout image ≡ true → 256 * index_of image ≤ length image
+pub room_for_index : (layout : Layout) (image : List ℕ) → is_sized image ≡ true → has_head layout image ≡ true → is_ordered layout image ≡ true → 256 * index_of image ≤ length image
 room_for_index layout image sized image_head ordered = let p = Parts-from layout image sized image_head ordered in omega arith
 
-pub room_for_files : (layout : Layout) (image : List ℕ) → is_sized layout image ≡ true → has_head layout image ≡ true → is_ordered layout image ≡ true → 256 * next_free layout image ≤ length image
+pub room_for_files : (layout : Layout) (image : List ℕ) → is_sized image ≡ true → has_head layout image ≡ true → is_ordered layout image ≡ true → 256 * next_free layout image ≤ length image
 room_for_files layout image sized image_head ordered = let p = Parts-from layout image sized image_head ordered in omega arith
 
 pub ruleset rooms = (least_length, some_index, room_for_index, room_for_files)

@@ -1,6 +1,6 @@
 -- Sectors one after the other: which they are, and what stays where they are put in place.
 use Rattle.std.proofs.Common.{◌≡◌, ℕ, zero, suc, ◌+◌, ◌*◌, ◌<◌, ◌≤◌, true, List, [], ◌∷◌, length, refl, ap₂, ◌∙◌, arith}
-use Rattle.b2_platter.specs.declared.layout.Layout.TheVariants.{Narrow}
+use Rattle.b2_platter.specs.declared.layout.Layout.{Layout}
 use Rattle.b2_platter.specs.Image.{row, sector, sectors_at, index_of}
 use Rattle.b2_platter.specs.Checks.{Good}
 use Rattle.b2_platter.specs.Edits.{put_sector, put_from, is_data_sector}
@@ -16,23 +16,23 @@ abbrev pub AllLong : List (List ℕ) → Type 0
 AllLong [] = Unit {0}
 AllLong (s ∷ sectors) = (length s ≡ 256) × AllLong sectors
 
-pub record PutFrom (image new : List ℕ) (at : ℕ) (sectors : List (List ℕ)) : Type 0 where
-  pub good : Good Narrow new
+pub record PutFrom (layout : Layout) (image new : List ℕ) (at : ℕ) (sectors : List (List ℕ)) : Type 0 where
+  pub good : Good layout new
   pub before : (k : ℕ) → k < at → sector new k ≡ sector image k
   pub after : (k : ℕ) → at + length sectors ≤ k → sector new k ≡ sector image k
   pub rows : (k : ℕ) → k < 16 * index_of image → row new k ≡ row image k
   pub there : sectors_at new at (length sectors) ≡ sectors
 
-pub put-from : (image : List ℕ) (at : ℕ) (sectors : List (List ℕ)) → Good Narrow image → AllLong sectors → ((n : ℕ) → at ≤ n → n < at + length sectors → is_data_sector Narrow image n ≡ true)
-    → PutFrom image (put_from image at sectors) at sectors
-put-from image at [] good long own = record { good = good; before = λ k h. refl; after = λ k h. refl; rows = λ k h. refl; there = refl }
-put-from image at (s ∷ sectors) good long own =
+pub put-from : (layout : Layout) (image : List ℕ) (at : ℕ) (sectors : List (List ℕ)) → Good layout image → AllLong sectors → ((n : ℕ) → at ≤ n → n < at + length sectors → is_data_sector layout image n ≡ true)
+    → PutFrom layout image (put_from image at sectors) at sectors
+put-from layout image at [] good long own = record { good = good; before = λ k h. refl; after = λ k h. refl; rows = λ k h. refl; there = refl }
+put-from layout image at (s ∷ sectors) good long own =
     let first = own at (omega arith) (omega arith) in
-    let rest = put-from (put_sector image at s) (at + 1) sectors (good-kept image good at first s long.0) long.1 (λ n low high. data-kept image good at first s long.0 n ∙ own n (omega (arith, low)) (omega (arith, high))) in
+    let rest = put-from layout (put_sector image at s) (at + 1) sectors (good-kept layout image good at first s long.0) long.1 (λ n low high. data-kept layout image good at first s long.0 n ∙ own n (omega (arith, low)) (omega (arith, high))) in
     record {
       good = rest.good;
-      before = λ k h. rest.before k (omega (arith, h)) ∙ sector-kept image good at first s long.0 k (λ e. omega (arith, h, e));
-      after = λ k h. rest.after k (omega (arith, h)) ∙ sector-kept image good at first s long.0 k (λ e. omega (arith, h, e));
-      rows = λ k h. (let same = index-kept image good at first s long.0 in rest.rows k (omega (arith, h, same)) ∙ rows-kept image good at first s long.0 k h);
-      there = ap₂ (λ t ts. t ∷ ts) (rest.before at (omega arith) ∙ sector-put image good at first s long.0) rest.there;
+      before = λ k h. rest.before k (omega (arith, h)) ∙ sector-kept layout image good at first s long.0 k (λ e. omega (arith, h, e));
+      after = λ k h. rest.after k (omega (arith, h)) ∙ sector-kept layout image good at first s long.0 k (λ e. omega (arith, h, e));
+      rows = λ k h. (let same = index-kept layout image good at first s long.0 in rest.rows k (omega (arith, h, same)) ∙ rows-kept layout image good at first s long.0 k h);
+      there = ap₂ (λ t ts. t ∷ ts) (rest.before at (omega arith) ∙ sector-put layout image good at first s long.0) rest.there;
     }

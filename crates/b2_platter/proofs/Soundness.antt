@@ -10,7 +10,7 @@ use Rattle.b2_platter.proofs.Ranges.{list_all-at, list_all-from, here}
 use Rattle.b2_platter.proofs.Goodness.{Checked-from_Good, Good-from_Checked}
 
 pub record Sound (layout : Layout) (image : List ℕ) : Type 0 where
-  pub sized : is_sized layout image ≡ true
+  pub sized : is_sized image ≡ true
   pub head : has_head layout image ≡ true
   pub ordered : is_ordered layout image ≡ true
   pub lies : (k : ℕ) → 1 ≤ k → k < 16 * index_of image → lies_in layout (index_of image) (next_free layout image) (row image k) ≡ true

@@ -1,23 +1,24 @@
 -- What makes an image good: nine checks, each of which speaks of an image that passes those before it.
-use Rattle.std.specs.Prelude.{◌≡◌, ℕ, ◌+◌, ◌-◌, ◌/◌, ◌%◌, Bool, true, ◌&&◌, ◌||◌, ◌==◌, not, nat_le, nat_lt, List, [], ◌∷◌, length, drop, slice_index, Option, Some, None, if◌then◌else◌}
+use Rattle.std.specs.Prelude.{◌≡◌, ℕ, ◌-◌, ◌/◌, ◌%◌, Bool, true, ◌&&◌, ◌||◌, ◌==◌, not, nat_le, nat_lt, List, [], ◌∷◌, length, drop, slice_index, Option, Some, None, if◌then◌else◌}
 use Rattle.std.specs.List.{list_all}
 use Rattle.std.specs.Str.{bytes_eq}
 use Rattle.b2_platter.specs.declared.checks.TheConstants.{CONTROL}
 use Rattle.b2_platter.specs.declared.layout.Layout.{Layout}
-use Rattle.b2_platter.specs.Layout.{version_of, width_of, most_sectors, sector_number_at, fourth_place, is_zero}
+use Rattle.b2_platter.specs.declared.layout.TheConstants.{MOST_SECTORS}
+use Rattle.b2_platter.specs.Layout.{version_of, most_sectors, sector_number_at, used_place, used_end, fourth_place, is_zero, layout_of}
 use Rattle.b2_platter.specs.Slot.{is_entry, is_spelled, slot_start, slot_end, slot_name}
 use Rattle.b2_platter.specs.Image.{row, image_head, sector, index_of, total_of, catalogue_end, next_free, slots_of, has_free, hash, cyclic_from, is_clear_to}
 
--- 1: whole sectors, 16 of them up to the most that the layout allows
-unfoldable pub is_sized : Layout → List ℕ → Bool
-is_sized layout image =
-    (length image % 256 == 0) && nat_le 16 (length image / 256) && nat_le (length image / 256) (most_sectors layout)
+-- 1: whole sectors, 16 of them up to the most that any layout allows
+unfoldable pub is_sized : List ℕ → Bool
+is_sized image =
+    (length image % 256 == 0) && nat_le 16 (length image / 256) && nat_le (length image / 256) MOST_SECTORS
 
--- 2: the version, an index, the number of sectors, and 00 after the head's numbers
+-- 2: the version, at most its number of sectors, an index, the number of sectors, and 00 after the head's numbers
 unfoldable pub has_head : Layout → List ℕ → Bool
 has_head layout image =
-    (slice_index (image_head image) 0 == version_of layout) && nat_le 1 (index_of image) && (total_of layout image == length image / 256)
-    && list_all is_zero (drop (fourth_place layout) (image_head image))
+    (slice_index (image_head image) 0 == version_of layout) && nat_le (length image / 256) (most_sectors layout) && nat_le 1 (index_of image)
+    && (total_of layout image == length image / 256) && list_all is_zero (drop (fourth_place layout) (image_head image))
 
 -- 3: the index, the files, the catalogue's end and the image's end stand in this order
 unfoldable pub is_ordered : Layout → List ℕ → Bool
@@ -70,13 +71,13 @@ all_apart layout image = each_two (λ j k. lie_apart layout (row image j) (row i
 
 -- how many sectors a control sector says are used
 unfoldable pub used_of : Layout → List ℕ → ℕ
-used_of layout control = sector_number_at layout 1 control
+used_of layout control = sector_number_at layout used_place control
 
 -- a control sector that says at least one and at most `most` sectors are used: its first byte, the number, and 00
 unfoldable pub is_control : Layout → ℕ → List ℕ → Bool
 is_control layout most control =
     (slice_index control 0 == CONTROL) && nat_le 1 (used_of layout control) && nat_le (used_of layout control) most
-    && list_all is_zero (drop (1 + width_of layout) control)
+    && list_all is_zero (drop (used_end layout) control)
 
 -- 9: the last sector of a file is its control sector
 unfoldable pub is_controlled : Layout → List ℕ → List ℕ → Bool
@@ -89,7 +90,7 @@ all_controlled layout image = list_all (λ k. is_controlled layout image (row im
 -- the first check that an image fails
 unfoldable pub first_check : Layout → List ℕ → Option ℕ
 first_check layout image =
-    if not (is_sized layout image) then Some 1
+    if not (is_sized image) then Some 1
     else (if not (has_head layout image) then Some 2
     else (if not (is_ordered layout image) then Some 3
     else (if not (all_lie_in layout image) then Some 4
@@ -102,3 +103,11 @@ first_check layout image =
 -- an image that fails none of them
 abbrev pub Good : Layout → List ℕ → Type 0
 Good layout image = first_check layout image ≡ None
+
+-- the first check that an image fails in its own layout
+abbrev pub own_check : List ℕ → Option ℕ
+own_check image = first_check (layout_of image) image
+
+-- an image that is good in its own layout
+abbrev pub IsGood : List ℕ → Type 0
+IsGood image = Good (layout_of image) image

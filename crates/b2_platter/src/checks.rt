@@ -3,24 +3,25 @@ ghost use Rattle.std.specs.Prelude.{◌≡◌, ◌+◌, ◌-◌, ◌*◌, ◌/�
 ghost use Rattle.std.specs.List.{list_all, range_with_len};
 ghost use Rattle.b2_platter.specs.Slot.{is_entry, slot_start, slot_end};
 ghost use Rattle.b2_platter.specs.Image.{row, index_of, next_free, hash, has_free, cyclic_from, is_clear_to, first_slot};
-ghost use Rattle.b2_platter.specs.Checks.{is_sized, has_head, is_ordered, lies_in, all_lie_in, all_spelled, differ_in_name, all_differ, is_reachable, all_reached, lie_apart, all_apart, is_control, is_controlled, all_controlled, used_of, first_check};
+ghost use Rattle.b2_platter.specs.Checks.{is_sized, has_head, is_ordered, lies_in, all_lie_in, all_spelled, differ_in_name, all_differ, is_reachable, all_reached, lie_apart, all_apart, is_control, is_controlled, all_controlled, used_of, first_check, own_check};
 
 use crate::image::{self, SECTOR_BYTES};
+use crate::layout::{MOST_SECTORS, layout_of};
 use crate::{Layout, slot};
 
 /// The first byte of a control sector.
 pub const CONTROL: u8 = 0xA1;
 
-/// 1: whole sectors, as many as the layout allows.
+/// 1: whole sectors, at most as many as any layout allows.
 #[tactic(auto, unfolding(crate::specs::Checks::is_sized))]
-fn is_sized(layout: Layout, bytes: &[u8]) -> bool
-    ensures { result ≡ is_sized layout bytes.now }
+fn is_sized(bytes: &[u8]) -> bool
+    ensures { result ≡ is_sized bytes.now }
 {
     let sectors = bytes.len() / SECTOR_BYTES;
-    bytes.len() % SECTOR_BYTES == 0 && 16 <= sectors && sectors <= layout.most_sectors()
+    bytes.len() % SECTOR_BYTES == 0 && 16 <= sectors && sectors <= MOST_SECTORS
 }
 
-/// 2: version, index and total, and 00 after the head's numbers.
+/// 2: version, at most its number of sectors, index and total, and 00 after the head's numbers.
 #[tactic(auto, unfolding(crate::specs::Checks::has_head))]
 fn has_head(layout: Layout, bytes: &[u8]) -> bool
     requires { 16 ≤ length bytes.now }
@@ -28,6 +29,7 @@ fn has_head(layout: Layout, bytes: &[u8]) -> bool
 {
     let image_head = image::row(bytes, 0);
     image_head[0] == layout.version()
+        && bytes.len() / SECTOR_BYTES <= layout.most_sectors()
         && 1 <= image::index(bytes)
         && image::total(layout, bytes) as usize == bytes.len() / SECTOR_BYTES
         && slot::all_zero(&image_head[2 + 3 * layout.width()..])
@@ -272,12 +274,12 @@ fn all_controlled(layout: Layout, bytes: &[u8]) -> bool
     true
 }
 
-/// The first of the nine checks that the bytes fail, None where they are a good image.
+/// The first of the nine checks that the bytes fail in a layout.
 #[tactic(auto, unfolding(crate::specs::Checks::first_check), using(crate::proofs::Rooms::rooms))]
-pub fn first_check(layout: Layout, bytes: &[u8]) -> Option<u8>
+fn first_in(layout: Layout, bytes: &[u8]) -> Option<u8>
     ensures { result ≡ first_check layout bytes.now }
 {
-    if !is_sized(layout, bytes) {
+    if !is_sized(bytes) {
         return Some(1);
     }
     if !has_head(layout, bytes) {
@@ -305,4 +307,11 @@ pub fn first_check(layout: Layout, bytes: &[u8]) -> Option<u8>
         return Some(9);
     }
     None
+}
+
+/// The first of the nine checks that the bytes fail, None where they are a good image. Their first byte tells the layout.
+pub fn first_check(bytes: &[u8]) -> Option<u8>
+    ensures { result ≡ own_check bytes.now }
+{
+    first_in(layout_of(bytes), bytes)
 }

@@ -7,11 +7,12 @@
 //!
 //! A `Platter` is an image that fails none of nine checks: `open` tells which is the first that fails, and every call
 //! that changes a platter keeps it good. How numbers are spelled is the `Layout`, which all checks and all spelling take.
+//! There are two, of the versions 1 and 2; the first byte of an image tells its own, and a change of a platter keeps it.
 //!
 //! Stands on `b2_base`, and on `byteorder` for numbers of several bytes. The definitions are in `specs/`: `Layout` and
-//! `Slot` for the spelling, `Image` for rows and sectors, `Checks` for the nine checks, `Edits` for images that are made
-//! and changed, `Volume` for what an image says as whole values, which spells it again byte for byte, and `Reading` for why
-//! nothing is read.
+//! `Slot` for the spelling, `Image` for rows and sectors, `Checks` for the nine checks, `Own` for what an image says in its
+//! own layout, `Edits` for images that are made and changed, `Volume` for what an image says as whole values, which spells
+//! it again byte for byte, and `Reading` for why nothing is read.
 #![tactic(auto)]
 
 pub mod checks;

@@ -1,14 +1,15 @@
 // A disk image that is good by its type.
 ghost use Rattle.std.specs.Prelude.{◌≡◌, ◌+◌, ◌*◌, ◌<◌, ◌≤◌, All, IfOk, MatchResult, true, Some, length};
-ghost use Rattle.b2_platter.specs.declared.layout.Layout.TheVariants.{Narrow};
-ghost use Rattle.b2_platter.specs.Image.{sector, total_of};
-ghost use Rattle.b2_platter.specs.Checks.{first_check, Good};
+ghost use Rattle.b2_platter.specs.Layout.{layout_of, by_version, version_of, most_sectors};
+ghost use Rattle.b2_platter.specs.Image.{sector};
+ghost use Rattle.b2_platter.specs.Own.{sectors_of};
+ghost use Rattle.b2_platter.specs.Checks.{own_check, IsGood};
 ghost use Rattle.b2_platter.specs.Volume.{image as spelling, volume};
 ghost use Rattle.b2_platter.specs.Edits.{blank_image, formatted, CanFormat, put_sector, put_sectors, is_data_sector};
 
 use crate::checks::first_check;
 use crate::image::{self, SECTOR_BYTES};
-use crate::{Layout, edits};
+use crate::{Layout, edits, layout};
 use b2_base::NoMemory;
 use std::alloc::Global;
 use std::marker::Model;
@@ -25,22 +26,21 @@ pub struct Platter {
 
 impl Model for Platter {
     ghost use Rattle.std.specs.Prelude.{ℕ, List};
-    ghost use Rattle.b2_platter.specs.declared.layout.Layout.TheVariants.{Narrow};
-    ghost use Rattle.b2_platter.specs.Checks.{Good};
+    ghost use Rattle.b2_platter.specs.Checks.{IsGood};
 
     ghost Value = { List ℕ };
 
     ghost view = { λ p. p.bytes.items };
 
-    ghost invariant = { λ p. Good Narrow p.bytes.items };
+    ghost invariant = { λ p. IsGood p.bytes.items };
 }
 
 impl Platter {
     /// The platter of an image, or the first check that it fails. It takes no memory.
     pub fn open(bytes: Vec<u8>) -> Result<Platter, ImageErr>
-        ensures { MatchResult result (λ p. Good Narrow bytes.items × (p ≡ bytes.items)) (λ e. first_check Narrow bytes.items ≡ Some e.0) }
+        ensures { MatchResult result (λ p. IsGood bytes.items × (p ≡ bytes.items)) (λ e. own_check bytes.items ≡ Some e.0) }
     {
-        match first_check(Layout::Narrow, &bytes) {
+        match first_check(&bytes) {
             None => Ok(Platter { bytes }),
             Some(n) => Err(ImageErr(n)),
         }
@@ -49,39 +49,56 @@ impl Platter {
     /// Its bytes.
     pub fn image(&self) -> &[u8]
         ensures value { result.now ≡ self.now }
-        ensures good { Good Narrow self.now }
+        ensures good { IsGood self.now }
     {
         &self.bytes
     }
 
     /// How many sectors it has.
     pub fn sectors(&self) -> u32
-        ensures value { result ≡ total_of Narrow self.now }
+        ensures value { result ≡ sectors_of self.now }
         ensures whole { length self.now ≡ 256 * result }
-        ensures good { Good Narrow self.now }
+        ensures good { IsGood self.now }
     {
-        image::total(Layout::Narrow, &self.bytes)
+        image::total(self.layout(), self.image())
     }
 
     /// Sector n.
     pub fn sector(&self, n: u32) -> &[u8; 256]
-        requires { n < total_of Narrow self.now }
+        requires { n < sectors_of self.now }
         ensures value { result.now ≡ sector self.now n }
-        ensures good { Good Narrow self.now }
+        ensures good { IsGood self.now }
     {
         image::sector(&self.bytes, n as usize)
     }
 
-    /// A blank platter: an index of two sectors, no files, and the catalogue to its end.
-    pub fn blank(alloc: Global, sectors: u32) -> Result<Platter, NoMemory>
-        requires least { 16 ≤ sectors }
-        requires most { sectors ≤ 32512 }
-        ensures { IfOk result (λ p. p ≡ blank_image Narrow sectors) }
+    /// Its layout.
+    pub fn layout(&self) -> Layout
+        ensures { result ≡ layout_of self.now }
     {
+        layout::layout_of(self.image())
+    }
+
+    /// Its version: 1, or 2 where sector numbers take three bytes.
+    pub fn version(&self) -> u8
+        ensures { result ≡ version_of (layout_of self.now) }
+    {
+        self.layout().version()
+    }
+
+    /// A blank platter of a version: an index of two sectors, no files, and the catalogue to its end.
+    pub fn blank(alloc: Global, sectors: u32, version: u8) -> Result<Platter, NoMemory>
+        requires first { 1 ≤ version }
+        requires last { version ≤ 2 }
+        requires least { 16 ≤ sectors }
+        requires most { sectors ≤ most_sectors (by_version version) }
+        ensures { IfOk result (λ p. p ≡ blank_image (by_version version) sectors) }
+    {
+        let layout = layout::by_version(version);
         let mut bytes = vec![in alloc; 0; SECTOR_BYTES * sectors as usize]?;
         edits::clear(
             &mut bytes,
-            &edits::image_head(Layout::Narrow, 2, sectors, sectors, 2),
+            &edits::image_head(layout, 2, sectors, sectors, 2),
             sectors as usize,
         );
         Ok(Platter { bytes })
@@ -89,7 +106,7 @@ impl Platter {
 
     /// Puts the bytes of a file's data sector in place.
     pub fn put_file(&mut self, n: u32, b: &[u8; 256])
-        requires { is_data_sector Narrow self.old n ≡ true }
+        requires { is_data_sector (layout_of self.old) self.old n ≡ true }
         ensures { self.new ≡ put_sector self.old n b.now }
     {
         edits::put_sector(&mut self.bytes, n as usize, b);
@@ -97,8 +114,8 @@ impl Platter {
 
     /// Puts the bytes of some sectors in place, at once.
     pub fn put_catalogue(&mut self, edits: &[(u32, [u8; 256])])
-        requires in_range { All (λ edit. edit.0 < total_of Narrow self.old) edits.now }
-        requires good { Good Narrow (put_sectors self.old edits.now) }
+        requires in_range { All (λ edit. edit.0 < sectors_of self.old) edits.now }
+        requires good { IsGood (put_sectors self.old edits.now) }
         ensures { self.new ≡ put_sectors self.old edits.now }
     {
         edits::put_sectors(&mut self.bytes, edits);
@@ -106,16 +123,11 @@ impl Platter {
 
     /// Formats the platter: an empty index of `index` sectors, and a catalogue up to a last sector.
     pub fn put_index(&mut self, index: u32, end: u32)
-        requires { CanFormat Narrow self.old index end }
-        ensures { self.new ≡ formatted Narrow self.old index end }
+        requires { CanFormat (layout_of self.old) self.old index end }
+        ensures { self.new ≡ formatted (layout_of self.old) self.old index end }
     {
-        let image_head = edits::image_head(
-            Layout::Narrow,
-            index as u8,
-            self.sectors(),
-            end + 1,
-            index,
-        );
+        let layout = self.layout();
+        let image_head = edits::image_head(layout, index as u8, self.sectors(), end + 1, index);
         edits::clear(&mut self.bytes, &image_head, index as usize);
     }
 }
@@ -123,6 +135,6 @@ impl Platter {
 /// What a good image says spells it: from its counts, its slots and its sectors each byte of it comes back. It has no
 /// code.
 pub fn image_is_what_it_says(bytes: &[u8])
-    requires { Good Narrow bytes.now }
-    ensures { spelling Narrow (volume Narrow bytes.now) ≡ bytes.now }
+    requires { IsGood bytes.now }
+    ensures { spelling (volume bytes.now) ≡ bytes.now }
 {}

@@ -5,9 +5,8 @@ use Rattle.std.specs.Cmp.Lexicographic.{slice_cmp}
 use Rattle.std.specs.Ordering.{nat_cmp}
 use Rattle.std.specs.FinMap.{empty, get, get-empty, insert}
 use Rattle.std.proofs.lemmas.Slice.Eq.{bytes_eq-Decides}
-use Rattle.b2_platter.specs.declared.layout.Layout.TheVariants.{Narrow}
 use Rattle.b2_platter.specs.Image.{index_of, sector, sectors_at}
-use Rattle.b2_platter.specs.Checks.{Good}
+use Rattle.b2_platter.specs.Checks.{IsGood}
 use Rattle.b2_catalog.specs.declared.entry.Entry.{Entry}
 use Rattle.b2_catalog.specs.Catalogue.{Catalogue, catalogue}
 use Rattle.b2_catalog.proofs.DataSectors.{get-put}
@@ -31,7 +30,7 @@ pub record Found (from new : List ℕ) (m : Catalogue) (next : ℕ) (e : Entry) 
   pub there : get m e.name ≡ Some (entry_from start e)
   pub kept : sectors_at new start (e.end - e.start) ≡ own_sectors from e
 
-module _ (from new : List ℕ) (source : Good Narrow from) where
+module _ (from new : List ℕ) (source : IsGood from) where
   pub found : (files : List Entry) (next least : ℕ) (m : Catalogue) (e : Entry) → AllLive from files → InOrder least files → HasSectors from new next files → IsAmong e files
       → Found from new (with_more_files next files m) next e
   found [] next least m e live ordered has among = absurd among
@@ -63,7 +62,7 @@ module _ (from new : List ℕ) (source : Good Narrow from) where
         | inr later ↦ (let rest = starts-late files (f.end + 1) e live.1 ordered.1 later in omega (arith, rest, ordered.0, inside.order))
       ]
 
-moved-at : (from to new : List ℕ) (e : Entry) (source : Good Narrow from) (a : MovedAll from to new) → IsLiveFile from e → Found from new (catalogue new) (index_of to) e
+moved-at : (from to new : List ℕ) (e : Entry) (source : IsGood from) (a : MovedAll from to new) → IsLiveFile from e → Found from new (catalogue new) (index_of to) e
 moved-at from to new e source a live =
     subst (λ (m : Catalogue). Found from new m (index_of to) e) (sym a.catalogued)
     (found from new source a.files (index_of to) 0 empty e a.are.live a.are.ordered a.kept (a.are.all e live))
@@ -113,7 +112,7 @@ StartsBefore m e f = (k l : ℕ) → get m e.name ≡ Some (entry_from k e) → 
 same-start : (m : Catalogue) (e : Entry) (k l : ℕ) → get m e.name ≡ Some (entry_from k e) → get m e.name ≡ Some (entry_from l e) → k ≡ l
 same-start m e k l a b = ap (λ (f : Entry). f.start) (some-same (entry_from k e) (entry_from l e) (sym a ∙ b))
 
-module _ (from new : List ℕ) (source : Good Narrow from) where
+module _ (from new : List ℕ) (source : IsGood from) where
   in-order : (files : List Entry) (next least : ℕ) (m : Catalogue) (e f : Entry) → AllLive from files → InOrder least files → HasSectors from new next files → IsAmong e files → IsAmong f files → e.start < f.start
       → StartsBefore (with_more_files next files m) e f
   in-order [] next least m e f live ordered has a b h = absurd a

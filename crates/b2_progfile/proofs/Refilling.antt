@@ -8,12 +8,15 @@ use Rattle.std.specs.FinMap.{empty, get, insert, get-empty, same_map, slice_cmp-
 use Rattle.std.proofs.lemmas.Bool.{cases_eq, ltb-false, ltb-true}
 use Rattle.std.proofs.Math.Seq.{drop-cons}
 use Rattle.b2_base.specs.declared.codes.TheConstants.{D85_INDEX_FULL, D86_NO_ROOM}
-use Rattle.b2_platter.specs.declared.layout.Layout.TheVariants.{Narrow}
+use Rattle.b2_platter.specs.declared.layout.Layout.{Layout}
+use Rattle.b2_platter.specs.Layout.{layout_of}
+use Rattle.b2_platter.specs.Own.{end_of, next_of}
 use Rattle.b2_platter.specs.Slot.{is_free}
 use Rattle.b2_platter.specs.Image.{row, sector, index_of, catalogue_end, next_free, first_slot, hash}
-use Rattle.b2_platter.specs.Checks.{Good}
+use Rattle.b2_platter.specs.Checks.{IsGood}
 use Rattle.b2_platter.specs.Edits.{CanFormat, formatted}
 use Rattle.b2_platter.proofs.Goodness.{Parts-of}
+use Rattle.b2_platter.proofs.Layouts.{own_good, same_layout}
 use Rattle.b2_platter.proofs.Fresh.{formatted_good}
 use Rattle.b2_catalog.specs.declared.entry.Entry.{Entry}
 use Rattle.b2_catalog.specs.Catalogue.{Catalogue, catalogue}
@@ -99,9 +102,9 @@ along-none lowest first index j (suc n) h i low high =
       | inr other ↦ along-none lowest first index (j + 1) n parts.1 i (omega (arith, low, other)) (omega (arith, high))
     ]
 
-module _ (image : List ℕ) (good : Good Narrow image) (name : List ℕ) where
+module _ (image : List ℕ) (good : IsGood image) (name : List ℕ) where
   some-index : 1 ≤ index_of image
-  some-index = (Parts-of Narrow image good).some
+  some-index = (Parts-of (layout_of image) image good).some
 
   no-lowest : place image name ≡ None → (s : ℕ) → s < index_of image → lowest_free image s ≡ None
   unfolding place
@@ -132,13 +135,13 @@ AllAbsent files [] = Unit {0}
 AllAbsent files (e ∷ rest) = (get files e.name ≡ None) × AllAbsent files rest
 
 pub record Ready (from image : List ℕ) (files : List Entry) : Type 0 where
-  pub good : Good Narrow image
+  pub good : IsGood image
   pub live : AllLive from files
   pub least : ℕ
   pub ordered : InOrder least files
   pub absent : AllAbsent (catalogue image) files
   pub slots : length files ≤ free_slots image
-  pub room : next_free Narrow image + total_sectors files ≤ catalogue_end Narrow image
+  pub room : next_of image + total_sectors files ≤ end_of image
 
 -- the next one is entered
 pub ready-enters : (from image : List ℕ) (e : Entry) (files : List Entry) → Ready from image (e ∷ files) → enter_refusal image e.name (all_sectors e) ≡ None
@@ -154,7 +157,7 @@ absent-rest : (files : Catalogue) (name : List ℕ) (n : Entry) (rest : List Ent
 absent-rest files name n [] other absent = tt
 absent-rest files name n (f ∷ rest) other absent = (absent-by files name f.name n other.0 absent.0, absent-rest files name n rest other.1 absent.1)
 
-module _ (from : List ℕ) (source : Good Narrow from) where
+module _ (from : List ℕ) (source : IsGood from) where
   -- the copy of the next one
   pub ready-copy : (image : List ℕ) (e : Entry) (files : List Entry) → Ready from image (e ∷ files) → (k : ℕ) × Copy from image (with_copy from image e) e k
   ready-copy image e files r =
@@ -175,16 +178,16 @@ module _ (from : List ℕ) (source : Good Narrow from) where
         least = e.end + 1;
         ordered = r.ordered.1;
         absent = subst (λ (files' : Catalogue). AllAbsent files' files) (sym c.1.files)
-            (absent-rest (catalogue image) e.name (entry_from (next_free Narrow image) e) files (other-names from source e (e.end + 1) files r.live.0 (omega (arith, inside.order)) r.live.1 r.ordered.1) r.absent.1);
+            (absent-rest (catalogue image) e.name (entry_from (next_of image) e) files (other-names from source e (e.end + 1) files r.live.0 (omega (arith, inside.order)) r.live.1 r.ordered.1) r.absent.1);
         slots = (let s = r.slots in omega (arith, s, same, fewer));
         room = (let m = r.room in omega (arith, m, c.1.next, c.1.end));
       }
 
   -- what the copies leave
   pub record Copies (image new : List ℕ) (files : List Entry) : Type 0 where
-    pub catalogued : catalogue new ≡ with_more_files (next_free Narrow image) files (catalogue image)
-    pub before : (n : ℕ) → index_of image ≤ n → n < next_free Narrow image → sector new n ≡ sector image n
-    pub kept : HasSectors from new (next_free Narrow image) files
+    pub catalogued : catalogue new ≡ with_more_files (next_of image) files (catalogue image)
+    pub before : (n : ℕ) → index_of image ≤ n → n < next_of image → sector new n ≡ sector image n
+    pub kept : HasSectors from new (next_of image) files
 
   pub copies : (image : List ℕ) (files : List Entry) → Ready from image files → Copies image (with_copies from image files) files
   copies image [] r = record { catalogued = refl; before = λ n low high. refl; kept = tt }
@@ -194,12 +197,12 @@ module _ (from : List ℕ) (source : Good Narrow from) where
       let next = with_copy from image e in
       let new = with_copies from image (e ∷ files) in
       let rest = copies next files (ready-next image e files r) in
-      let ordered = (Parts-of Narrow image r.good).files in
+      let ordered = (Parts-of (layout_of image) image r.good).files in
       record {
         catalogued = rest.catalogued ∙ ap₂ (λ (n : ℕ) (m : Catalogue). with_more_files n files m) c.1.next c.1.files;
         before = λ n low high. rest.before n (omega (arith, low, c.1.index)) (omega (arith, high, c.1.next)) ∙ c.1.before n low high;
         kept = (
-          same-sectors next new (next_free Narrow image) (e.end - e.start) (λ n low high. rest.before n (omega (arith, low, ordered, c.1.index)) (omega (arith, high, c.1.next))) ∙ c.1.kept,
+          same-sectors next new (next_of image) (e.end - e.start) (λ n low high. rest.before n (omega (arith, low, ordered, c.1.index)) (omega (arith, high, c.1.next))) ∙ c.1.kept,
           subst (λ (n : ℕ). HasSectors from new n files) c.1.next rest.kept,
         );
       }
@@ -219,79 +222,82 @@ none-left [] h = refl
 none-left (e ∷ files) h = absurd (omega (arith, h))
 
 pub record Emptied (to image : List ℕ) : Type 0 where
-  pub good : Good Narrow image
-  pub next : next_free Narrow image ≡ index_of to
-  pub end : catalogue_end Narrow image ≡ catalogue_end Narrow to
+  pub good : IsGood image
+  pub next : next_of image ≡ index_of to
+  pub end : end_of image ≡ end_of to
   pub files : catalogue image ≡ empty
 
-module _ (to : List ℕ) (good : Good Narrow to) (few : index_of to ≤ 255) where
+module _ (to : List ℕ) (good : IsGood to) (few : index_of to ≤ 255) where
   some-to : 1 ≤ index_of to
-  some-to = (Parts-of Narrow to good).some
+  some-to = (Parts-of (layout_of to) to good).some
 
-  no-file : index_of to ≡ next_free Narrow to → (q : List ℕ) (o : Option Entry) → get (catalogue to) q ≡ o → o ≡ None
+  no-file : index_of to ≡ next_of to → (q : List ℕ) (o : Option Entry) → get (catalogue to) q ≡ o → o ≡ None
   no-file same q None is = refl
   no-file same q (Some e) is =
       let w = stands to q e is in
       let f = FileSlot-from to q w.0 good w.1.at in
       absurd (omega (arith, f.low, f.order, f.high, same))
 
-  no-files : index_of to ≡ next_free Narrow to → catalogue to ≡ empty
+  no-files : index_of to ≡ next_of to → catalogue to ≡ empty
   no-files same = same_map nat_list_cmp_total (slice_cmp-IsAntisymmetric nat_cmp-IsAntisymmetric) (catalogue to) empty (λ q. no-file same q (get (catalogue to) q) refl ∙ sym (get-empty (slice_cmp nat_cmp) q))
 
-  module _ (room : index_of to < catalogue_end Narrow to) where
-    can : CanFormat Narrow to (index_of to) (catalogue_end Narrow to - 1)
+  module _ (room : index_of to < end_of to) where
+    can : CanFormat (layout_of to) to (index_of to) (end_of to - 1)
     can =
-        let parts = Parts-of Narrow to good in
+        let parts = Parts-of (layout_of to) to good in
         record { some = parts.some; few = few; order = omega (arith, room); within = omega (arith, room, parts.rest) }
 
-    formatted-as : Emptied to (formatted Narrow to (index_of to) (catalogue_end Narrow to - 1))
+    formatted-as : Emptied to (formatted (layout_of to) to (index_of to) (end_of to - 1))
     formatted-as =
-        let head = formatted_head to (index_of to) (catalogue_end Narrow to - 1) good can in
+        let head = formatted_head to (index_of to) (end_of to - 1) good can in
+        let new = formatted (layout_of to) to (index_of to) (end_of to - 1) in
+        let made = formatted_good (layout_of to) to (index_of to) (end_of to - 1) good can in
+        let same = same_layout to new made in
         record {
-          good = formatted_good Narrow to (index_of to) (catalogue_end Narrow to - 1) good can;
-          next = head.next;
-          end = (let e = head.end in omega (arith, e, room));
-          files = catalogue-formatted to (index_of to) (catalogue_end Narrow to - 1) good can;
+          good = own_good (layout_of to) _ made;
+          next = ap (λ (l : Layout). next_free l new) same ∙ head.next;
+          end = ap (λ (l : Layout). catalogue_end l new) same ∙ (let e = head.end in omega (arith, e, room));
+          files = catalogue-formatted to (index_of to) (end_of to - 1) good can;
         }
 
-    formatted-free : free_slots (formatted Narrow to (index_of to) (catalogue_end Narrow to - 1)) ≡ 16 * index_of to - 1
+    formatted-free : free_slots (formatted (layout_of to) to (index_of to) (end_of to - 1)) ≡ 16 * index_of to - 1
     formatted-free =
-        let head = formatted_head to (index_of to) (catalogue_end Narrow to - 1) good can in
-        let new = formatted Narrow to (index_of to) (catalogue_end Narrow to - 1) in
+        let head = formatted_head to (index_of to) (end_of to - 1) good can in
+        let new = formatted (layout_of to) to (index_of to) (end_of to - 1) in
         ap (λ (i : ℕ). count (λ (k : ℕ). is_free (row new k)) 1 (16 * i - 1)) head.index
         ∙ count-all (λ (k : ℕ). is_free (row new k)) 1 (16 * index_of to - 1)
-        (λ k low high. free-row (row new k) (formatted_row to (index_of to) (catalogue_end Narrow to - 1) good can k low (omega (arith, low, high))))
+        (λ k low high. free-row (row new k) (formatted_row to (index_of to) (end_of to - 1) good can k low (omega (arith, low, high))))
 
-  emptied-by : (b : Bool) → nat_lt (index_of to) (catalogue_end Narrow to) ≡ b → Emptied to (cond b (formatted Narrow to (index_of to) (catalogue_end Narrow to - 1)) to)
-  emptied-by true is = formatted-as (ltb-true (index_of to) (catalogue_end Narrow to) is)
+  emptied-by : (b : Bool) → nat_lt (index_of to) (end_of to) ≡ b → Emptied to (cond b (formatted (layout_of to) to (index_of to) (end_of to - 1)) to)
+  emptied-by true is = formatted-as (ltb-true (index_of to) (end_of to) is)
   emptied-by false is =
-      let full = ltb-false (index_of to) (catalogue_end Narrow to) is in
-      let parts = Parts-of Narrow to good in
-      let same : index_of to ≡ next_free Narrow to = omega (arith, full, parts.files, parts.free) in
+      let full = ltb-false (index_of to) (end_of to) is in
+      let parts = Parts-of (layout_of to) to good in
+      let same : index_of to ≡ next_of to = omega (arith, full, parts.files, parts.free) in
       record { good = good; next = sym same; end = refl; files = no-files same }
 
   pub emptied-as : Emptied to (emptied to)
-  emptied-as = emptied-by (nat_lt (index_of to) (catalogue_end Narrow to)) refl
+  emptied-as = emptied-by (nat_lt (index_of to) (end_of to)) refl
 
-  module _ (files : List Entry) (count : length files ≤ 16 * index_of to - 1) (room : index_of to + total_sectors files ≤ catalogue_end Narrow to) where
-    slots-by : (b : Bool) → nat_lt (index_of to) (catalogue_end Narrow to) ≡ b → length files ≤ free_slots (cond b (formatted Narrow to (index_of to) (catalogue_end Narrow to - 1)) to)
-    slots-by true is = let all = formatted-free (ltb-true (index_of to) (catalogue_end Narrow to) is) in omega (arith, all, count)
+  module _ (files : List Entry) (count : length files ≤ 16 * index_of to - 1) (room : index_of to + total_sectors files ≤ end_of to) where
+    slots-by : (b : Bool) → nat_lt (index_of to) (end_of to) ≡ b → length files ≤ free_slots (cond b (formatted (layout_of to) to (index_of to) (end_of to - 1)) to)
+    slots-by true is = let all = formatted-free (ltb-true (index_of to) (end_of to) is) in omega (arith, all, count)
     slots-by false is =
-        let full = ltb-false (index_of to) (catalogue_end Narrow to) is in
+        let full = ltb-false (index_of to) (end_of to) is in
         let none = ap (length {A = Entry}) (none-left files (omega (arith, full, room))) in
         omega (arith, none)
 
     pub slots-left : length files ≤ free_slots (emptied to)
-    slots-left = slots-by (nat_lt (index_of to) (catalogue_end Narrow to)) refl
+    slots-left = slots-by (nat_lt (index_of to) (end_of to)) refl
 
 -- what it says that files are moved
-pub room-of : (to : List ℕ) (files : List Entry) → all_refusal files to ≡ None → (length files ≤ 16 * index_of to - 1) × (index_of to + total_sectors files ≤ catalogue_end Narrow to)
+pub room-of : (to : List ℕ) (files : List Entry) → all_refusal files to ≡ None → (length files ≤ 16 * index_of to - 1) × (index_of to + total_sectors files ≤ end_of to)
 room-of to files h =
     let first = refused-by (nat_lt (16 * index_of to - 1) (length files)) true _ D85_INDEX_FULL h in
-    let second = refused-by (nat_lt (catalogue_end Narrow to) (index_of to + total_sectors files)) true None D86_NO_ROOM first.1 in
-    (ltb-false (16 * index_of to - 1) (length files) first.0, ltb-false (catalogue_end Narrow to) (index_of to + total_sectors files) second.0)
+    let second = refused-by (nat_lt (end_of to) (index_of to + total_sectors files)) true None D86_NO_ROOM first.1 in
+    (ltb-false (16 * index_of to - 1) (length files) first.0, ltb-false (end_of to) (index_of to + total_sectors files) second.0)
 
-pub ready-first : (from to : List ℕ) (files : List Entry) → Good Narrow to → index_of to ≤ 255 → AreLiveFiles from files → all_refusal files to ≡ None → Ready from (emptied to) files
+pub ready-first : (from to : List ℕ) (files : List Entry) → IsGood to → index_of to ≤ 255 → AreLiveFiles from files → all_refusal files to ≡ None → Ready from (emptied to) files
 ready-first from to files good few are allowed =
     let room = room-of to files allowed in
     let e = emptied-as to good few in
@@ -310,7 +316,7 @@ pub files-left : (files : List Entry) (k : ℕ) (e : Entry) → k < length files
 files-left files k e h is = drop-cons files k e h ∙ ap₂ (λ (f : Entry) (n : ℕ). f ∷ drop n files) (sym is) (sym (add-one k))
 
 -- all are moved
-pub moved-all : (from to : List ℕ) (files : List Entry) → Good Narrow from → Good Narrow to → index_of to ≤ 255 → AreLiveFiles from files → all_refusal files to ≡ None → MovedAll from to (with_copies from (emptied to) files)
+pub moved-all : (from to : List ℕ) (files : List Entry) → IsGood from → IsGood to → index_of to ≤ 255 → AreLiveFiles from files → all_refusal files to ≡ None → MovedAll from to (with_copies from (emptied to) files)
 moved-all from to files source good few are allowed =
     let e = emptied-as to good few in
     let c = copies from source (emptied to) files (ready-first from to files good few are allowed) in

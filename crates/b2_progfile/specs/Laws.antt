@@ -3,8 +3,7 @@ use Rattle.std.specs.Prelude.{◌≡◌, ℕ, ◌-◌, ◌<◌, ◌≤◌, Bool,
 use Rattle.std.specs.FinMap.{get}
 use Rattle.b2_base.specs.declared.codes.Fault.TheVariants as fault
 use Rattle.b2_base.specs.declared.codes.TheConstants.{A01_TEXT_AREA}
-use Rattle.b2_platter.specs.declared.layout.Layout.TheVariants.{Narrow}
-use Rattle.b2_platter.specs.Checks.{Good}
+use Rattle.b2_platter.specs.Checks.{IsGood}
 use Rattle.b2_catalog.specs.declared.entry.Entry.{Entry}
 use Rattle.b2_catalog.specs.Catalogue.{catalogue}
 use Rattle.b2_text.specs.Program.{Lines, TextState, size_of}
@@ -35,7 +34,7 @@ FilesAreRefusedBySize =
 -- each live file is moved: it is there from some sector on, with its kind, its sectors and as many used
 abbrev pub FilesAreMoved : Type 0
 FilesAreMoved =
-    (from to new : List ℕ) (e : Entry) → Good Narrow from → MovedAll from to new → IsLiveFile from e
+    (from to new : List ℕ) (e : Entry) → IsGood from → MovedAll from to new → IsLiveFile from e
     → (start : ℕ) × (get (catalogue new) e.name ≡ Some (entry_from start e)) × (sectors_at new start (e.end - e.start) ≡ own_sectors from e)
 
 -- and no other file is there, a scratched one neither
@@ -47,13 +46,13 @@ NothingElseIsMoved =
 -- the files stand in the order in which they stood
 abbrev pub FilesKeepTheirOrder : Type 0
 FilesKeepTheirOrder =
-    (from to new : List ℕ) (e f m n : Entry) → Good Narrow from → MovedAll from to new → IsLiveFile from e → IsLiveFile from f
+    (from to new : List ℕ) (e f m n : Entry) → IsGood from → MovedAll from to new → IsLiveFile from e → IsLiveFile from f
     → get (catalogue new) e.name ≡ Some m → get (catalogue new) f.name ≡ Some n → e.start < f.start → m.start < n.start
 
 -- a program file that is moved has the same program
 abbrev pub ProgramsAreMoved : Type 0
 ProgramsAreMoved =
-    (from to new : List ℕ) (e : Entry) (lines : Lines) → Good Narrow from → MovedAll from to new → IsLiveFile from e → IsProgramFile from e lines
+    (from to new : List ℕ) (e : Entry) (lines : Lines) → IsGood from → MovedAll from to new → IsLiveFile from e → IsProgramFile from e lines
     → IfSome (get (catalogue new) e.name) (λ n. IsProgramFile new n lines)
 
 -- what is read of sectors is the program that they spell, and nothing is read exactly where they spell none
@@ -83,15 +82,15 @@ ProgramIsRefused =
 
 -- what is picked sector by sector are the live files in the order of their starts
 abbrev pub LiveFilesAreListed : Type 0
-LiveFilesAreListed = (image : List ℕ) → Good Narrow image → AreLiveFiles image (live_files image)
+LiveFilesAreListed = (image : List ℕ) → IsGood image → AreLiveFiles image (live_files image)
 
 -- and they have one such order
 abbrev pub LiveFilesHaveOneOrder : Type 0
-LiveFilesHaveOneOrder = (image : List ℕ) → Good Narrow image → (files : List Entry) → AreLiveFiles image files → files ≡ live_files image
+LiveFilesHaveOneOrder = (image : List ℕ) → IsGood image → (files : List Entry) → AreLiveFiles image files → files ≡ live_files image
 
 -- what the function of moving all files says is that they are moved, or a cause for the code
 abbrev pub PlatterIsMoved : Type 0
-PlatterIsMoved = (from to new : List ℕ) → Good Narrow from → Good Narrow to → index_of to ≤ 255 → platter_moved from to ≡ Ok new → MovedAll from to new
+PlatterIsMoved = (from to new : List ℕ) → IsGood from → IsGood to → index_of to ≤ 255 → platter_moved from to ≡ Ok new → MovedAll from to new
 
 abbrev pub PlatterIsRefused : Type 0
-PlatterIsRefused = (from to : List ℕ) (code : ℕ) → Good Narrow from → platter_moved from to ≡ Err code → MoveFails from to (fault.Code code)
+PlatterIsRefused = (from to : List ℕ) (code : ℕ) → IsGood from → platter_moved from to ≡ Err code → MoveFails from to (fault.Code code)

@@ -2,8 +2,8 @@
 use Rattle.std.specs.Prelude.{◌≡◌, ℕ, ◌+◌, ◌-◌, not, true, List, Option, Some, None, if◌then◌else◌}
 use Rattle.std.specs.FinMap.{get, insert}
 use Rattle.b2_base.specs.declared.codes.TheConstants.{D82_NO_FILE}
-use Rattle.b2_platter.specs.declared.layout.Layout.TheVariants.{Narrow}
-use Rattle.b2_platter.specs.Image.{next_free, sectors_at}
+use Rattle.b2_platter.specs.Own.{next_of}
+use Rattle.b2_platter.specs.Image.{sectors_at}
 use Rattle.b2_catalog.specs.declared.entry.Entry.{Entry}
 use Rattle.b2_catalog.specs.Catalogue.{catalogue}
 use Rattle.b2_catalog.specs.Ways.{place}
@@ -33,7 +33,7 @@ entry_from start e = record e { start = start; end = start + (e.end - e.start) }
 abbrev pub put_copy : List ℕ → List ℕ → Entry → Option ℕ → List ℕ
 put_copy from image e None = image
 put_copy from image e (Some k) =
-    file_filled_with (entered image k e.name e.program (all_sectors e)) (next_free Narrow image) (next_free Narrow image + (e.end - e.start)) (own_sectors from e) e.used
+    file_filled_with (entered image k e.name e.program (all_sectors e)) (next_of image) (next_of image + (e.end - e.start)) (own_sectors from e) e.used
 
 -- an image with a copy of a file of another, in the slot of its name
 abbrev pub with_copy : List ℕ → List ℕ → Entry → List ℕ
@@ -51,9 +51,9 @@ move_refusal from name to = file_refusal (get (catalogue from) name) to
 -- sectors of other files stay
 pub record Copied (from to new : List ℕ) (e : Entry) : Type 0 where
   pub image : new ≡ with_copy from to e
-  pub files : catalogue new ≡ insert (catalogue to) e.name (entry_from (next_free Narrow to) e)
-  pub kept : sectors_at new (next_free Narrow to) (e.end - e.start) ≡ own_sectors from e
-  pub others : KeepsOthers to new (entry_from (next_free Narrow to) e)
+  pub files : catalogue new ≡ insert (catalogue to) e.name (entry_from (next_of to) e)
+  pub kept : sectors_at new (next_of to) (e.end - e.start) ≡ own_sectors from e
+  pub others : KeepsOthers to new (entry_from (next_of to) e)
 
 -- the live file of a name is moved
 pub record Moved (from name to new : List ℕ) : Type 0 where

@@ -5,6 +5,7 @@ use Rattle.std.specs.FinMap.{get}
 use Rattle.b2_base.specs.declared.codes.Fault.{Fault}
 use Rattle.b2_base.specs.declared.codes.Fault.TheVariants as fault
 use Rattle.b2_base.specs.declared.codes.TheConstants.{D86_NO_ROOM}
+use Rattle.b2_platter.specs.Layout.{layout_of}
 use Rattle.b2_platter.specs.Edits.{put_sector, put_from}
 use Rattle.b2_catalog.specs.declared.entry.Entry.{Entry}
 use Rattle.b2_catalog.specs.Catalogue.{catalogue}
@@ -60,7 +61,7 @@ save_refusal image (Some old) name count = or_then (reuse_refusal image old name
 
 -- a file's sectors are these, and its control sector says that some of them are used
 abbrev pub file_filled_with : List ℕ → ℕ → ℕ → List (List ℕ) → ℕ → List ℕ
-file_filled_with image start end sectors used = put_sector (put_from image start sectors) end (control_sector used)
+file_filled_with image start end sectors used = put_sector (put_from image start sectors) end (control_sector (layout_of image) used)
 
 -- the same where all of them are
 abbrev pub file_filled : List ℕ → ℕ → ℕ → List (List ℕ) → List ℕ

@@ -1,9 +1,10 @@
 // A file is moved to another platter.
 ghost use Rattle.std.specs.Prelude.{◌≡◌, ◌+◌, ◌-◌, ◌^◌, ◌<◌, ◌≤◌, ℕ, true, Some, None, IfSome, IfOk, IfErr, OnOk};
 ghost use Rattle.std.specs.FinMap.{get, insert};
-ghost use Rattle.b2_platter.specs.declared.layout.Layout.TheVariants.{Narrow};
-ghost use Rattle.b2_platter.specs.Image.{total_of, sectors_at};
-ghost use Rattle.b2_platter.specs.Checks.{Good};
+ghost use Rattle.b2_platter.specs.Layout.{layout_of};
+ghost use Rattle.b2_platter.specs.Own.{sectors_of};
+ghost use Rattle.b2_platter.specs.Image.{sectors_at};
+ghost use Rattle.b2_platter.specs.Checks.{IsGood};
 ghost use Rattle.b2_platter.specs.Edits.{is_data_sector, put_from};
 ghost use Rattle.b2_catalog.specs.Catalogue.{catalogue};
 ghost use Rattle.b2_catalog.specs.Calls.{enter_refusal, new_entry};
@@ -20,9 +21,9 @@ use b2_platter::Platter;
 /// Writes sectors of another platter.
 fn put_copies(p: &mut Platter, at: u32, from: &Platter, start: u32, count: u32)
     requires ends { at + count < 2 ^ 32 }
-    requires within { start + count ≤ total_of Narrow from.now }
-    requires good { Good Narrow p.old }
-    requires sectors { (n : ℕ) → at ≤ n → n < at + count → is_data_sector Narrow p.old n ≡ true }
+    requires within { start + count ≤ sectors_of from.now }
+    requires good { IsGood p.old }
+    requires sectors { (n : ℕ) → at ≤ n → n < at + count → is_data_sector (layout_of p.old) p.old n ≡ true }
     ensures { p.new ≡ put_from p.old at (sectors_at from.now start count) }
 {
     let _source = from.image();
@@ -53,7 +54,7 @@ pub(crate) fn all_sectors(from: &Platter, e: &Entry) -> u32
     requires { get (catalogue from.now) e.now.name ≡ Some e.now }
     ensures value { result ≡ all_sectors e.now }
     ensures some { 2 ≤ result }
-    ensures few { result ≤ 65536 }
+    ensures few { result ≤ 262144 }
 {
     let _source = from.image();
     let count = e.end - e.start;

@@ -3,8 +3,8 @@ ghost use Rattle.std.specs.Prelude.{◌≡◌, ◌+◌, ◌-◌, ◌<◌, ◌≤
 ghost use Rattle.b2_base.specs.declared.codes.Fault.TheVariants as fault;
 ghost use Rattle.b2_base.specs.declared.codes.TheConstants.{D88_FORMAT};
 ghost use Rattle.b2_base.specs.Lexical.{first};
-ghost use Rattle.b2_platter.specs.declared.layout.Layout.TheVariants.{Narrow};
-ghost use Rattle.b2_platter.specs.Image.{total_of, sectors_at};
+ghost use Rattle.b2_platter.specs.Own.{sectors_of};
+ghost use Rattle.b2_platter.specs.Image.{sectors_at};
 ghost use Rattle.b2_text.specs.Program.{Lines};
 ghost use Rattle.b2_progfile.specs.Programs.{AllPieces, IsProgramText, SpellsProgram, held_bytes};
 ghost use Rattle.b2_platter.specs.Reading.{Unspelled};
@@ -36,7 +36,7 @@ fn add(bytes: &mut Vec<u8>, more: &[u8]) -> Result<(), NoMemory>
 
 /// What some sectors hold. D88 exactly where one of them isn't a piece of a program.
 fn held_bytes(alloc: Global, p: &Platter, at: u32, count: u32) -> Result<Vec<u8>, Fault>
-    requires { at + count ≤ total_of Narrow p.now }
+    requires { at + count ≤ sectors_of p.now }
     ensures pieces { OnOk result (AllPieces (sectors_at p.now at count)) }
     ensures bytes { IfOk result (λ bytes. bytes.items ≡ held_bytes (sectors_at p.now at count)) }
     ensures err { IfErr result (Unspelled (¬ AllPieces (sectors_at p.now at count))) }
@@ -124,7 +124,7 @@ pub(crate) fn read_program(
     at: u32,
     count: u32,
 ) -> Result<Gathered, Fault>
-    requires { at + count ≤ total_of Narrow p.now }
+    requires { at + count ≤ sectors_of p.now }
     ensures ok { IfOk result (λ t. SpellsProgram t.entries (sectors_at p.now at count)) }
     ensures err { IfErr result (Unspelled ((lines : Lines) → ¬ SpellsProgram lines (sectors_at p.now at count))) }
 {

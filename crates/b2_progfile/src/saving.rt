@@ -3,9 +3,9 @@ ghost use Rattle.std.specs.Prelude.{◌≡◌, ◌+◌, ◌-◌, ◌*◌, ◌^�
 ghost use Rattle.std.specs.Str.{bytes_eq};
 ghost use Rattle.std.specs.FinMap.{get, insert};
 ghost use Rattle.b2_base.specs.declared.codes.TheConstants.{D86_NO_ROOM};
-ghost use Rattle.b2_platter.specs.declared.layout.Layout.TheVariants.{Narrow};
+ghost use Rattle.b2_platter.specs.Layout.{layout_of};
 ghost use Rattle.b2_platter.specs.Image.{index_of, sectors_at};
-ghost use Rattle.b2_platter.specs.Checks.{Good};
+ghost use Rattle.b2_platter.specs.Checks.{IsGood};
 ghost use Rattle.b2_platter.specs.Edits.{is_data_sector, put_from};
 ghost use Rattle.b2_catalog.specs.Catalogue.{catalogue};
 ghost use Rattle.b2_catalog.specs.Calls.{reuse_refusal};
@@ -127,8 +127,8 @@ fn make_program_file(
 fn put_pieces(p: &mut Platter, at: u32, bytes: &[u8], count: u32)
     requires count { count ≡ pieces_count bytes.now }
     requires ends { at + count < 2 ^ 32 }
-    requires good { Good Narrow p.old }
-    requires sectors { (n : ℕ) → at ≤ n → n < at + count → is_data_sector Narrow p.old n ≡ true }
+    requires good { IsGood p.old }
+    requires sectors { (n : ℕ) → at ≤ n → n < at + count → is_data_sector (layout_of p.old) p.old n ≡ true }
     ensures { p.new ≡ put_from p.old at (text_sectors bytes.now) }
 {
     for k in 0..count {

@@ -2,8 +2,7 @@
 use Rattle.std.specs.Prelude.{ℕ, List, [], ◌∷◌, ◌++◌, codes, decimal, Option, Some, None}
 use Rattle.b2_base.specs.Byte as byte
 use Rattle.b2_catalog.specs.Listing.{listing_of}
-use Rattle.b2_platter.specs.Checks.{first_check}
-use Rattle.b2_platter.specs.declared.layout.Layout.TheVariants.{Narrow}
+use Rattle.b2_platter.specs.Checks.{own_check}
 
 -- `good`, and the lines of the listing
 abbrev pub good_report : List ℕ → List ℕ
@@ -19,4 +18,4 @@ report_by image (Some check) = bad_report check
 
 -- an image is good where it fails none of the nine checks; else the first that it fails is named
 abbrev pub report_of : List ℕ → List ℕ
-report_of image = report_by image (first_check Narrow image)
+report_of image = report_by image (own_check image)

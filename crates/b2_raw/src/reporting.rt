@@ -1,7 +1,6 @@
 // What is said of a disk image.
 ghost use Rattle.std.specs.Prelude.{◌≡◌, ◌++◌, IfOk, OnOk};
-ghost use Rattle.b2_platter.specs.declared.layout.Layout.TheVariants.{Narrow};
-ghost use Rattle.b2_platter.specs.Checks.{first_check};
+ghost use Rattle.b2_platter.specs.Checks.{own_check};
 ghost use Rattle.b2_raw.specs.Report.{report_of, bad_report, good_report};
 
 use b2_base::NoMemory;
@@ -31,7 +30,7 @@ fn report_bad(check: u8, into: &mut Vec<u8>) -> Result<(), NoMemory>
 /// Appends the report on an image: a line `good` and the listing where it fails no check, and else a line `bad N` with the first
 /// check that it fails, which is handed back.
 pub fn report(bytes: Vec<u8>, into: &mut Vec<u8>) -> Result<Option<u8>, NoMemory>
-    ensures check { IfOk result (λ failed. failed ≡ first_check Narrow bytes.items) }
+    ensures check { IfOk result (λ failed. failed ≡ own_check bytes.items) }
     ensures appended { OnOk result (into.new.items ≡ into.old.items ++ report_of bytes.items) }
 {
     match Platter::open(bytes) {

@@ -1,8 +1,8 @@
 // Records: a list of values in as many sectors as it needs.
 ghost use Rattle.std.specs.Prelude.{◌≡◌, ◌==◌, ◌||◌, ◌+◌, ◌-◌, ◌<◌, ◌≤◌, ◌∷◌, ◌++◌, true, min, Some, None, OnOk, OnSome, IfOk, IfErr, length, nat_le, drop, take, if◌then◌else◌};
 ghost use Rattle.std.specs.List.{list_all, slice_get};
-ghost use Rattle.b2_platter.specs.declared.layout.Layout.TheVariants.{Narrow};
-ghost use Rattle.b2_platter.specs.Image.{total_of, sectors_at};
+ghost use Rattle.b2_platter.specs.Own.{sectors_of};
+ghost use Rattle.b2_platter.specs.Image.{sectors_at};
 ghost use Rattle.b2_record.specs.Items.{is_short, AllStorable};
 ghost use Rattle.b2_platter.specs.Reading.{Unspelled};
 ghost use Rattle.b2_record.specs.Records.{goes_over, sectors_from, Spells, IsNoRecord};
@@ -151,7 +151,7 @@ fn add_all(values: &mut Vec<Value>, more: Vec<Value>) -> Result<(), NoMemory>
 /// The record that begins at a sector and ends at a last one or before, and how many sectors it has. D88 exactly where
 /// none is spelled there.
 pub fn take(alloc: Global, p: &Platter, at: u32, last: u32) -> Result<(Vec<Value>, u32), Fault>
-    requires { last < total_of Narrow p.now }
+    requires { last < sectors_of p.now }
     ensures ok { IfOk result (λ found. Spells found.0.items (sectors_at p.now at found.1)) }
     ensures within { IfOk result (λ found. at + found.1 ≤ last + 1) }
     ensures value { IfOk result (λ found. record_at p.now at last ≡ Some (found.0.items, found.1)) }

@@ -9,8 +9,7 @@ use Rattle.b2_dec.specs.declared.values.Kind.{Kind}
 use Rattle.b2_dec.specs.declared.values.Kind.TheVariants as kind
 use Rattle.b2_dec.specs.declared.values.Value.{Value}
 use Rattle.b2_dec.specs.declared.values.Value.TheVariants as value
-use Rattle.b2_platter.specs.declared.layout.Layout.TheVariants.{Narrow}
-use Rattle.b2_platter.specs.Checks.{Good}
+use Rattle.b2_platter.specs.Checks.{IsGood}
 use Rattle.b2_platter.specs.Edits.{put_from}
 use Rattle.b2_catalog.specs.declared.entry.Entry.{Entry}
 use Rattle.b2_catalog.specs.Catalogue.{catalogue}
@@ -122,7 +121,7 @@ moves-low image e pos (by.Back count) to inside low h =
 moves-low image e pos by.Begin to inside low h = omega (arith, h)
 moves-low image e pos by.End to inside low h = let used = inside.used in omega (arith, h, used)
 
-pub skip-low : (image : List ℕ) (slot : Slot) (way : By) (to : ℕ) → Good Narrow image → slot.start ≤ slot.pos → place_skipped slot way image ≡ Ok to → slot.start ≤ to
+pub skip-low : (image : List ℕ) (slot : Slot) (way : By) (to : ℕ) → IsGood image → slot.start ≤ slot.pos → place_skipped slot way image ≡ Ok to → slot.start ≤ to
 skip-low image slot way to good low h =
     let m = place-goes image slot way to h in
     let f = file-parts image slot m.0 m.1 in
@@ -211,7 +210,7 @@ served-fits s who (access.Skip slot way) legal good =
     (λ image there to is. skip-low image slot way to (good slot way refl image there) legal is))
 served-fits s who a legal good = tt
 
-pub answers-fit : AnswersFit itself (Good Narrow) serves
+pub answers-fit : AnswersFit itself IsGood serves
 answers-fit s who a legal images = served-fits s who a legal (λ slot way is image there. images slot.addr image there)
 
 -- What is so of the answer that is given is so of what stops the access, and where nothing does of what its row does.

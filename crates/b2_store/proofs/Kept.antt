@@ -1,23 +1,24 @@
 -- Changes of one file of an image: the image stays good, with an index as long, and every other file stays as it is.
-use Rattle.std.proofs.Common.{◌≡◌, ◌⊎◌, ℕ, ◌+◌, ◌-◌, ◌<◌, ◌≤◌, Bool, true, false, cond, List, length, take, Option, Some, None, refl, sym, ap, ◌∙◌, inl, inr, arith}
+use Rattle.std.proofs.Common.{◌≡◌, ◌⊎◌, ℕ, ◌+◌, ◌-◌, ◌<◌, ◌≤◌, Bool, true, false, cond, List, length, take, Option, Some, None, refl, sym, ap, ◌∙◌, subst, inl, inr, arith}
 use Rattle.std.specs.FinMap.{get, insert, remove, get-remove}
 use Rattle.std.specs.Cmp.Lexicographic.{nat_list_cmp_total}
 use Rattle.std.specs.Str.{bytes_eq}
 use Rattle.std.proofs.lemmas.Bool.{cases_lt, cases_order, false_from_ne_true}
 use Rattle.std.proofs.lemmas.List.{take-take}
 use Rattle.std.proofs.lemmas.Slice.Eq.{bytes_eq-Decides}
-use Rattle.b2_platter.specs.declared.layout.Layout.TheVariants.{Narrow}
-use Rattle.b2_platter.specs.Checks.{Good}
-use Rattle.b2_platter.specs.Edits.{is_data_sector, put_from}
-use Rattle.b2_platter.specs.Image.{index_of, next_free, row, sector}
-use Rattle.b2_platter.specs.Slot.{slot_end, slot_start}
+use Rattle.b2_platter.specs.Layout.{layout_of}
+use Rattle.b2_platter.specs.Own.{next_of, first_of, last_of}
+use Rattle.b2_platter.specs.Checks.{IsGood}
+use Rattle.b2_platter.specs.Edits.{is_data_sector, put_sector, put_from}
+use Rattle.b2_platter.specs.Image.{index_of, row, sector}
 use Rattle.b2_platter.proofs.Goodness.{Parts-of}
 use Rattle.b2_platter.proofs.Kept.{index-same, shared}
+use Rattle.b2_platter.proofs.Layouts.{own_good}
 use Rattle.b2_platter.proofs.Soundness.{Sound-from_Good}
 use Rattle.b2_platter.proofs.SectorRuns.{AllLong, put-from}
 use Rattle.b2_catalog.specs.declared.entry.Entry.{Entry}
 use Rattle.b2_catalog.specs.Catalogue.{Catalogue, catalogue, entry_at}
-use Rattle.b2_catalog.specs.Changes.{put_row, scratched_slot}
+use Rattle.b2_catalog.specs.Changes.{control_sector, put_row, scratched_slot}
 use Rattle.b2_catalog.specs.Calls.{with_scratched}
 use Rattle.b2_catalog.specs.Ways.{slot_found}
 use Rattle.b2_catalog.proofs.DataSectors.{catalogue-from, in-image}
@@ -32,12 +33,12 @@ use Rattle.b2_datafile.specs.Files.{with_end}
 use Rattle.b2_datafile.specs.Laws.{EndsAt}
 use Rattle.b2_datafile.proofs.Saved.{with_end-files, with_end-good, with_end-other}
 use Rattle.b2_progfile.specs.Saving.{file_filled_with}
-use Rattle.b2_progfile.proofs.Filling.{all-put, files-stay, filled-others, still-there}
+use Rattle.b2_progfile.proofs.Filling.{all-put, files-stay, filled-others, filled-own, still-there}
 use Rattle.b2_store.specs.Files.{StaysAs}
 
 -- an image is another one but for the files of some names
 pub record Keeps (image new : List ℕ) (named : List ℕ → Type 0) : Type 0 where
-  pub good : Good Narrow new
+  pub good : IsGood new
   pub index : index_of new ≡ index_of image
   pub others : (f : Entry) → get (catalogue image) f.name ≡ Some f → (named f.name → ⊥) → StaysAs image new f
 
@@ -66,18 +67,18 @@ get-removed files name q apart =
 
 -- ---- where a file stands
 
-module _ (image : List ℕ) (good : Good Narrow image) where
+module _ (image : List ℕ) (good : IsGood image) where
   pub record Stands (e : Entry) : Type 0 where
     pub low : index_of image ≤ e.start
     pub order : e.start < e.end
-    pub high : e.end < next_free Narrow image
+    pub high : e.end < next_of image
 
   pub stands-in : (e : Entry) → get (catalogue image) e.name ≡ Some e → Stands e
   stands-in e there =
       let w = stands image e.name e there in
       let f = FileSlot-from image e.name w.0 good w.1.at in
-      let start : e.start ≡ slot_start Narrow (row image w.0) = ap (λ (x : Entry). x.start) w.1.is ∙ entry_start image w.0 in
-      let end : e.end ≡ slot_end Narrow (row image w.0) = ap (λ (x : Entry). x.end) w.1.is ∙ entry_end image w.0 in
+      let start : e.start ≡ first_of image w.0 = ap (λ (x : Entry). x.start) w.1.is ∙ entry_start image w.0 in
+      let end : e.end ≡ last_of image w.0 = ap (λ (x : Entry). x.end) w.1.is ∙ entry_end image w.0 in
       record { low = omega (arith, f.low, start); order = omega (arith, f.order, start, end); high = omega (arith, f.high, end) }
 
   -- a sector of a file is none of another
@@ -85,11 +86,11 @@ module _ (image : List ℕ) (good : Good Narrow image) where
   apart e f e_there f_there other n low high =
       let j = stands image e.name e e_there in
       let k = stands image f.name f f_there in
-      let s = Sound-from_Good Narrow image good in
-      let e_start : e.start ≡ slot_start Narrow (row image j.0) = ap (λ (x : Entry). x.start) j.1.is ∙ entry_start image j.0 in
-      let e_end : e.end ≡ slot_end Narrow (row image j.0) = ap (λ (x : Entry). x.end) j.1.is ∙ entry_end image j.0 in
-      let f_start : f.start ≡ slot_start Narrow (row image k.0) = ap (λ (x : Entry). x.start) k.1.is ∙ entry_start image k.0 in
-      let f_end : f.end ≡ slot_end Narrow (row image k.0) = ap (λ (x : Entry). x.end) k.1.is ∙ entry_end image k.0 in
+      let s = Sound-from_Good (layout_of image) image good in
+      let e_start : e.start ≡ first_of image j.0 = ap (λ (x : Entry). x.start) j.1.is ∙ entry_start image j.0 in
+      let e_end : e.end ≡ last_of image j.0 = ap (λ (x : Entry). x.end) j.1.is ∙ entry_end image j.0 in
+      let f_start : f.start ≡ first_of image k.0 = ap (λ (x : Entry). x.start) k.1.is ∙ entry_start image k.0 in
+      let f_end : f.end ≡ last_of image k.0 = ap (λ (x : Entry). x.end) k.1.is ∙ entry_end image k.0 in
       let e_entry = (Holds-from e.name (row image j.0) j.1.at.held).entry in
       let f_entry = (Holds-from f.name (row image k.0) k.1.at.held).entry in
       elim (cases_lt n e.start) as (λ _. (n < e.start) ⊎ (e.end < n)) [
@@ -99,8 +100,8 @@ module _ (image : List ℕ) (good : Good Narrow image) where
           | inr to ↦ elim (cases_order j.0 k.0) as (λ _. (n < e.start) ⊎ (e.end < n)) [
             | inl same ↦ absurd (other (ap (λ (x : Entry). x.name) (j.1.is ∙ (ap (entry_at image) same ∙ sym k.1.is))))
             | inr unequal ↦ elim unequal as (λ _. (n < e.start) ⊎ (e.end < n)) [
-              | inl less ↦ absurd (shared Narrow (row image j.0) (row image k.0) (s.apart j.0 k.0 j.1.at.low less k.1.at.high) e_entry f_entry (omega (arith, from, high, e_start, f_end)) (omega (arith, low, to, f_start, e_end)))
-              | inr more ↦ absurd (shared Narrow (row image k.0) (row image j.0) (s.apart k.0 j.0 k.1.at.low more j.1.at.high) f_entry e_entry (omega (arith, low, to, f_start, e_end)) (omega (arith, from, high, e_start, f_end)))
+              | inl less ↦ absurd (shared (layout_of image) (row image j.0) (row image k.0) (s.apart j.0 k.0 j.1.at.low less k.1.at.high) e_entry f_entry (omega (arith, from, high, e_start, f_end)) (omega (arith, low, to, f_start, e_end)))
+              | inr more ↦ absurd (shared (layout_of image) (row image k.0) (row image j.0) (s.apart k.0 j.0 k.1.at.low more j.1.at.high) f_entry e_entry (omega (arith, low, to, f_start, e_end)) (omega (arith, from, high, e_start, f_end)))
             ]
           ]
         ]
@@ -114,12 +115,12 @@ unfolding row sector
 head-in image = sym (take-take 16 256 image (omega arith))
 
 same-index : (image new : List ℕ) → sector new 0 ≡ sector image 0 → index_of new ≡ index_of image
-same-index image new same = index-same Narrow image new (head-in new ∙ ap (take 16) same ∙ sym (head-in image))
+same-index image new same = index-same (layout_of image) image new (head-in new ∙ ap (take 16) same ∙ sym (head-in image))
 
-after-index : (image : List ℕ) → Good Narrow image → (e : Entry) → get (catalogue image) e.name ≡ Some e → 0 < e.start
+after-index : (image : List ℕ) → IsGood image → (e : Entry) → get (catalogue image) e.name ≡ Some e → 0 < e.start
 after-index image good e there =
     let low = (stands-in image good e there).low in
-    let some = (Parts-of Narrow image good).some in
+    let some = (Parts-of (layout_of image) image good).some in
     omega (arith, low, some)
 
 -- ---- a file that is scratched
@@ -128,10 +129,10 @@ scratched-elsewhere : (files : Catalogue) (name q : List ℕ) (o : Option Entry)
 scratched-elsewhere files name q None other = refl
 scratched-elsewhere files name q (Some e) other = get-elsewhere files name q (record e { live = false }) other
 
-pub scratch-keeps : (image : List ℕ) → Good Narrow image → (name : List ℕ) (k : ℕ) → slot_found image name ≡ Some k → Keeps image (put_row image k (scratched_slot (row image k))) (λ q. name ≡ q)
+pub scratch-keeps : (image : List ℕ) → IsGood image → (name : List ℕ) (k : ℕ) → slot_found image name ≡ Some k → Keeps image (put_row image k (scratched_slot (row image k))) (λ q. name ≡ q)
 scratch-keeps image good name k found =
     let at = IsSlotOf-from image name k found in
-    let long = (says_scratched (row image k) (length-row image k (FileSlot-from image name k good at).room)).long in
+    let long = (says_scratched (layout_of image) (row image k) (length-row image k (FileSlot-from image name k good at).room)).long in
     record {
       good = scratched_good image good name k at;
       index = put_index_same image good k at.low at.high (scratched_slot (row image k)) long;
@@ -143,15 +144,15 @@ scratch-keeps image good name k found =
 
 -- ---- sectors that are put into a file, and an end mark
 
-module _ (image : List ℕ) (e : Entry) (pos : ℕ) (sectors : List (List ℕ)) (good : Good Narrow image) (file : get (catalogue image) e.name ≡ Some e) (long : AllLong sectors) (low : e.start ≤ pos) (high : pos + length sectors ≤ e.end) where
-  own : (n : ℕ) → pos ≤ n → n < pos + length sectors → is_data_sector Narrow image n ≡ true
+module _ (image : List ℕ) (e : Entry) (pos : ℕ) (sectors : List (List ℕ)) (good : IsGood image) (file : get (catalogue image) e.name ≡ Some e) (long : AllLong sectors) (low : e.start ≤ pos) (high : pos + length sectors ≤ e.end) where
+  own : (n : ℕ) → pos ≤ n → n < pos + length sectors → is_data_sector (layout_of image) image n ≡ true
   own n from to = (in-image image e.name e good file).own n (omega (arith, from, low)) (omega (arith, to, high))
 
   pub put-keeps : Keeps image (put_from image pos sectors) (λ q. e.name ≡ q)
   put-keeps =
-      let put = put-from image pos sectors good long own in
+      let put = put-from (layout_of image) image pos sectors good long own in
       record {
-        good = put.good;
+        good = own_good (layout_of image) _ put.good;
         index = same-index image (put_from image pos sectors) (put.before 0 (let first = after-index image good e file in omega (arith, first, low)));
         others = λ f there other. record {
           file = ap (λ (m : Catalogue). get m f.name) (catalogue-from image pos sectors good long own) ∙ there;
@@ -180,17 +181,18 @@ end-keeps image e pos at =
 
 -- ---- a file that is filled
 
-pub fill-keeps : (image : List ℕ) (e : Entry) (sectors : List (List ℕ)) (used : ℕ) → Good Narrow image → get (catalogue image) e.name ≡ Some e → AllLong sectors → e.start + length sectors ≤ e.end
+pub fill-keeps : (image : List ℕ) (e : Entry) (sectors : List (List ℕ)) (used : ℕ) → IsGood image → get (catalogue image) e.name ≡ Some e → AllLong sectors → e.start + length sectors ≤ e.end
     → 1 ≤ used → used ≤ e.end - e.start → Keeps image (file_filled_with image e.start e.end sectors used) (λ q. e.name ≡ q)
 fill-keeps image e sectors used good file long room some few =
     let put = put_from image e.start sectors in
     let there_still = still-there image e sectors good file long room in
-    let put_good = (all-put image e sectors good file long room).good in
+    let put_good = own_good (layout_of image) put (all-put image e sectors good file long room).good in
+    let same = filled-own image e sectors good file long room used put (put_sector put e.end (control_sector (layout_of put) used)) refl refl in
     record {
-      good = used-good put e put_good there_still used some few;
+      good = subst (λ (q : List ℕ). IsGood q) same (used-good put e put_good there_still used some few);
       index = same-index image (file_filled_with image e.start e.end sectors used) (filled-others image e sectors good file long room used 0 (inl (after-index image good e file)));
       others = λ f there other. record {
-        file = ap (λ (m : Catalogue). get m f.name) (used-files put e put_good there_still used some few)
+        file = ap (λ (m : Catalogue). get m f.name) (ap catalogue (sym same) ∙ used-files put e put_good there_still used some few)
             ∙ (get-elsewhere (catalogue put) e.name f.name (record e { used = used }) other ∙ (ap (λ (m : Catalogue). get m f.name) (files-stay image e sectors good file long room) ∙ there));
         sectors = λ n low high. filled-others image e sectors good file long room used n (apart image good e f file there other n low high);
       };

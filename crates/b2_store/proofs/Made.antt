@@ -6,8 +6,7 @@ use Rattle.std.specs.Str.{bytes_eq}
 use Rattle.std.proofs.lemmas.Bool.{ltb-false}
 use Rattle.b2_base.specs.declared.codes.TheConstants.{D82_NO_FILE, D83_NAME_PRESENT, D86_NO_ROOM}
 use Rattle.b2_base.specs.declared.files.Slot.{Slot}
-use Rattle.b2_platter.specs.declared.layout.Layout.TheVariants.{Narrow}
-use Rattle.b2_platter.specs.Checks.{Good}
+use Rattle.b2_platter.specs.Checks.{IsGood}
 use Rattle.b2_platter.specs.Image.{row as slot_row}
 use Rattle.b2_text.specs.Program.{Lines}
 use Rattle.b2_catalog.specs.declared.entry.Entry.{Entry}
@@ -62,7 +61,7 @@ pub record IsMade (image between : List ℕ) (old : Option (List ℕ)) (name : L
   pub live : e.live ≡ true
   pub kind : e.program ≡ program
 
-module _ (image : List ℕ) (good : Good Narrow image) (name : List ℕ) (is_name : IsName name) (program : Bool) (sectors : ℕ) (between : List ℕ) (e : Entry) where
+module _ (image : List ℕ) (good : IsGood image) (name : List ℕ) (is_name : IsName name) (program : Bool) (sectors : ℕ) (between : List ℕ) (e : Entry) where
   made-new : 2 ≤ sectors → enter_refusal image name sectors ≡ None → MakesFile image None name program sectors between e → IsMade image between None name program e
   made-new some allowed made =
       let n = enters image name sectors allowed in
@@ -70,7 +69,7 @@ module _ (image : List ℕ) (good : Good Narrow image) (name : List ℕ) (is_nam
       let placed = Placed-from image good name n.k n.place_is in
       let same : between ≡ entered image n.k name program sectors = subst (λ (o : Option ℕ). IfSome o (λ k. between ≡ entered image k name program sectors)) n.place_is made.1 in
       let files : catalogue between ≡ insert (catalogue image) name new = ap catalogue same ∙ catalogue-entered image good name is_name.0 is_name.1 n.k placed n.absent program sectors some n.room in
-      let good_now : Good Narrow between = subst (Good Narrow) (sym same) (entered_good image good name is_name.0 is_name.1 n.k placed n.absent program sectors some n.room) in
+      let good_now : IsGood between = subst (λ (q : List ℕ). IsGood q) (sym same) (entered_good image good name is_name.0 is_name.1 n.k placed n.absent program sectors some n.room) in
       let stays = entered-stays image good name is_name.0 is_name.1 program between sectors some (Ok e) (allowed, made.0) made.1 in
       let named : e.name ≡ name = ap (λ (x : Entry). x.name) made.0 in
       let file : get (catalogue between) e.name ≡ Some e = ap (λ (m : Catalogue). get m e.name) files ∙ (ap (get (insert (catalogue image) name new)) named ∙ (get-put (catalogue image) name new ∙ ap Some (sym made.0))) in
@@ -103,7 +102,7 @@ module _ (image : List ℕ) (good : Good Narrow image) (name : List ℕ) (is_nam
       let same : between ≡ reused image k.0 to.0 name program = subst (λ (o : Option ℕ). IfSome o (λ to. between ≡ reused image k.0 to name program)) to.1 one in
       let files : catalogue between ≡ insert (remove (catalogue image) old) name new =
       ap catalogue same ∙ catalogue-reused image good old k.0 at name is_name.0 is_name.1 ready.alone to.0 ready.low ready.high ready.vacant ready.clear program in
-      let good_now : Good Narrow between = subst (Good Narrow) (sym same) (reused_good image good old k.0 at name is_name.0 is_name.1 ready.alone to.0 ready.low ready.high ready.vacant ready.clear program) in
+      let good_now : IsGood between = subst (λ (q : List ℕ). IsGood q) (sym same) (reused_good image good old k.0 at name is_name.0 is_name.1 ready.alone to.0 ready.low ready.high ready.vacant ready.clear program) in
       let is : e ≡ new = subst (λ (o : Option Entry). IfSome o (λ was. e ≡ record was { name = name; live = true; program = program })) (get-at image good old k.0 at) made.0 in
       let stays = reused-stays image good old name is_name.0 is_name.1 program between (Ok e) (λ _. Unit {0}) (allowed, tt) made.1 in
       let named : e.name ≡ name = ap (λ (x : Entry). x.name) is in
@@ -145,7 +144,7 @@ legal-new : (addr : List ℕ) (old : Option (List ℕ)) (sectors : ℕ) (name : 
 legal-new addr None sectors name legal = (legal.1, λ is. legal.0)
 legal-new addr (Some old) sectors name legal = (legal, λ is. (let never : Some old ≡ None = is in cc))
 
-pub new-data : (image addr : List ℕ) (old : Option (List ℕ)) (sectors : ℕ) (name new : List ℕ) (slot : Slot) → Good Narrow image → IsLegal (access.DataNew addr old sectors name)
+pub new-data : (image addr : List ℕ) (old : Option (List ℕ)) (sectors : ℕ) (name new : List ℕ) (slot : Slot) → IsGood image → IsLegal (access.DataNew addr old sectors name)
     → new_opened image addr old sectors name ≡ Ok (new, slot) → IsNew image new addr old name slot
 new-data image addr old sectors name new slot good legal h =
     let (is_name, some) = legal-new addr old sectors name legal in
@@ -214,7 +213,7 @@ room-by image (Some old) name program count between e some allowed made =
     let parts = old-parts (get (catalogue image) old) (not (bytes_eq old name) && is_none (place image name)) first.1 in
     old-by image old name program count e (get (catalogue image) old) refl made.0 (then-none (reuse_refusal image old name) (size_refusal (get (catalogue image) old) count) allowed) parts.0
 
-pub program-keeps : (image : List ℕ) (old : Option (List ℕ)) (name : List ℕ) (lines : Lines) (new : List ℕ) → Good Narrow image → IsName name → program_saved image old name lines ≡ Ok new → Keeps image new (MadeOf old name)
+pub program-keeps : (image : List ℕ) (old : Option (List ℕ)) (name : List ℕ) (lines : Lines) (new : List ℕ) → IsGood image → IsName name → program_saved image old name lines ≡ Ok new → Keeps image new (MadeOf old name)
 program-keeps image old name lines new good is_name h =
     let saved = program-saves image old name lines new h in
     let sectors = program_sectors lines in
@@ -238,7 +237,7 @@ name-kept from name e there =
     let w = stands from name e there in
     ap (λ (x : Entry). x.name) w.1.is ∙ (entry-name from w.0 ∙ (Holds-from name (slot_row from w.0) w.1.at.held).same)
 
-copy-keeps : (from image : List ℕ) (e : Entry) → Good Narrow from → Good Narrow image → IsLiveFile from e → enter_refusal image e.name (all_sectors e) ≡ None → Keeps image (with_copy from image e) (λ q. e.name ≡ q)
+copy-keeps : (from image : List ℕ) (e : Entry) → IsGood from → IsGood image → IsLiveFile from e → enter_refusal image e.name (all_sectors e) ≡ None → Keeps image (with_copy from image e) (λ q. e.name ≡ q)
 copy-keeps from image e source good live allowed =
     let c = copied from image e source good live (enters image e.name (all_sectors e) allowed) in
     record {
@@ -258,7 +257,7 @@ live-by : (b : Bool) (o : Option ℕ) → (if not b then Some D82_NO_FILE else o
 live-by true o h = (refl, h)
 live-by false o h = cc
 
-moved-keeps : (from image name : List ℕ) (o : Option Entry) (new : List ℕ) → Good Narrow from → Good Narrow image → get (catalogue from) name ≡ o → entry_moved from o image ≡ Ok new → Keeps image new (λ q. name ≡ q)
+moved-keeps : (from image name : List ℕ) (o : Option Entry) (new : List ℕ) → IsGood from → IsGood image → get (catalogue from) name ≡ o → entry_moved from o image ≡ Ok new → Keeps image new (λ q. name ≡ q)
 moved-keeps from image name None new source good is h = cc
 moved-keeps from image name (Some e) new source good is h =
     let parts = allowed-ok (file_refusal (Some e) image) (Ok (with_copy from image e)) new h in
@@ -269,5 +268,5 @@ moved-keeps from image name (Some e) new source good is h =
     subst (λ (q : List ℕ). Keeps image q (λ q. name ≡ q)) (ok-same _ _ parts.1)
     (subst (λ (n : List ℕ). Keeps image (with_copy from image e) (λ q. n ≡ q)) named made)
 
-pub file-keeps : (from image name new : List ℕ) → Good Narrow from → Good Narrow image → entry_moved from (get (catalogue from) name) image ≡ Ok new → Keeps image new (λ q. name ≡ q)
+pub file-keeps : (from image name new : List ℕ) → IsGood from → IsGood image → entry_moved from (get (catalogue from) name) image ≡ Ok new → Keeps image new (λ q. name ≡ q)
 file-keeps from image name new source good h = moved-keeps from image name (get (catalogue from) name) new source good refl h

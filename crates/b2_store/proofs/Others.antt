@@ -7,8 +7,7 @@ use Rattle.std.proofs.lemmas.Bool.{true≢false}
 use Rattle.std.proofs.lemmas.Slice.Eq.{bytes_eq-Decides}
 use Rattle.b2_base.specs.declared.files.Slot.{Slot}
 use Rattle.b2_dec.specs.declared.values.Value.{Value}
-use Rattle.b2_platter.specs.declared.layout.Layout.TheVariants.{Narrow}
-use Rattle.b2_platter.specs.Checks.{Good}
+use Rattle.b2_platter.specs.Checks.{IsGood}
 use Rattle.b2_platter.specs.Edits.{put_from}
 use Rattle.b2_text.specs.Program.{TextState}
 use Rattle.b2_catalog.specs.declared.entry.Entry.{Entry}
@@ -55,7 +54,7 @@ same-some a b h = cc
 
 -- ---- what a change leaves of an image's files
 
-pub scratched-keeps : (image : List ℕ) → Good Narrow image → (name new : List ℕ) (o : Option ℕ) → slot_found image name ≡ o → scratched_image image o ≡ Ok new → Keeps image new (λ q. name ≡ q)
+pub scratched-keeps : (image : List ℕ) → IsGood image → (name new : List ℕ) (o : Option ℕ) → slot_found image name ≡ o → scratched_image image o ≡ Ok new → Keeps image new (λ q. name ≡ q)
 scratched-keeps image good name new None is h = cc
 scratched-keeps image good name new (Some k) is h = subst (λ (q : List ℕ). Keeps image q (λ q. name ≡ q)) (ok-same _ _ h) (scratch-keeps image good name k is)
 
@@ -70,7 +69,7 @@ file-some : (image : List ℕ) (slot : Slot) (n : ℕ) (o : Option Entry) → fi
 file-some image slot n None is h = cc
 file-some image slot n (Some e) is h = (e, is)
 
-pub saved-keeps : (image : List ℕ) (slot : Slot) (values : List Value) (m : Made ℕ) → Good Narrow image → IsLegal (access.DataSave slot values) → record_saved slot values image ≡ Ok m → Keeps image m.image (λ q. slot.name ≡ q)
+pub saved-keeps : (image : List ℕ) (slot : Slot) (values : List Value) (m : Made ℕ) → IsGood image → IsLegal (access.DataSave slot values) → record_saved slot values image ≡ Ok m → Keeps image m.image (λ q. slot.name ≡ q)
 saved-keeps image slot values m good legal h =
     let t = save-told slot values image m h in
     let count = length (record_of values) in
@@ -83,7 +82,7 @@ saved-keeps image slot values m good legal h =
     (subst (λ (n : List ℕ). Keeps image (put_from image slot.pos (record_of values)) (λ q. n ≡ q)) (slot-named image slot f.0 is)
     (put-keeps image f.0 slot.pos (record_of values) good (file-there image slot f.0 is) (record-long values legal.0) (omega (arith, start, low)) room))
 
-pub ended-keeps : (image : List ℕ) (slot : Slot) (m : Made ℕ) → Good Narrow image → slot.start ≤ slot.pos → file_ended slot image ≡ Ok m → Keeps image m.image (λ q. slot.name ≡ q)
+pub ended-keeps : (image : List ℕ) (slot : Slot) (m : Made ℕ) → IsGood image → slot.start ≤ slot.pos → file_ended slot image ≡ Ok m → Keeps image m.image (λ q. slot.name ≡ q)
 ended-keeps image slot m good low h =
     let t = end-told slot image (file_of image slot) m h in
     let is = file-parts image slot t.0 t.1 in
@@ -94,10 +93,10 @@ ended-keeps image slot m good low h =
 
 -- ---- on the platter of a store
 
-module _ (s : StoreState) (addr image : List ℕ) (e : Entry) (there : content s (object.Platter addr) ≡ Some image) (good : Good Narrow image) (file : get (catalogue image) e.name ≡ Some e) where
+module _ (s : StoreState) (addr image : List ℕ) (e : Entry) (there : content s (object.Platter addr) ≡ Some image) (good : IsGood image) (file : get (catalogue image) e.name ≡ Some e) where
   -- the file is on the platter still, as it was
   abbrev Left : StoreState → Type 0
-  Left t = (new : List ℕ) × (content t (object.Platter addr) ≡ Some new) × Good Narrow new × StaysAs image new e
+  Left t = (new : List ℕ) × (content t (object.Platter addr) ≡ Some new) × IsGood new × StaysAs image new e
 
   as-before : (t : StoreState) → content t (object.Platter addr) ≡ content s (object.Platter addr) → Left t
   as-before t same = (image, same ∙ there, good, record { file = file; sectors = λ n low high. refl })
@@ -213,10 +212,10 @@ other-files who a s addr image e legal all there file about = left s addr image 
 front-left : (image new : List ℕ) (e : Entry) (pos : ℕ) (records : List (List Value)) → pos ≤ e.end + 1 → StaysAs image new e → IsFront image e pos records → IsFront new e pos records
 front-left image new e pos records most k front = fills-same image new e.start pos records (λ n low high. k.sectors n low (omega (arith, high, most))) front
 
-file-left : (s t : StoreState) (addr image new : List ℕ) (e : Entry) → HasFile s addr e image → content t (object.Platter addr) ≡ Some new → Good Narrow new → StaysAs image new e → HasFile t addr e new
+file-left : (s t : StoreState) (addr image new : List ℕ) (e : Entry) → HasFile s addr e image → content t (object.Platter addr) ≡ Some new → IsGood new → StaysAs image new e → HasFile t addr e new
 file-left s t addr image new e file now good k = record { there = now; good = good; file = k.file; live = file.live; of_data = file.of_data }
 
-whole-left : (image new : List ℕ) (e : Entry) (records : List (List Value)) → Good Narrow image → get (catalogue image) e.name ≡ Some e → StaysAs image new e → IsWhole image e records → IsWhole new e records
+whole-left : (image new : List ℕ) (e : Entry) (records : List (List Value)) → IsGood image → get (catalogue image) e.name ≡ Some e → StaysAs image new e → IsWhole image e records → IsWhole new e records
 whole-left image new e records good file k w =
     let inside = in-image image e.name e good file in
     let used = inside.used in

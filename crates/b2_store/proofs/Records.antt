@@ -9,8 +9,7 @@ use Rattle.b2_base.specs.declared.files.Slot.{Slot}
 use Rattle.b2_dec.specs.declared.values.Kind.{Kind}
 use Rattle.b2_dec.specs.declared.values.Value.{Value}
 use Rattle.b2_dec.specs.declared.values.Value.TheVariants as value
-use Rattle.b2_platter.specs.declared.layout.Layout.TheVariants.{Narrow}
-use Rattle.b2_platter.specs.Checks.{Good}
+use Rattle.b2_platter.specs.Checks.{IsGood}
 use Rattle.b2_platter.specs.Edits.{put_from}
 use Rattle.b2_platter.specs.Image.{sector, sectors_at}
 use Rattle.b2_platter.proofs.SectorRuns.{AllLong}
@@ -31,7 +30,7 @@ use Rattle.b2_datafile.proofs.Fronts.{fills-more, long-groups}
 use Rattle.b2_datafile.proofs.FromFunctions.{place-goes, some-loaded}
 use Rattle.b2_datafile.proofs.Functions.{record-loaded}
 use Rattle.b2_datafile.proofs.Passing.{some-groups}
-use Rattle.b2_datafile.proofs.Saved.{saved, saved-files, saved-front, with_end-files, with_end-good, with_end-whole}
+use Rattle.b2_datafile.proofs.Saved.{saved, saved-good, saved-files, saved-front, with_end-files, with_end-good, with_end-whole}
 use Rattle.b2_access.specs.declared.accesses.Access.TheVariants as access
 use Rattle.b2_access.specs.declared.accesses.Answer.TheVariants as answer
 use Rattle.b2_access.specs.AccessRows.{loaded_answer, row}
@@ -83,7 +82,7 @@ record-is values short storable few = record-spelled values storable (sym (short
 pub record-long : (values : List Value) → list_all touching.is_short values ≡ true → AllLong (record_of values)
 record-long values short = long-groups (groups_of values) (parted-groups [] values refl (sym (short-all values) ∙ short))
 
-saves-at : (image : List ℕ) (slot : Slot) (e : Entry) (values : List Value) → Good Narrow image → get (catalogue image) e.name ≡ Some e → file_of image slot ≡ Some e → e.start ≤ slot.pos
+saves-at : (image : List ℕ) (slot : Slot) (e : Entry) (values : List Value) → IsGood image → get (catalogue image) e.name ≡ Some e → file_of image slot ≡ Some e → e.start ≤ slot.pos
     → list_all touching.is_short values ≡ true → AllStorable values → write_refusal (file_of image slot) slot.pos (length (record_of values)) ≡ None → SavesAt image e slot.pos values
 saves-at image slot e values good file is low short storable none =
     let room = allowed-room e slot.pos (length (record_of values)) (ap (λ (o : Option Entry). write_refusal o slot.pos (length (record_of values))) (sym is) ∙ none) in
@@ -107,7 +106,7 @@ saved-follow who slot values to s e records legal storable opens front told =
       put_from image slot.pos (record_of values),
       record {
         there = b.there ∙ ap Some new;
-        good = (saved image e slot.pos values at).good;
+        good = saved-good image e slot.pos values at;
         file = ap (λ (files : Catalogue). get files e.name) (saved-files image e slot.pos values at) ∙ file.file;
         live = file.live;
         of_data = file.of_data;
@@ -117,7 +116,7 @@ saved-follow who slot values to s e records legal storable opens front told =
 
 -- ---- an end mark
 
-pub ends-at : (image : List ℕ) (slot : Slot) (e : Entry) → Good Narrow image → get (catalogue image) e.name ≡ Some e → e.start ≤ slot.pos → write_refusal (Some e) slot.pos 1 ≡ None → EndsAt image e slot.pos
+pub ends-at : (image : List ℕ) (slot : Slot) (e : Entry) → IsGood image → get (catalogue image) e.name ≡ Some e → e.start ≤ slot.pos → write_refusal (Some e) slot.pos 1 ≡ None → EndsAt image e slot.pos
 ends-at image slot e good file low none = let room = (allowed-room e slot.pos 1 none).0 in record { good = good; file = file; low = low; high = omega (arith, room) }
 
 same-entry : (o : Option Entry) (e f : Entry) → o ≡ Some e → o ≡ Some f → f ≡ e

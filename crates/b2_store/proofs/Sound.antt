@@ -4,11 +4,13 @@ use Rattle.std.specs.Prelude.{nat_lt, if◌then◌else◌}
 use Rattle.std.specs.Option.{option_map}
 use Rattle.std.proofs.lemmas.Bool.{and_parts, leb-true, ltb-true}
 use Rattle.b2_base.specs.declared.codes.TheConstants.{P34_RANGE}
-use Rattle.b2_platter.specs.declared.layout.Layout.TheVariants.{Narrow}
-use Rattle.b2_platter.specs.Checks.{Good}
+use Rattle.b2_platter.specs.Layout.{layout_of}
+use Rattle.b2_platter.specs.Own.{sectors_of, end_of}
+use Rattle.b2_platter.specs.Checks.{IsGood}
 use Rattle.b2_platter.specs.Edits.{CanFormat, formatted}
-use Rattle.b2_platter.specs.Image.{catalogue_end, index_of, total_of}
+use Rattle.b2_platter.specs.Image.{index_of}
 use Rattle.b2_platter.proofs.Fresh.{formatted_good}
+use Rattle.b2_platter.proofs.Layouts.{own_good}
 use Rattle.b2_platter.proofs.Goodness.{Parts-of}
 use Rattle.b2_text.specs.Program.{TextState}
 use Rattle.b2_catalog.specs.declared.entry.Entry.{Entry}
@@ -54,42 +56,42 @@ kept-sound image new named sound k =
 ok-is : (a b : List ℕ) → ◌≡◌ {A = Result (List ℕ) ℕ} (Ok a) (Ok b) → a ≡ b
 ok-is a b h = cc
 
-can-by : (index end : ℕ) (image : List ℕ) → can_format index end image ≡ true → CanFormat Narrow image index end
+can-by : (index end : ℕ) (image : List ℕ) → can_format index end image ≡ true → CanFormat (layout_of image) image index end
 can-by index end image can =
     let one = and_parts _ _ can in
     let two = and_parts _ _ one.1 in
     let three = and_parts _ _ two.1 in
     let low : index ≤ end = leb-true _ _ three.0 in
-    let high : end < total_of Narrow image = ltb-true _ _ three.1 in
+    let high : end < sectors_of image = ltb-true _ _ three.1 in
     record { some = leb-true _ _ one.0; few = leb-true _ _ two.0; order = omega (arith, low); within = omega (arith, high) }
 
-formatted-sound : (image : List ℕ) (index end : ℕ) → Good Narrow image → CanFormat Narrow image index end → IsSound (formatted Narrow image index end)
+formatted-sound : (image : List ℕ) (index end : ℕ) → IsGood image → CanFormat (layout_of image) image index end → IsSound (formatted (layout_of image) image index end)
 formatted-sound image index end good can =
     let says = (formatted_head image index end good can).index in
     let few : index ≤ 255 = can.few in
-    (formatted_good Narrow image index end good can, omega (arith, says, few))
+    (own_good (layout_of image) _ (formatted_good (layout_of image) image index end good can), omega (arith, says, few))
 
 with-index-sound : (index end : ℕ) (image new : List ℕ) → IsSound image → with_index index end image ≡ Ok new → IsSound new
 with-index-sound index end image new sound h = by (can_format index end image) refl h
   where
-    by : (b : Bool) → can_format index end image ≡ b → (if b then Ok (formatted Narrow image index end) else Err P34_RANGE) ≡ Ok new → IsSound new
+    by : (b : Bool) → can_format index end image ≡ b → (if b then Ok (formatted (layout_of image) image index end) else Err P34_RANGE) ≡ Ok new → IsSound new
     by true is made = subst IsSound (ok-is _ _ made) (formatted-sound image index end sound.0 (can-by index end image is))
     by false is made = cc
 
 -- one to which all files of another are moved
 emptied-few : (image : List ℕ) → IsSound image → index_of (emptied image) ≤ 255
-emptied-few image sound = by (nat_lt (index_of image) (catalogue_end Narrow image)) refl
+emptied-few image sound = by (nat_lt (index_of image) (end_of image)) refl
   where
-    by : (b : Bool) → nat_lt (index_of image) (catalogue_end Narrow image) ≡ b → index_of (cond b (formatted Narrow image (index_of image) (catalogue_end Narrow image - 1)) image) ≤ 255
+    by : (b : Bool) → nat_lt (index_of image) (end_of image) ≡ b → index_of (cond b (formatted (layout_of image) image (index_of image) (end_of image - 1)) image) ≤ 255
     by true is =
-        let parts = Parts-of Narrow image sound.0 in
+        let parts = Parts-of (layout_of image) image sound.0 in
         let some = parts.some in
         let rest = parts.rest in
-        let room : index_of image < catalogue_end Narrow image = ltb-true _ _ is in
-        (formatted-sound image (index_of image) (catalogue_end Narrow image - 1) sound.0 (record { some = some; few = sound.1; order = omega (arith, room); within = omega (arith, room, rest) })).1
+        let room : index_of image < end_of image = ltb-true _ _ is in
+        (formatted-sound image (index_of image) (end_of image - 1) sound.0 (record { some = some; few = sound.1; order = omega (arith, room); within = omega (arith, room, rest) })).1
     by false is = sound.1
 
-copied-sound : (from : List ℕ) (source : Good Narrow from) (image : List ℕ) (files : List Entry) → Ready from image files → index_of image ≤ 255 → IsSound (with_copies from image files)
+copied-sound : (from : List ℕ) (source : IsGood from) (image : List ℕ) (files : List Entry) → Ready from image files → index_of image ≤ 255 → IsSound (with_copies from image files)
 copied-sound from source image [] r few = (r.good, few)
 copied-sound from source image (e ∷ files) r few =
     let same = (ready-copy from source image e files r).1.index in

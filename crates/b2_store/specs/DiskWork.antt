@@ -2,9 +2,10 @@
 use Rattle.std.specs.Prelude.{ℕ, ◌&&◌, ℤ, pos, neg_ℤ, Bool, nat_le, nat_lt, List, Result, Ok, Err, Option, Some, None, if◌then◌else◌}
 use Rattle.std.specs.FinMap.{get}
 use Rattle.b2_base.specs.declared.codes.TheConstants.{D82_NO_FILE, P34_RANGE}
-use Rattle.b2_platter.specs.declared.layout.Layout.TheVariants.{Narrow}
+use Rattle.b2_platter.specs.Layout.{layout_of}
+use Rattle.b2_platter.specs.Own.{sectors_of, end_of, next_of}
 use Rattle.b2_platter.specs.Edits.{formatted}
-use Rattle.b2_platter.specs.Image.{catalogue_end, index_of, next_free, row, total_of}
+use Rattle.b2_platter.specs.Image.{index_of, row}
 use Rattle.b2_catalog.specs.declared.entry.Entry.{Entry}
 use Rattle.b2_catalog.specs.Catalogue.{catalogue}
 use Rattle.b2_catalog.specs.Changes.{put_row, scratched_slot}
@@ -28,7 +29,7 @@ limits_of_file (Some e) = record { first = pos e.start; second = pos e.end; thir
 
 -- or the sectors of the index, the first sector after the catalogue and the next free one
 abbrev pub limits_of : Option (List ℕ) → List ℕ → FourNumbers
-limits_of None image = record { first = pos (index_of image); second = pos (catalogue_end Narrow image); third = pos (next_free Narrow image); fourth = pos 0 }
+limits_of None image = record { first = pos (index_of image); second = pos (end_of image); third = pos (next_of image); fourth = pos 0 }
 limits_of (Some name) image = limits_of_file (get (catalogue image) name)
 
 -- with the slot of a file scratched
@@ -38,10 +39,10 @@ scratched_image image (Some k) = Ok (put_row image k (scratched_slot (row image 
 
 -- with an empty index of 1 to 255 sectors, where the catalogue ends after it and on the platter
 abbrev pub can_format : ℕ → ℕ → List ℕ → Bool
-can_format index end image = nat_le 1 index && (nat_le index 255 && (nat_le index end && nat_lt end (total_of Narrow image)))
+can_format index end image = nat_le 1 index && (nat_le index 255 && (nat_le index end && nat_lt end (sectors_of image)))
 
 abbrev pub with_index : ℕ → ℕ → List ℕ → Result (List ℕ) ℕ
-with_index index end image = if can_format index end image then Ok (formatted Narrow image index end) else Err P34_RANGE
+with_index index end image = if can_format index end image then Ok (formatted (layout_of image) image index end) else Err P34_RANGE
 
 -- THE WORK OF DISKS
 abbrev pub disks : DiskWork

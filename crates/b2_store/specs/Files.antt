@@ -5,8 +5,7 @@ use Rattle.b2_base.specs.declared.files.By.{By}
 use Rattle.b2_base.specs.declared.files.Slot.{Slot}
 use Rattle.b2_dec.specs.declared.values.Kind.{Kind}
 use Rattle.b2_dec.specs.declared.values.Value.{Value}
-use Rattle.b2_platter.specs.declared.layout.Layout.TheVariants.{Narrow}
-use Rattle.b2_platter.specs.Checks.{Good}
+use Rattle.b2_platter.specs.Checks.{IsGood}
 use Rattle.b2_platter.specs.Image.{index_of, sector}
 use Rattle.b2_catalog.specs.declared.entry.Entry.{Entry}
 use Rattle.b2_catalog.specs.Catalogue.{catalogue}
@@ -27,11 +26,11 @@ use Rattle.b2_store.specs.DiskWork.{serves}
 
 -- each platter of a store is good
 abbrev pub AreGood : StoreState → Type 0
-AreGood s = HasImages (Good Narrow) s
+AreGood s = HasImages IsGood s
 
 -- and sound: good, with an index of at most 255 sectors, as one of bytes has
 abbrev pub IsSound : List ℕ → Type 0
-IsSound image = Good Narrow image × (index_of image ≤ 255)
+IsSound image = IsGood image × (index_of image ≤ 255)
 
 abbrev pub AreSound : StoreState → Type 0
 AreSound s = HasImages IsSound s
@@ -39,7 +38,7 @@ AreSound s = HasImages IsSound s
 -- a live data file stands on a listed platter
 pub record HasFile (s : StoreState) (addr : List ℕ) (e : Entry) (image : List ℕ) : Type 0 where
   pub there : content s (object.Platter addr) ≡ Some image
-  pub good : Good Narrow image
+  pub good : IsGood image
   pub file : get (catalogue image) e.name ≡ Some e
   pub live : e.live ≡ true
   pub of_data : e.program ≡ false
@@ -92,7 +91,7 @@ MovedPlacesGoOver =
 abbrev pub MadeFilesAreEmpty : Type 0
 MadeFilesAreEmpty =
     (who : ℕ) (addr : List ℕ) (old : Option (List ℕ)) (sectors : ℕ) (name image : List ℕ) (slot : Slot) (s : StoreState)
-    → IsLegal (access.DataNew addr old sectors name) → content s (object.Platter addr) ≡ Some image → Good Narrow image
+    → IsLegal (access.DataNew addr old sectors name) → content s (object.Platter addr) ≡ Some image → IsGood image
     → (serves s who (access.DataNew addr old sectors name)).answer ≡ answer.Opened slot
     → (e : Entry) × (slot ≡ opened addr e) × HasWhole (serves s who (access.DataNew addr old sectors name)).after addr e []
 
@@ -119,7 +118,7 @@ abbrev pub OtherFilesStay : Type 0
 OtherFilesStay =
     (who : ℕ) (a : Access) (s : StoreState) (addr image : List ℕ) (e : Entry)
     → IsLegal a → AreGood s → content s (object.Platter addr) ≡ Some image → get (catalogue image) e.name ≡ Some e → (IsAbout addr e.name a → ⊥)
-    → (new : List ℕ) × (content (serves s who a).after (object.Platter addr) ≡ Some new) × Good Narrow new × StaysAs image new e
+    → (new : List ℕ) × (content (serves s who a).after (object.Platter addr) ≡ Some new) × IsGood new × StaysAs image new e
 
 -- So its records stay, up to a place and up to its end mark.
 abbrev pub OtherRecordsStay : Type 0

@@ -1,8 +1,7 @@
 // What disks do with data files.
 ghost use Rattle.std.specs.Prelude.{◌≡◌, ◌≤◌, true, None, Ok, Err, IfOk, IfErr};
 ghost use Rattle.std.specs.List.{list_all};
-ghost use Rattle.b2_platter.specs.declared.layout.Layout.TheVariants.{Narrow};
-ghost use Rattle.b2_platter.specs.Checks.{Good};
+ghost use Rattle.b2_platter.specs.Checks.{IsGood};
 ghost use Rattle.b2_access.specs.AccessRows.{loaded_answer, no_file};
 ghost use Rattle.b2_access.specs.Touching.{is_short};
 ghost use Rattle.b2_store.specs.DiskWork.{disks};
@@ -127,7 +126,7 @@ pub fn load_record(
 pub fn skip_records(alloc: Global, p: &Platter, slot: &Slot, by: By) -> Result<Answer, NoMemory>
     requires { slot.now.start ≤ slot.now.pos }
     ensures value { IfOk result (λ answer. answer ≡ spec.moved_answer (disks.skip slot.now by p.now)) }
-    ensures good { Good Narrow p.now }
+    ensures good { IsGood p.now }
 {
     let _image = p.image();
     match skip(alloc, p, slot, by) {

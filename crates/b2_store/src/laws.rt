@@ -1,6 +1,5 @@
 //! What holds of the files on a store's platters: each law is the contract of a function without a body.
-ghost use Rattle.b2_platter.specs.declared.layout.Layout.TheVariants.{Narrow};
-ghost use Rattle.b2_platter.specs.Checks.{Good};
+ghost use Rattle.b2_platter.specs.Checks.{IsGood};
 ghost use Rattle.b2_access.specs.Fitting.{AnswersFit};
 ghost use Rattle.b2_access.specs.Serving.{itself};
 ghost use Rattle.b2_store.specs.DiskWork.{serves};
@@ -9,7 +8,7 @@ ghost use Rattle.b2_store.specs.Files.{EndedFilesAreWhole, LoadedRecordsFollow, 
 /// What is answered fits what was asked: a file that is opened stands on the disk that was asked for, no place is before the first
 /// sector of its file, and values are as many as were asked and of the asked kinds.
 pub fn law_answers_fit()
-    ensures { AnswersFit itself (Good Narrow) serves }
+    ensures { AnswersFit itself IsGood serves }
 {}
 
 /// A record that is saved at a place follows the records up to there.

@@ -30,7 +30,7 @@ const AREA: usize = 64;
 
 /// A platter with a file.
 fn with_file(alloc: Global) -> Result<Platter, NoMemory> {
-    let mut platter = Platter::blank(alloc, 64)?;
+    let mut platter = Platter::blank(alloc, 64, 1)?;
     let _entered = enter(&mut platter, Name8::of(b"DATA").unwrap(), false, 4);
     Ok(platter)
 }
@@ -70,7 +70,7 @@ fn two_platters(alloc: Global, platter: Platter) -> Result<Vec<Platter>, NoMemor
     ensures two { IfOk result (λ platters. length platters.items ≡ 2) }
 {
     let mut platters = Vec::new(alloc);
-    platters.push(Platter::blank(alloc, 64)?)?;
+    platters.push(Platter::blank(alloc, 64, 1)?)?;
     platters.push(platter)?;
     Ok(platters)
 }

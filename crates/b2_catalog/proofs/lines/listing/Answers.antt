@@ -1,6 +1,6 @@
 use Rattle.std.proofs.Common.{◌≡◌, ◌+◌, ◌-◌, ◌<◌, ◌++◌, ℕ, List, ap, ◌∙◌, sym, arith, append_assoc}
 use Rattle.std.specs.List.{flat_map, range_with_len}
-use Rattle.b2_platter.specs.declared.layout.Layout.TheVariants.{Narrow}
+use Rattle.b2_platter.specs.Layout.{layout_of}
 use Rattle.b2_platter.specs.Image.{index_of, slots_of}
 use Rattle.b2_platter.proofs.Ranges.{range-step}
 use Rattle.b2_platter.proofs.Goodness.{Parts-of}
@@ -15,7 +15,7 @@ joined f was now whole k n h so is =
     ∙ ap (λ (ks : List ℕ). was ++ flat_map f ks) (sym (range-step k n h)) ∙ so
 
 pub index-k-end-requires : goal.index-k-end-requires
-index-k-end-requires c = let parts = Parts-of Narrow c.args.p.now c.image.ensures.good in rw c.image.ensures.value (omega arith)
+index-k-end-requires c = let parts = Parts-of (layout_of c.args.p.now) c.args.p.now c.image.ensures.good in rw c.image.ensures.value (omega arith)
 
 pub loop-k-init : goal.loop-k-init
 unfolding listing_of

@@ -10,4 +10,4 @@ row-slot-requires c =
 
 pub sector-requires : goal.sector-requires
 sector-requires c =
-    rw (c.last_sector-end.ensures, c.row-slot.ensures, c.image.ensures.value) (FileSlot-from c.args.p.now (slot_name (row c.args.p.now c.args.k)) c.args.k c.image.ensures.good (record { low = c.requires.low; high = c.requires.high; held = has_name-from (slot_name (row c.args.p.now c.args.k)) (row c.args.p.now c.args.k) c.requires.entry refl })).within
+    rw (c.last_sector-end.ensures, c.layout-layout.ensures, c.row-slot.ensures, c.image.ensures.value) (FileSlot-from c.args.p.now (slot_name (row c.args.p.now c.args.k)) c.args.k c.image.ensures.good (record { low = c.requires.low; high = c.requires.high; held = has_name-from (slot_name (row c.args.p.now c.args.k)) (row c.args.p.now c.args.k) c.requires.entry refl })).within

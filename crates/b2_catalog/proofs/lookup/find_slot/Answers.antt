@@ -1,14 +1,14 @@
 use Rattle.std.proofs.Common.{arith, ◌∙◌}
-use Rattle.b2_platter.specs.declared.layout.Layout.TheVariants.{Narrow}
+use Rattle.b2_platter.specs.Layout.{layout_of}
 use Rattle.b2_platter.proofs.Goodness.{Parts-of}
 use Rattle.b2_catalog.proofs.Looking.{found_is_slot, held-from_found}
 use Rattle.b2_catalog.proofs.lookup.find_slot.Goals as goal
 
 pub slot_found-requires-clause-some : goal.slot_found-requires-clause-some
-slot_found-requires-clause-some g c = let parts = Parts-of Narrow c.args.p.now c.image.ensures.good in rw c.image.ensures.value parts.some
+slot_found-requires-clause-some g c = let parts = Parts-of (layout_of c.args.p.now) c.args.p.now c.image.ensures.good in rw c.image.ensures.value parts.some
 
 pub slot_found-requires-clause-room : goal.slot_found-requires-clause-room
-slot_found-requires-clause-room g c = let parts = Parts-of Narrow c.args.p.now c.image.ensures.good in rw c.image.ensures.value (omega (arith, parts.whole, parts.files, parts.free, parts.rest))
+slot_found-requires-clause-room g c = let parts = Parts-of (layout_of c.args.p.now) c.args.p.now c.image.ensures.good in rw c.image.ensures.value (omega (arith, parts.whole, parts.files, parts.free, parts.rest))
 
 pub returns-clause-slot : goal.returns-clause-slot
 returns-clause-slot g c =

@@ -1,9 +1,9 @@
-use Rattle.b2_datafile.proofs.Saved.{saved, saved-files}
+use Rattle.b2_datafile.proofs.Saved.{saved, saved-good, saved-files}
 use Rattle.b2_datafile.proofs.laws.saving_leaves_the_rest.Goals as goal
 
 pub returns : goal.returns
 returns c = record {
-  good = λ image e pos values s. (saved image e pos values s).good;
+  good = saved-good;
   files = saved-files;
   before = λ image e pos values k s h. (saved image e pos values s).before k h;
   after = λ image e pos values k s h. (saved image e pos values s).after k h;

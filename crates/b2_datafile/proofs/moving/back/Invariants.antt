@@ -1,6 +1,5 @@
 use Rattle.std.proofs.Common.{ℕ, ◌-◌, ◌≤◌}
-use Rattle.b2_platter.specs.declared.layout.Layout.TheVariants.{Narrow}
-use Rattle.b2_platter.specs.Image.{total_of}
+use Rattle.b2_platter.specs.Own.{sectors_of}
 use Rattle.b2_datafile.specs.Moving.{Behind, NoneBehind}
 use Rattle.b2_datafile.proofs.moving.back.Given as goal
 
@@ -9,5 +8,5 @@ abbrev pub invariant-loop-passed : goal.invariant-loop-passed
 invariant-loop-passed l = record {
   behind : (to : ℕ) → Behind l.p l.e (l.count - l._passed) l.pos to → Behind l.p l.e l.count l.from to;
   none : NoneBehind l.p l.e (l.count - l._passed) l.pos → NoneBehind l.p l.e l.count l.from;
-  within : l.pos ≤ total_of Narrow l.p;
+  within : l.pos ≤ sectors_of l.p;
 }

@@ -3,7 +3,7 @@ use Rattle.b2_record.specs.Writing.{record_of, sectors_left}
 use Rattle.b2_record.proofs.Groups.{left-some}
 use Rattle.b2_platter.specs.Edits.{put_from}
 use Rattle.b2_datafile.proofs.Writing.{put-next, drop-next, drop-all}
-use Rattle.b2_platter.proofs.DataSectors.{data-kept, good-kept}
+use Rattle.b2_platter.proofs.OwnSectors.{own-data, own-good}
 use Rattle.b2_datafile.proofs.saving.put_record.Goals as goal
 
 pub loop-k-init : goal.loop-k-init
@@ -34,8 +34,8 @@ loop-k-preserved c =
           left-some (c.loop-k.k + 1 + 1) c.put_next-rest.result.now some ∙ sym after
           );
       short = c.put_next-rest.ensures.short;
-      good = rw c.put_file.ensures (good-kept c.loop-k.p c.loop-k.invariant.good (c.args.at + c.loop-k.k) first c.put_next-rest.new.into c.put_next-rest.array_long);
-      own = λ n low high. rw c.put_file.ensures (data-kept c.loop-k.p c.loop-k.invariant.good (c.args.at + c.loop-k.k) first c.put_next-rest.new.into c.put_next-rest.array_long n ∙ c.loop-k.invariant.own n low high);
+      good = rw c.put_file.ensures (own-good c.loop-k.p c.loop-k.invariant.good (c.args.at + c.loop-k.k) first c.put_next-rest.new.into c.put_next-rest.array_long);
+      own = λ n low high. rw c.put_file.ensures (own-data c.loop-k.p c.loop-k.invariant.good (c.args.at + c.loop-k.k) first c.put_next-rest.new.into c.put_next-rest.array_long n ∙ c.loop-k.invariant.own n low high);
     }
 
 pub returns : goal.returns

@@ -1,6 +1,6 @@
 use Rattle.std.proofs.Common.{◌≡◌, ℕ, ◌+◌, ◌<◌, ◌≤◌, true, drop}
-use Rattle.b2_platter.specs.declared.layout.Layout.TheVariants.{Narrow}
-use Rattle.b2_platter.specs.Checks.{Good}
+use Rattle.b2_platter.specs.Layout.{layout_of}
+use Rattle.b2_platter.specs.Checks.{IsGood}
 use Rattle.b2_platter.specs.Edits.{is_data_sector, put_from}
 use Rattle.std.specs.List.{list_all}
 use Rattle.b2_record.specs.Items.{is_short}
@@ -12,8 +12,8 @@ use Rattle.b2_datafile.proofs.saving.put_record.Given as goal
 abbrev pub invariant-loop-k : goal.invariant-loop-k
 invariant-loop-k l = record {
   rest : put_from l.p (l.at + l.k) (drop l.k (record_of l.values)) ≡ put_from l.fn.p l.at (record_of l.values);
-  good : Good Narrow l.p;
+  good : IsGood l.p;
   next : l.k < l.count → sectors_from (l.k + 1) (groups_of l.rest) ≡ drop l.k (record_of l.values);
   short : list_all is_short l.rest ≡ true;
-  own : (n : ℕ) → l.at ≤ n → n < l.at + l.count → is_data_sector Narrow l.p n ≡ true;
+  own : (n : ℕ) → l.at ≤ n → n < l.at + l.count → is_data_sector (layout_of l.p) l.p n ≡ true;
 }

@@ -1,6 +1,6 @@
 use Rattle.std.proofs.Common.{◌≡◌, ◌∙◌, ◌+◌, ◌-◌, ℕ, List, Option, None, IfSome, refl, sym, ap, ap₂, subst, inl, inr, arith}
-use Rattle.b2_platter.specs.declared.layout.Layout.TheVariants.{Narrow}
-use Rattle.b2_platter.specs.Image.{next_free, sector}
+use Rattle.b2_platter.specs.Own.{next_of}
+use Rattle.b2_platter.specs.Image.{sector}
 use Rattle.b2_catalog.specs.declared.entry.Entry.{Entry}
 use Rattle.b2_catalog.specs.Calls.{enter_refusal, new_entry}
 use Rattle.b2_catalog.specs.Changes.{entered}
@@ -17,8 +17,8 @@ returns-in-Ok-clause-copied c =
     let allowed = subst (λ (n : ℕ). enter_refusal image e.name n ≡ None) c.all_sectors-sectors.ensures.value c.in-Ok.ensures.ok in
     let n = enters image e.name (all_sectors e) allowed in
     let made = c.in-Ok.ensures.made ∙ ap (new_entry image e.name e.program) c.all_sectors-sectors.ensures.value in
-    let start : c.in-Ok.new.start ≡ next_free Narrow image = ap (λ (f : Entry). f.start) made in
-    let end : c.in-Ok.new.end ≡ next_free Narrow image + (e.end - e.start) = (let last = ap (λ (f : Entry). f.end) made in omega (arith, last)) in
+    let start : c.in-Ok.new.start ≡ next_of image = ap (λ (f : Entry). f.start) made in
+    let end : c.in-Ok.new.end ≡ next_of image + (e.end - e.start) = (let last = ap (λ (f : Entry). f.end) made in omega (arith, last)) in
     let between : c.enter_copy.new.to ≡ entered image n.k e.name e.program (all_sectors e) =
     subst (λ (o : Option ℕ). IfSome o (λ k. c.enter_copy.new.to ≡ entered image k e.name e.program c.all_sectors-sectors.result)) n.place_is c.in-Ok.ensures.image
     ∙ ap (entered image n.k e.name e.program) c.all_sectors-sectors.ensures.value in

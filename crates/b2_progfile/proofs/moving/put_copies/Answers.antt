@@ -1,9 +1,8 @@
 use Rattle.std.proofs.Common.{◌≡◌, ℕ, ◌+◌, ◌-◌, ◌<◌, ◌∙◌, length, sym, ap, ap₂, arith}
-use Rattle.b2_platter.specs.declared.layout.Layout.TheVariants.{Narrow}
 use Rattle.b2_platter.specs.Image.{sectors_at}
-use Rattle.b2_platter.proofs.Goodness.{most_of_good}
+use Rattle.b2_platter.proofs.Layouts.{few_sectors}
 use Rattle.b2_platter.specs.Edits.{put_from}
-use Rattle.b2_platter.proofs.DataSectors.{data-kept, good-kept}
+use Rattle.b2_platter.proofs.OwnSectors.{own-data, own-good}
 use Rattle.b2_progfile.proofs.Copies.{sectors-next, sector-long}
 use Rattle.b2_progfile.proofs.moving.put_copies.Goals as goal
 
@@ -20,7 +19,7 @@ loop-k-init c =
 
 pub overflow_add-start : goal.overflow_add-start
 overflow_add-start c =
-    let most = most_of_good Narrow c.args.from.now c.image-source.ensures.good in
+    let most = few_sectors c.args.from.now c.image-source.ensures.good in
     omega (arith, most, c.requires.within, c.loop-k-test.true)
 
 pub put_file-requires : goal.put_file-requires
@@ -36,8 +35,8 @@ loop-k-preserved c =
     record {
       rest = rw (c.put_file.ensures, c.sector.ensures.value, place, there)
           (sym (ap (put_from c.loop-k.p (c.args.at + c.loop-k.k)) (sectors-next c.args.from.now (c.args.start + c.loop-k.k) c.loop-k.k c.args.count h)) ∙ c.loop-k.invariant.rest);
-      good = rw c.put_file.ensures (good-kept c.loop-k.p c.loop-k.invariant.good (c.args.at + c.loop-k.k) first c.sector.result.now long);
-      own = λ n low high. rw c.put_file.ensures (data-kept c.loop-k.p c.loop-k.invariant.good (c.args.at + c.loop-k.k) first c.sector.result.now long n ∙ c.loop-k.invariant.own n low high);
+      good = rw c.put_file.ensures (own-good c.loop-k.p c.loop-k.invariant.good (c.args.at + c.loop-k.k) first c.sector.result.now long);
+      own = λ n low high. rw c.put_file.ensures (own-data c.loop-k.p c.loop-k.invariant.good (c.args.at + c.loop-k.k) first c.sector.result.now long n ∙ c.loop-k.invariant.own n low high);
     }
 
 pub returns : goal.returns

@@ -1,15 +1,14 @@
 use Rattle.std.proofs.Common.{◌≡◌, ◌∙◌, ◌+◌, ◌-◌, ◌<◌, ◌++◌, ℕ, List, drop, refl, sym, ap, ap₂, subst, append_assoc, arith}
 use Rattle.b2_base.specs.Lexical.{first}
-use Rattle.b2_platter.specs.declared.layout.Layout.TheVariants.{Narrow}
 use Rattle.b2_platter.specs.Image.{sector, sectors_at}
-use Rattle.b2_platter.proofs.Goodness.{most_of_good}
+use Rattle.b2_platter.proofs.Layouts.{few_sectors}
 use Rattle.b2_progfile.specs.Programs.{AllPieces, held_bytes}
 use Rattle.b2_progfile.proofs.Copies.{sectors-next}
 use Rattle.b2_progfile.proofs.reading.held_bytes.Goals as goal
 
 pub overflow_add-at : goal.overflow_add-at
 overflow_add-at c =
-    let most = most_of_good Narrow c.args.p.now c.image-image.ensures.good in
+    let most = few_sectors c.args.p.now c.image-image.ensures.good in
     omega (arith, most, c.requires, c.loop-k-test.true)
 
 pub returns-then-first-ne-PIECE-clause-err : goal.returns-then-first-ne-PIECE-clause-err

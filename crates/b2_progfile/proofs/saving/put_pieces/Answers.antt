@@ -2,7 +2,7 @@ use Rattle.std.proofs.Common.{◌≡◌, ℕ, ◌+◌, ◌-◌, ◌<◌, ◌∙�
 use Rattle.std.specs.List.{range_with_len}
 use Rattle.b2_platter.specs.Edits.{put_from}
 use Rattle.b2_progfile.specs.Saving.{piece_at}
-use Rattle.b2_platter.proofs.DataSectors.{data-kept, good-kept}
+use Rattle.b2_platter.proofs.OwnSectors.{own-data, own-good}
 use Rattle.b2_progfile.proofs.Pieces.{pieces-next, piece-long}
 use Rattle.b2_progfile.proofs.saving.put_pieces.Goals as goal
 
@@ -30,8 +30,8 @@ loop-k-preserved c =
     record {
       rest = rw (c.put_file.ensures, c.piece_at.ensures, place)
           (sym (ap (put_from c.loop-k.p (c.args.at + c.loop-k.k)) (pieces-next c.args.bytes.now c.loop-k.k c.args.count h)) ∙ c.loop-k.invariant.rest);
-      good = rw c.put_file.ensures (good-kept c.loop-k.p c.loop-k.invariant.good (c.args.at + c.loop-k.k) first c.piece_at.result (ap length c.piece_at.ensures ∙ piece-long c.args.bytes.now c.loop-k.k));
-      own = λ n low high. rw c.put_file.ensures (data-kept c.loop-k.p c.loop-k.invariant.good (c.args.at + c.loop-k.k) first c.piece_at.result (ap length c.piece_at.ensures ∙ piece-long c.args.bytes.now c.loop-k.k) n ∙ c.loop-k.invariant.own n low high);
+      good = rw c.put_file.ensures (own-good c.loop-k.p c.loop-k.invariant.good (c.args.at + c.loop-k.k) first c.piece_at.result (ap length c.piece_at.ensures ∙ piece-long c.args.bytes.now c.loop-k.k));
+      own = λ n low high. rw c.put_file.ensures (own-data c.loop-k.p c.loop-k.invariant.good (c.args.at + c.loop-k.k) first c.piece_at.result (ap length c.piece_at.ensures ∙ piece-long c.args.bytes.now c.loop-k.k) n ∙ c.loop-k.invariant.own n low high);
     }
 
 pub returns : goal.returns
