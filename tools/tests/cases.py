@@ -30,6 +30,7 @@ class Case:
     parts: list = field(default_factory=list)       # an output, a place and the bytes that are to stand there
     kept: list = None                               # the outputs that are there, where that is said
     alone: list = field(default_factory=list)       # a list of partitions, and the outputs that are the same with these alone
+    part: list = field(default_factory=list)        # the outputs that are the same from the boot file and the log of a part
 
 
 class Malformed(Exception):
@@ -208,6 +209,8 @@ def read_word(case, word, text):
             case.parts.append((words[0], int(words[1]), bytes.fromhex(''.join(words[2:]))))
         case 'alone':
             case.alone.append((words[0], words[1:]))
+        case 'part':
+            case.part = words
         case _:
             raise Malformed(f'{case.place}: {word} {text}')
 

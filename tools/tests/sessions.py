@@ -38,6 +38,9 @@ WRONG_RUNS = [
     ('boot blanks\n= A run\nimage D11 16384 0:01\n', 'out.D11, byte 1: 02 and not 00'),
     ('boot shared\n= A run\n! rounds 1\n! front 1 2\n! type 1 PRINT 1\n! rounds 1\nalone 1 t01\n',
      "apart.t01, line 2: ':' and not ':READY'"),
+    ('boot one\n= A run\n! type 1 PRINT 1\n! rounds 1\npartlog<rounds 1\npartboot<quota = 20\npartboot<[[terminal]]\npartboot<number = 1\npartboot<front = 1\n'
+     'partboot<[[partition]]\npartboot<number = 1\npartboot<terminal = 1\npartboot<text = 8\npartboot<data = 8\npartboot<globals = 2\npart t01\n',
+     "part.t01, line 2: ':' and not ':PRINT 1'"),
 ]
 
 
@@ -149,19 +152,27 @@ def tell_images(program, folder, front):
     return told
 
 
-def tell_alone(program, case, folder):
-    """What is to be told of runs with a group alone: they show the same, and more than a prompt."""
-    told = []
-    for parts, names in case.alone:
-        status, _, said = start(program, ['alone', 'boot', 'log', 'apart', parts], folder)
-        if status != 0:
-            told.append(f'alone {parts}: status {status}: {said.decode("latin-1").strip()}')
-        for name in names:
-            common = bytes_of(folder / ('out.' + name)) or b''
-            told += compare('apart.' + name, bytes_of(folder / ('apart.' + name)), common)
-            if len(common) <= len(b'READY\n'):
-                told.append(f'out.{name} has nothing to compare')
+def tell_again(program, folder, words, front, names):
+    """What is to be told of another run: its outputs of these names are those of the first, and have more than a prompt."""
+    status, _, said = start(program, words, folder)
+    told = [f'{" ".join(words)}: status {status}: {said.decode("latin-1").strip()}'] if status != 0 else []
+    for name in names:
+        common = bytes_of(folder / ('out.' + name)) or b''
+        told += compare(f'{front}.{name}', bytes_of(folder / f'{front}.{name}'), common)
+        if len(common) <= len(b'READY\n'):
+            told.append(f'out.{name} has nothing to compare')
     return told
+
+
+def tell_alone(program, case, folder):
+    """What is to be told of runs with a group alone."""
+    return [line for parts, names in case.alone
+            for line in tell_again(program, folder, ['alone', 'boot', 'log', 'apart', parts], 'apart', names)]
+
+
+def tell_part(program, case, folder):
+    """What is to be told of the run of a part, from a boot file and a log of its own."""
+    return tell_again(program, folder, ['run', 'partboot', 'partlog', 'part'], 'part', case.part) if case.part else []
 
 
 def tell(program, case):
@@ -177,7 +188,7 @@ def tell(program, case):
         told = tell_status(case, status, put, said)
         if not told:
             told = tell_outputs(case, folder) + tell_names(case, folder, front) + tell_others(folder, case.files, front)
-        return told or tell_images(program, folder, front) or tell_alone(program, case, folder)
+        return told or tell_images(program, folder, front) or tell_alone(program, case, folder) or tell_part(program, case, folder)
 
 
 def check_itself(program):

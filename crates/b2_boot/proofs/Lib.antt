@@ -12,3 +12,4 @@ pub mod Events
 pub mod LogBounds
 pub mod FileBoots
 pub mod DrillLaws
+pub mod PartLaws

@@ -1,10 +1,11 @@
 -- What holds of every boot file and every log that pass their checks, and of a boot with a group alone, in words of its own.
-use Rattle.std.specs.Prelude.{◌≡◌, ℕ, ◌≤◌, Bool, true, List, Ok}
+use Rattle.std.specs.Prelude.{◌≡◌, ℕ, ◌≤◌, Bool, true, false, List, Ok}
 use Rattle.std.specs.List.{list_all}
-use Rattle.b2_boot.specs.Alone.{alone}
+use Rattle.b2_boot.specs.Alone.{alone, has_number, may_be_used, own_boot, own_log, part, stands_at}
 use Rattle.b2_boot.specs.Boots.{BootState, IsGood, boot_of}
 use Rattle.b2_boot.specs.Logs.{Events, granted_by, is_of_boot, log_of}
 use Rattle.b2_boot.specs.declared.log.Event.{Event}
+use Rattle.b2_boot.specs.declared.log.Event.TheVariants as event
 
 -- The boot of a file that passes its checks is good.
 abbrev pub BootsOfFilesAreGood : Type 0
@@ -21,3 +22,28 @@ LogsAreOfTheirBoot = (b : BootState) (bytes : List ℕ) (events : List Event) �
 -- To a group alone the same events grant no more.
 abbrev pub AloneGrantsNoMore : Type 0
 AloneGrantsNoMore = (group : ℕ → Bool) (b : BootState) (events : List Event) → granted_by (alone group b) events ≤ granted_by b events
+
+-- an event is at a terminal at which a partition of a boot stands, or of one that is there; rounds are of all that there are
+abbrev pub is_own : BootState → Event → Bool
+is_own b (event.Key t k) = stands_at b.partitions t
+is_own b (event.Front t p) = stands_at b.partitions t
+is_own b (event.Halt p) = has_number b.partitions p
+is_own b (event.Reset p) = has_number b.partitions p
+is_own b (event.Turn p n) = has_number b.partitions p
+is_own b (event.Rounds n) = false
+
+-- all of a boot and of a log is of members of a group that are there
+pub record HasNoMore (group : ℕ → Bool) (b : BootState) (log : List Event) : Type 0 where
+  pub members : list_all (λ p. group p.number) b.partitions ≡ true
+  pub terminals : list_all (λ t. stands_at b.partitions t.number) b.terminals ≡ true
+  pub platters : list_all (λ d. may_be_used b.partitions d.only) b.platters ≡ true
+  pub printers : list_all (λ d. may_be_used b.partitions d.only) b.printers ≡ true
+  pub events : list_all (is_own b) log ≡ true
+
+-- A group's own part has nothing of others.
+abbrev pub PartsHaveNoMore : Type 0
+PartsHaveNoMore = (group : ℕ → Bool) (b : BootState) (log : List Event) → HasNoMore group (part group b log).0 (part group b log).1
+
+-- And where a boot and a log have nothing of others they are their own part.
+abbrev pub PartsHaveNoLess : Type 0
+PartsHaveNoLess = (group : ℕ → Bool) (b : BootState) (log : List Event) → HasNoMore group b log → (own_boot b ≡ b) × (own_log b log ≡ log)

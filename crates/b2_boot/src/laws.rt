@@ -1,6 +1,6 @@
 //! What holds of every log and boot: each law is the contract of a function without a body.
 ghost use Rattle.b2_boot.specs.Drills.{DrillsAreGood, DrillsAreOfTheirBoot, DrillsGrantFew};
-ghost use Rattle.b2_boot.specs.Laws.{AloneGrantsNoMore, BootsOfFilesAreGood, LogsAreOfTheirBoot, LogsKeepToTheBound};
+ghost use Rattle.b2_boot.specs.Laws.{AloneGrantsNoMore, BootsOfFilesAreGood, LogsAreOfTheirBoot, LogsKeepToTheBound, PartsHaveNoLess, PartsHaveNoMore};
 
 /// The boot of a file that passes its checks is good.
 pub fn law_a_boot_of_a_file_is_good()
@@ -20,6 +20,14 @@ pub fn law_a_log_is_of_its_boot()
 /// To a group alone the same events grant no more.
 pub fn law_a_group_alone_is_granted_no_more()
     ensures { AloneGrantsNoMore }
+{}
+
+/// The own part of a group has nothing of others: its boot has members, terminals at which one of them stands, and devices that one of
+/// them may use, and its log events at these terminals and of these members, without rounds. A boot and a log of which all is so are
+/// their own part.
+pub fn law_a_part_is_what_is_own()
+    ensures no_more { PartsHaveNoMore }
+    ensures no_less { PartsHaveNoLess }
 {}
 
 /// The boot of each drill is good.

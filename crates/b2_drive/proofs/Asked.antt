@@ -7,7 +7,6 @@ use Rattle.b2_expr.specs.Answers.{◌>>=◌, TextAnswer, or_code}
 use Rattle.b2_expr.specs.Scope.{Context}
 use Rattle.b2_expr.specs.Value.{text}
 use Rattle.b2_access.specs.Causes.{terminal_of}
-use Rattle.b2_access.specs.Devices.{is_platter_for}
 use Rattle.b2_access.specs.Homes.{HomesIn, homes_of}
 use Rattle.b2_access.specs.OwnDevices.{ReachesListed}
 use Rattle.b2_access.specs.OwnTerminal.{NamesAlone}
@@ -42,16 +41,16 @@ module _ (F : Planned → Type 0) (d : DrivesSeen) (failed : (code : ℕ) → F 
   abbrev pub Asked : Result Access ℕ → Type 0
   Asked r = F (asks_or_fails r)
 
-  at_platter : (b : Bool) (a : List ℕ) (next : List ℕ → Result Access ℕ) → is_platter_for d.who a d.devices ≡ b → ((x : List ℕ) → is_platter_for d.who x d.devices ≡ true → Asked (next x))
+  at_platter : (b : Bool) (a : List ℕ) (next : List ℕ → Result Access ℕ) → d.listed a ≡ b → ((x : List ℕ) → d.listed x ≡ true → Asked (next x))
       → Asked ((if b then Ok a else Err P48_DEVICE) >>= next)
   at_platter true a next is h = h a is
   at_platter false a next is h = failed P48_DEVICE
 
-  pub after_platter : (o : Option (List ℕ)) (next : List ℕ → Result Access ℕ) → ((x : List ℕ) → is_platter_for d.who x d.devices ≡ true → Asked (next x)) → Asked (platter_used d o >>= next)
+  pub after_platter : (o : Option (List ℕ)) (next : List ℕ → Result Access ℕ) → ((x : List ℕ) → d.listed x ≡ true → Asked (next x)) → Asked (platter_used d o >>= next)
   after_platter None next h = failed P48_DEVICE
-  after_platter (Some a) next h = at_platter (is_platter_for d.who a d.devices) a next refl h
+  after_platter (Some a) next h = at_platter (d.listed a) a next refl h
 
-  pub after_drive : (t : Trees) (next : List ℕ → Result Access ℕ) → ((x : List ℕ) → is_platter_for d.who x d.devices ≡ true → Asked (next x)) → Asked (drive_used d t >>= next)
+  pub after_drive : (t : Trees) (next : List ℕ → Result Access ℕ) → ((x : List ℕ) → d.listed x ≡ true → Asked (next x)) → Asked (drive_used d t >>= next)
   after_drive t next h = after_platter (platter_meant (device_named t) d.selected) next h
 
   pub after_value : {A : Type 0} (r : Result A ℕ) (next : A → Result Access ℕ) → ((x : A) → Asked (next x)) → Asked (r >>= next)

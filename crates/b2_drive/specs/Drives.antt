@@ -1,5 +1,5 @@
 -- The drive of a statement: the platter that it names or else the one that is selected, which the partition must be free to use.
-use Rattle.std.specs.Prelude.{ℕ, ◌==◌, List, [], drop, Option, Some, None, Result, Ok, Err, if◌then◌else◌}
+use Rattle.std.specs.Prelude.{ℕ, Bool, ◌==◌, List, [], drop, Option, Some, None, Result, Ok, Err, if◌then◌else◌}
 use Rattle.b2_base.specs.Byte as byte
 use Rattle.b2_base.specs.Lexical.{first}
 use Rattle.b2_base.specs.declared.codes.TheConstants.{P48_DEVICE}
@@ -14,22 +14,28 @@ use Rattle.b2_access.specs.declared.devices.Device.{Device}
 use Rattle.b2_access.specs.declared.private.Private.{Private}
 use Rattle.b2_drive.specs.declared.drives.Drives.{Drives}
 
--- what a drive goes by: the devices that there are, the partition that asks, and the platter that it has selected
+-- the platters that a table lists for a partition
+abbrev pub platters_for : ℕ → List Device → List ℕ → Bool
+platters_for who devices a = is_platter_for who a devices
+
+-- what a drive goes by: which platters are listed for the partition that asks, and the one that it has selected
 pub record DrivesSeen : Type 0 where
-  pub devices : List Device
-  pub who : ℕ
+  pub listed : List ℕ → Bool
   pub selected : Option (List ℕ)
 
 abbrev pub drives_seen : Drives → DrivesSeen
-drives_seen d = record { devices = d.devices.now; who = d.who; selected = d.selected }
+drives_seen d = record { listed = platters_for d.who d.devices.now; selected = d.selected }
+
+abbrev pub drives_by : (List ℕ → Bool) → Private → DrivesSeen
+drives_by listed me = record { listed = listed; selected = me.disk }
 
 abbrev pub drives_of : List Device → Private → DrivesSeen
-drives_of devices me = record { devices = devices; who = me.part; selected = me.disk }
+drives_of devices me = drives_by (platters_for me.part devices) me
 
 -- a platter that the partition may use; P48 where none is meant, and where the table doesn't list it as such
 abbrev pub platter_used : DrivesSeen → Option (List ℕ) → Result (List ℕ) ℕ
 platter_used d None = Err P48_DEVICE
-platter_used d (Some a) = if is_platter_for d.who a d.devices then Ok a else Err P48_DEVICE
+platter_used d (Some a) = if d.listed a then Ok a else Err P48_DEVICE
 
 -- the address that a device is written with, and the one that a drive names after its `T/`; `T` alone names none
 abbrev pub address_in : Trees → List ℕ

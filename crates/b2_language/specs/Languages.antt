@@ -1,6 +1,7 @@
 -- A language: which rows are built, what their statements plan, and how they finish; and what it owes its machine.
 use Rattle.std.specs.Prelude.{◌≡◌, ℕ, Bool, List, false}
 use Rattle.b2_atom.specs.declared.rows.TheConstants as row
+use Rattle.b2_access.specs.Devices.{has_device}
 use Rattle.b2_access.specs.LeftAlone.{LeaveTheRest}
 use Rattle.b2_access.specs.Lending.{SeenLent}
 use Rattle.b2_access.specs.OpenFiles.{FinishesKeepOpenFiles, PlansKeepOpenFiles}
@@ -37,6 +38,16 @@ pub record AreLawful (ways : Ways) : Type 0 where
 -- And over the devices that there are: a statement of any row plans by the table, which lists what it asks for.
 abbrev pub AskForListed : (List Device → Ways) → Type 0
 AskForListed ways = (r : ℕ) → PlansListed (λ devices. (ways devices).plan r)
+
+-- two tables list the same platters and the same printers for a partition
+abbrev pub ListAlike : ℕ → List Device → List Device → Type 0
+ListAlike who ds es = (printer : Bool) (a : List ℕ) → has_device printer who a ds ≡ has_device printer who a es
+
+-- By that alone a statement of any row plans; which rows are built, and how a statement finishes, goes by no table.
+pub record GoByListed (ways : List Device → Ways) : Type 0 where
+  pub same_rows : (ds es : List Device) → (ways ds).built ≡ (ways es).built
+  pub plans_alike : (r : ℕ) (ds es : List Device) (me : Private) (s : SeenLent) → ListAlike me.part ds es → (ways ds).plan r me s ≡ (ways es).plan r me s
+  pub finishes_alike : (ds es : List Device) → (ways ds).finish ≡ (ways es).finish
 
 -- Where the files that a partition has open are on platters that are listed for it, at their first sectors or after them, a statement of
 -- any row leaves them so, as it plans, and as it finishes by an answer that fits an access to what is listed.

@@ -8,7 +8,7 @@ ghost use Rattle.b2_access.specs.Lending.{globals_lent, seen_lent};
 ghost use Rattle.b2_access.specs.Lead.{lead_seen};
 ghost use Rattle.b2_access.specs.Passing.{ChangesInPassing, Passes};
 ghost use Rattle.b2_vars.specs.Globals.{unreached};
-ghost use Rattle.b2_language.specs.Languages.{AreLawful, AskForListed, KeepOpenFiles, Ways};
+ghost use Rattle.b2_language.specs.Languages.{AreLawful, AskForListed, GoByListed, KeepOpenFiles, Ways};
 ghost use Rattle.b2_language.specs.Wanted.{names_globals};
 
 use b2_access::{Access, Answer, DeviceTable, Found, Lead, Lent, Outcome, Planned, Private};
@@ -111,6 +111,9 @@ pub trait Language {
 
     /// Its statements ask for devices that the table lists for their partition, and for no others.
     ghost asks_listed: { AskForListed ways };
+
+    /// They plan by what the table lists for their partition, and by nothing else of it.
+    ghost goes_by_listed: { GoByListed ways };
 
     /// They keep the files that are open on platters that the table lists for their partition, at their first sectors or after them.
     ghost keeps_open: { KeepOpenFiles ways };

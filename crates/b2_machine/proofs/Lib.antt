@@ -16,6 +16,7 @@ pub mod OwnRules
 pub mod StepTerminal
 pub mod StepPart
 pub mod StepDevices
+pub mod ByTable
 pub mod StepOutput
 pub mod AtOnce
 pub mod Begins

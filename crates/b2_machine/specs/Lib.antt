@@ -9,6 +9,7 @@ pub mod Keys
 pub mod Running
 pub mod Step
 pub mod Turn
+pub mod Tables
 pub mod Stays
 pub mod Advancing
 pub mod AtOnce

@@ -6,6 +6,7 @@ ghost use Rattle.b2_access.specs.declared.private.Private.{Private};
 ghost use Rattle.b2_machine.specs.Counting.{StepsCountOrEnd, UncountedStepsChangeNothing};
 ghost use Rattle.b2_machine.specs.OpenFiles.{StepsKeepOpenFiles};
 ghost use Rattle.b2_machine.specs.Step.{step};
+ghost use Rattle.b2_machine.specs.Tables.{StepsGoByListed, TurnsGoByListed};
 ghost use Rattle.b2_machine.specs.Touched.{StepsAreLocal, StepsAskAtTerminal, StepsAskForListed, StepsKeepPart, StepsLeadNames, StepsShowAtTerminal, StepsStayWithin};
 
 use b2_access::Shared;
@@ -52,6 +53,13 @@ pub fn law_a_step_shows_at_its_terminal<L: Language, S: Shared>()
 /// or for the terminal.
 pub fn law_a_step_asks_for_listed_devices<L: Language>()
     ensures { StepsAskForListed L.ways }
+{}
+
+/// A step and a turn go by what the table lists for their partition, and by nothing else of it: over two tables that list the same
+/// platters and the same printers for it they are the same.
+pub fn law_a_step_goes_by_what_is_listed<L: Language, S: Shared>()
+    ensures steps { StepsGoByListed L.ways S.store S.serving S.lending }
+    ensures turns { TurnsGoByListed L.ways S.store S.serving S.lending }
 {}
 
 /// Where each file that a partition has open is on a platter that the table lists for it, at its first sector or after it, that is so after

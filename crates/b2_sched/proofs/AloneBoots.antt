@@ -79,7 +79,7 @@ module _ (g : Group) (p : ℕ) where
       by true e later found = subst (λ (you : Private). IsWithin g you) (is_it (private_row x).1 me found) (record { part = is_member e; place = first_unit x.number (starting_line x.program) (is_member e); kept = tt; frames = tt })
       by false e later found = later found
 
-in_group : (b : Bool) → (b ≡ false → ⊥) → b ≡ true
+pub in_group : (b : Bool) → (b ≡ false → ⊥) → b ≡ true
 in_group true out = refl
 in_group false out = absurd (out refl)
 
@@ -97,7 +97,7 @@ held_by_nobody p e = cc
 pub starts_alike : (g : Group) (b : BootState) (images : Images) → WorldsAlike (IsOutside g) g [] (booted b images) (booted (alone g b) images)
 starts_alike g b images = record {
   quota = refl;
-  devices = refl;
+  devices = λ p member printer a. refl;
   privates = record {
     members = λ p member. of_member g p (λ x. (private_row x).1) b.partitions member;
     absent = λ p out. of_another g p (λ x. (private_row x).1) b.partitions out;

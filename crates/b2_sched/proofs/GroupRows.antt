@@ -44,7 +44,7 @@ pub row_holds : (P : Private → Type 0) (q p : ℕ) (x : Private) (xs : List (�
 row_holds P q p x xs holds held me is = row_comes P q p x xs holds (λ apart. held) me is
 
 module _ (g : Group) where
-  is_another : (p q : ℕ) → g p ≡ false → g q ≡ true → q ≢ p
+  pub is_another : (p q : ℕ) → g p ≡ false → g q ≡ true → q ≢ p
   is_another p q out member is = true≢false (sym member ∙ ap g is ∙ out)
 
   -- one in both worlds

@@ -10,7 +10,7 @@ use Rattle.b2_access.proofs.RowLaws.{either_left, either_right}
 use Rattle.b2_access.specs.AccessRows.{holder_at, reach}
 use Rattle.b2_access.specs.Borrowers.{is_inside}
 use Rattle.b2_access.specs.Objects.{Decided}
-use Rattle.b2_access.specs.Reach.{DevicePart, DeviceReach, HoldFreed, HoldTaken, WithPlatter, WithPrinter, Reach, borrows, device_objects, entered_objects, objects_reached, part_objects, terminal_objects, text_objects, variable_objects}
+use Rattle.b2_access.specs.Reach.{Reach, borrows, device_objects, entered_objects, objects_reached, terminal_objects, text_objects, variable_objects}
 use Rattle.b2_access.specs.Serving.{itself}
 use Rattle.b2_store.specs.DiskWork.{disks, serves}
 use Rattle.b2_access.specs.Store.{StoreState, IsIn, content}
@@ -40,71 +40,72 @@ use Rattle.b2_sched.proofs.AskedHomes.{HomesIfAny, asks_within}
 use Rattle.b2_sched.proofs.Numbers.{same_as_itself}
 use Rattle.b2_sched.proofs.Reaching.{Covers, MayIfAny, holder_led, stepped}
 
--- Which objects may be left out: none that a member can come to. A partition comes to what is its own, to terminals, devices and
--- names, and to what belongs to other members.
+-- Which objects may be left out: none that a member can come to. A partition comes to what is its own, to names, and to what belongs to
+-- other members; and to the terminals and the devices that it asks for.
 pub record IsOut (g : Group) (out : Object → Type 0) : Type 0 where
   pub texts : (p : ℕ) → g p ≡ true → out (object.Text p) → ⊥
   pub borrowers : (p : ℕ) → g p ≡ true → out (object.Borrow p) → ⊥
   pub variables : (p : ℕ) → g p ≡ true → out (object.Globals p) → ⊥
-  pub terminals : (t : ℕ) → out (object.Terminal t) → ⊥
-  pub holds : (a : List ℕ) → out (object.Hog a) → ⊥
-  pub platters : (a : List ℕ) → out (object.Platter a) → ⊥
-  pub printers : (a : List ℕ) → out (object.Printer a) → ⊥
   pub names : (n : List ℕ) → out (object.Name n) → ⊥
+
+-- what an access reaches of terminals and devices isn't left out, where one is asked for
+abbrev pub AreInside : (Object → Type 0) → List Object → Type 0
+AreInside out os = (o : Object) → IsIn o os → out o → ⊥
+
+abbrev pub AsksInside : (Object → Type 0) → Access → Type 0
+AsksInside out a = AreInside out (terminal_objects (reach a).terminal) × AreInside out (device_objects (reach a).devices)
+
+abbrev pub InsideIfAny : (Object → Type 0) → Option Access → Type 0
+InsideIfAny out None = Unit {0}
+InsideIfAny out (Some a) = AsksInside out a
+
+-- what holds of members, so that they ask for nothing that is left out; and a step leaves it so
+pub record StayFit (devices : List Device) (out : Object → Type 0) (Fit : Private → Type 0) : Type 0 where
+  pub asks : (me : Private) (s : StoreState) → Fit me → InsideIfAny out (asking (basic devices) me s)
+  pub next : (me : Private) (s : StoreState) → Fit me → Fit (step_of devices me s).me
+
+pub none_inside : (out : Object → Type 0) → AreInside out []
+none_inside out o i = absurd i
+
+pub one_inside : (out : Object → Type 0) (x : Object) (xs : List Object) → (out x → ⊥) → AreInside out xs → AreInside out (x ∷ xs)
+one_inside out x xs h k o i = elim i [ inl e ↦ subst (λ (y : Object). out y → ⊥) (sym e) h | inr j ↦ k o j ]
+
+pub both_inside : (out : Object → Type 0) (xs ys : List Object) → AreInside out xs → AreInside out ys → AreInside out (xs ++ ys)
+both_inside out xs ys h k o i = elim (split o xs ys i) [ inl j ↦ h o j | inr j ↦ k o j ]
 
 module _ (g : Group) (out : Object → Type 0) (is_out : IsOut g out) where
   abbrev IsInside : Object → Type 0
   IsInside o = out o → ⊥
 
-  abbrev AreInside : List Object → Type 0
-  AreInside os = (o : Object) → IsIn o os → IsInside o
+  none_in : AreInside out []
+  none_in = none_inside out
 
-  none_in : AreInside []
-  none_in o i = absurd i
+  one_in : (x : Object) (xs : List Object) → IsInside x → AreInside out xs → AreInside out (x ∷ xs)
+  one_in = one_inside out
 
-  one_in : (x : Object) (xs : List Object) → IsInside x → AreInside xs → AreInside (x ∷ xs)
-  one_in x xs h k o i = elim i [ inl e ↦ subst IsInside (sym e) h | inr j ↦ k o j ]
+  both_in : (xs ys : List Object) → AreInside out xs → AreInside out ys → AreInside out (xs ++ ys)
+  both_in = both_inside out
 
-  both_in : (xs ys : List Object) → AreInside xs → AreInside ys → AreInside (xs ++ ys)
-  both_in xs ys h k o i = elim (split o xs ys i) [ inl j ↦ h o j | inr j ↦ k o j ]
-
-  terminal_in : (term : Option ℕ) → AreInside (terminal_objects term)
-  terminal_in None = none_in
-  terminal_in (Some t) = one_in (object.Terminal t) [] (is_out.terminals t) none_in
-
-  text_in : (who : ℕ) (used : TextUse) → g who ≡ true → AreInside (text_objects who used)
+  text_in : (who : ℕ) (used : TextUse) → g who ≡ true → AreInside out (text_objects who used)
   text_in who text.Unused member = none_in
   text_in who text.Read member = one_in (object.Text who) [] (is_out.texts who member) none_in
   text_in who text.Edited member = one_in (object.Borrow who) (object.Text who ∷ []) (is_out.borrowers who member) (one_in (object.Text who) [] (is_out.texts who member) none_in)
 
-  variables_in : (who : ℕ) (b : Bool) → g who ≡ true → AreInside (variable_objects who b)
+  variables_in : (who : ℕ) (b : Bool) → g who ≡ true → AreInside out (variable_objects who b)
   variables_in who true member = one_in (object.Globals who) [] (is_out.variables who member) none_in
   variables_in who false member = none_in
 
-  with_hog : (a : List ℕ) (os : List Object) → AreInside os → AreInside (object.Hog a ∷ os)
-  with_hog a os rest = one_in (object.Hog a) os (is_out.holds a) rest
-
-  part_in : (a : List ℕ) (p : DevicePart) → AreInside (part_objects a p)
-  part_in a HoldTaken = with_hog a [] none_in
-  part_in a HoldFreed = with_hog a [] none_in
-  part_in a WithPlatter = with_hog a (object.Platter a ∷ []) (one_in (object.Platter a) [] (is_out.platters a) none_in)
-  part_in a WithPrinter = with_hog a (object.Printer a ∷ []) (one_in (object.Printer a) [] (is_out.printers a) none_in)
-
-  devices_in : (ds : List DeviceReach) → AreInside (device_objects ds)
-  devices_in [] = none_in
-  devices_in (d ∷ ds) = both_in (part_objects d.address d.part) (device_objects ds) (part_in d.address d.part) (devices_in ds)
-
-  names_in : (ns : List (List ℕ)) → AreInside (map object.Name ns)
+  names_in : (ns : List (List ℕ)) → AreInside out (map object.Name ns)
   names_in [] = none_in
   names_in (n ∷ ns) = one_in (object.Name n) (map object.Name ns) (is_out.names n) (names_in ns)
 
-  borrows_in : (homes : List ℕ) → ((h : ℕ) → is_inside h homes ≡ true → g h ≡ true) → AreInside (borrows homes)
+  borrows_in : (homes : List ℕ) → ((h : ℕ) → is_inside h homes ≡ true → g h ≡ true) → AreInside out (borrows homes)
   borrows_in [] each = none_in
   borrows_in (h ∷ homes) each =
       one_in (object.Borrow h) (borrows homes) (is_out.borrowers h (each h (either_left (h == h) (is_inside h homes) (same_as_itself h))))
       (borrows_in homes (λ k there. each k (either_right (h == k) (is_inside k homes) there)))
 
-  entered_in : (name : Option (List ℕ)) (holder : Option ℕ) → ((p : ℕ) → holder ≡ Some p → g p ≡ true) → AreInside (entered_objects name holder)
+  entered_in : (name : Option (List ℕ)) (holder : Option ℕ) → ((p : ℕ) → holder ≡ Some p → g p ≡ true) → AreInside out (entered_objects name holder)
   entered_in None holder held = none_in
   entered_in (Some name) None held = one_in (object.Name name) [] (is_out.names name) none_in
   entered_in (Some name) (Some p) held =
@@ -112,29 +113,29 @@ module _ (g : Group) (out : Object → Type 0) (is_out : IsOut g out) where
       one_in (object.Name name) (object.Text p ∷ object.Borrow p ∷ []) (is_out.names name)
       (one_in (object.Text p) (object.Borrow p ∷ []) (is_out.texts p member) (one_in (object.Borrow p) [] (is_out.borrowers p member) none_in))
 
-  reached : (who : ℕ) (holder : Option ℕ) (r : Reach) → g who ≡ true → ((h : ℕ) → is_inside h r.borrowers ≡ true → g h ≡ true) → ((p : ℕ) → holder ≡ Some p → g p ≡ true) → AreInside (objects_reached who holder r)
-  reached who holder r member homes held =
-      both_in (terminal_objects r.terminal) _ (terminal_in r.terminal)
+  reached : (who : ℕ) (holder : Option ℕ) (r : Reach) → g who ≡ true → ((h : ℕ) → is_inside h r.borrowers ≡ true → g h ≡ true) → ((p : ℕ) → holder ≡ Some p → g p ≡ true) → AreInside out (terminal_objects r.terminal) → AreInside out (device_objects r.devices) → AreInside out (objects_reached who holder r)
+  reached who holder r member homes held terminal devices =
+      both_in (terminal_objects r.terminal) _ terminal
       (both_in (text_objects who r.text) _ (text_in who r.text member)
       (both_in (variable_objects who r.variables) _ (variables_in who r.variables member)
       (both_in (borrows r.borrowers) _ (borrows_in r.borrowers homes)
-      (both_in (device_objects r.devices) _ (devices_in r.devices)
+      (both_in (device_objects r.devices) _ devices
       (both_in (entered_objects r.entered holder) _ (entered_in r.entered holder held) (names_in r.names))))))
 
-  -- whatever a member asks for that marks members alone as homes
+  -- whatever a member asks for that marks members alone as homes, at terminals and devices that aren't left out
   abbrev OfMembers : ℕ → Access → Type 0
-  OfMembers who a = HomesIn g a
+  OfMembers who a = HomesIn g a × AsksInside out a
 
-  asked_of_members : (x : Option Access) (who : ℕ) → HomesIfAny g x → MayIfAny OfMembers who x
-  asked_of_members None who h = tt
-  asked_of_members (Some a) who h = h
+  asked_of_members : (x : Option Access) (who : ℕ) → HomesIfAny g x → InsideIfAny out x → MayIfAny OfMembers who x
+  asked_of_members None who h inside = tt
+  asked_of_members (Some a) who h inside = (h, inside)
 
   members_are_inside : Covers g OfMembers IsInside
   members_are_inside = record {
     texts = is_out.texts;
     variables = is_out.variables;
     names = is_out.names;
-    accesses = λ who a s member h led. reached who (holder_at a s) (reach a) member h (holder_led g who a s led);
+    accesses = λ who a s member h led. reached who (holder_at a s) (reach a) member h.0 (holder_led g who a s led) h.1.0 h.1.1;
   }
 
 module _ (devices : List Device) where
@@ -177,7 +178,7 @@ module _ (devices : List Device) where
         by None later = later
         by (Some why) later = refl
 
-    module _ (out : Object → Type 0) (is_out : IsOut g out) where
+    module _ (out : Object → Type 0) (is_out : IsOut g out) (Fit : Private → Type 0) (fit : StayFit devices out Fit) where
       -- A member's turn ends alike in both stores, where it touches nothing foul; it names members alone as homes, and names that aren't foul
       -- lead to members.
       pub record TurnsAlike (os : List Object) (x y : TurnEnd StoreState) : Type 0 where
@@ -185,16 +186,17 @@ module _ (devices : List Device) where
         pub objects : StoresAlike out os x.after y.after
         pub homes : IsWithin g x.me
         pub names : NamesLead g os x.after
+        pub fits : Fit x.me
 
       led : (me : Private) (s : StoreState) (os : List Object) → NamesLead g os s → AreApart (step_touched (basic devices) itself serves lends me s) os → TouchedNamesIn g (step_touched (basic devices) itself serves lends me s) s
       led me s os names apart n p i leads = names n p (λ f. apart (object.Name n) i f) leads
 
-      step_alike : (me : Private) (s t : StoreState) (os : List Object) → IsWithin g me → NamesLead g os s → StoresAlike out os s t → AreApart (step_touched (basic devices) itself serves lends me s) os
+      step_alike : (me : Private) (s t : StoreState) (os : List Object) → IsWithin g me → Fit me → NamesLead g os s → StoresAlike out os s t → AreApart (step_touched (basic devices) itself serves lends me s) os
           → GoesAlike itself (told (basic devices) itself serves lends me) (step (basic devices) itself serves lends me) s t
-      step_alike me s t os w names agree apart =
+      step_alike me s t os w fits names agree apart =
           let x = asking (basic devices) me s in
           let inside = stepped g (OfMembers g out is_out) (IsInside g out is_out) (members_are_inside g out is_out) (basic devices) me s w (led me s os names apart)
-          (asked_of_members g out is_out x me.part (asks_within (basic devices) (basic_is_lawful devices) g me s w)) in
+          (asked_of_members g out is_out x me.part (asks_within (basic devices) (basic_is_lawful devices) g me s w) (fit.asks me s fits)) in
           (local me).alike s t (λ o i. agree o (λ f. apart o i f) (inside o i))
 
       next_agree : (me : Private) (s t : StoreState) (os : List Object) → StoresAlike out os s t → GoesAlike itself (told (basic devices) itself serves lends me) (step (basic devices) itself serves lends me) s t
@@ -217,17 +219,17 @@ module _ (devices : List Device) where
           by (inl before) = names n p clear before
           by (inr own) = ap g own ∙ w.part
 
-      pub members_turn : (who n : ℕ) (me : Private) (s t : StoreState) (steps : ℕ) (os : List Object) → g who ≡ true → IsWithin g me → NamesLead g os s → StoresAlike out os s t
+      pub members_turn : (who n : ℕ) (me : Private) (s t : StoreState) (steps : ℕ) (os : List Object) → g who ≡ true → IsWithin g me → Fit me → NamesLead g os s → StoresAlike out os s t
           → CleanFrom g os (steps_in_turn devices who n me s) → TurnsAlike os (turn_on n me s steps) (turn_on n me t steps)
       unfolding turn_from steps_in_turn
-      members_turn who zero me s t steps os member w names agree clean = record { own = refl; objects = agree; homes = w; names = names }
-      members_turn who (suc n) me s t steps os member w names agree clean =
-          let later = members_turn who n (step_of devices me s).me (step_of devices me s).after (step_of devices me t).after (counted_on steps (step_of devices me s).end) os member next names_next agree_next in
+      members_turn who zero me s t steps os member w fits names agree clean = record { own = refl; objects = agree; homes = w; names = names; fits = fits }
+      members_turn who (suc n) me s t steps os member w fits names agree clean =
+          let later = members_turn who n (step_of devices me s).me (step_of devices me s).after (step_of devices me t).after (counted_on steps (step_of devices me s).end) os member next (fit.next me s fits) names_next agree_next in
           let by_me = subst (λ (z : Private). TurnsAlike os (goes_on n (step_of devices me s).end steps (step_of devices me s).me (step_of devices me s).after) (goes_on n (step_of devices me s).end steps z (step_of devices me t).after)) alike.own (by (step_of devices me s).end.why later rest) in
           subst (λ (e : Stepped). TurnsAlike os (goes_on n (step_of devices me s).end steps (step_of devices me s).me (step_of devices me s).after) (goes_on n e steps (step_of devices me t).me (step_of devices me t).after)) alike.end by_me
         where
           alike : GoesAlike itself (told (basic devices) itself serves lends me) (step (basic devices) itself serves lends me) s t
-          alike = step_alike me s t os w names agree (clean.0 member)
+          alike = step_alike me s t os w fits names agree (clean.0 member)
 
           next : IsWithin g (step_of devices me s).me
           next = next_homes me s os w names (clean.0 member)
@@ -247,4 +249,4 @@ module _ (devices : List Device) where
               → TurnsAlike os (unless_ended why (λ w. ended_turn (counted_on steps (step_of devices me s).end) w (step_of devices me s).me (step_of devices me s).after) (turn_on n (step_of devices me s).me (step_of devices me s).after (counted_on steps (step_of devices me s).end)))
               (unless_ended why (λ w. ended_turn (counted_on steps (step_of devices me s).end) w (step_of devices me s).me (step_of devices me t).after) (turn_on n (step_of devices me s).me (step_of devices me t).after (counted_on steps (step_of devices me s).end)))
           by None later c = later c
-          by (Some why) later c = record { own = refl; objects = agree_next; homes = next; names = names_next }
+          by (Some why) later c = record { own = refl; objects = agree_next; homes = next; names = names_next; fits = fit.next me s fits }

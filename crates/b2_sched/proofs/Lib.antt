@@ -28,6 +28,8 @@ pub mod KeptPlaces
 pub mod Granted
 pub mod ShownAtTerminals
 pub mod TouchedDevices
+pub mod PartBoots
+pub mod PartRuns
 pub mod StepEnds
 pub mod LegalSteps
 pub mod HeldSteps

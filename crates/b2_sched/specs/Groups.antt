@@ -8,6 +8,7 @@ use Rattle.b2_access.specs.Leading.{LeadsTo}
 use Rattle.b2_access.specs.Rows.{row_of}
 use Rattle.b2_access.specs.Store.{StoreState, IsIn, content}
 use Rattle.b2_audit.specs.Steps.{Step, Group, foul, IsClean}
+use Rattle.b2_language.specs.Languages.{ListAlike}
 use Rattle.b2_boot.specs.Alone.{alone}
 use Rattle.b2_boot.specs.Boots.{BootState}
 use Rattle.b2_boot.specs.declared.log.Event.{Event}
@@ -54,10 +55,10 @@ StoresAlike out dirty s t = (o : Object) → (IsIn o dirty → ⊥) → (out o �
 abbrev pub NamesLead : Group → List Object → StoreState → Type 0
 NamesLead g dirty s = (n : List ℕ) (p : ℕ) → (IsIn (object.Name n) dirty → ⊥) → LeadsTo s n p → g p ≡ true
 
--- THE INVARIANT of a world and that of a group alone, where some objects are foul
+-- THE INVARIANT of a world and that of a group alone, where some objects are foul: the tables of devices list the same for members
 pub record WorldsAlike (out : Object → Type 0) (g : Group) (dirty : List Object) (w v : WorldState) : Type 0 where
   pub quota : w.quota ≡ v.quota
-  pub devices : w.devices ≡ v.devices
+  pub devices : (p : ℕ) → g p ≡ true → ListAlike p w.devices v.devices
   pub privates : MembersAlike g w.privates v.privates
   pub stores : StoresAlike out dirty w.store v.store
   pub names : NamesLead g dirty w.store

@@ -11,19 +11,22 @@ use Rattle.b2_access.specs.Working.{Working, Ends, Plans, as_planned}
 use Rattle.b2_access.specs.declared.accesses.Access.{Access}
 use Rattle.b2_access.specs.declared.accesses.Answer.{Answer}
 use Rattle.b2_access.specs.declared.private.Private.{Private}
-use Rattle.b2_language.specs.Languages.{AreLawful, AskForListed, KeepOpenFiles}
+use Rattle.b2_language.specs.Languages.{AreLawful, AskForListed, GoByListed, KeepOpenFiles, ListAlike}
 use Rattle.b2_stmt.specs.Clearing.{asks_access}
 use Rattle.b2_stmt.specs.Plan as stmt
 use Rattle.b2_stmt.proofs.EachPlan.{each_plan}
 use Rattle.b2_stmt.proofs.LeftAlone as stmt_laws
 use Rattle.b2_stmt_device.specs.Plan as stmt_device
 use Rattle.b2_stmt_device.proofs.LeftAlone as stmt_device_laws
+use Rattle.b2_stmt_device.proofs.ByTable as stmt_device_table
 use Rattle.b2_stmt_device.proofs.Listed as stmt_device_listed
 use Rattle.b2_stmt_disk.specs.Plan as stmt_disk
 use Rattle.b2_stmt_disk.proofs.LeftAlone as stmt_disk_laws
+use Rattle.b2_stmt_disk.proofs.ByTable as stmt_disk_table
 use Rattle.b2_stmt_disk.proofs.Listed as stmt_disk_listed
 use Rattle.b2_stmt_file.specs.Plan as stmt_file
 use Rattle.b2_stmt_file.proofs.LeftAlone as stmt_file_laws
+use Rattle.b2_stmt_file.proofs.ByTable as stmt_file_table
 use Rattle.b2_stmt_file.proofs.Listed as stmt_file_listed
 use Rattle.b2_stmt_file.proofs.OpenFiles as stmt_file_open
 use Rattle.b2_stmt_io.specs.Plan as stmt_io
@@ -35,13 +38,14 @@ use Rattle.b2_stmt_pack.specs.Plan as stmt_pack
 use Rattle.b2_stmt_pack.proofs.LeftAlone as stmt_pack_laws
 use Rattle.b2_stmt_program.specs.Plan as stmt_program
 use Rattle.b2_stmt_program.proofs.LeftAlone as stmt_program_laws
+use Rattle.b2_stmt_program.proofs.ByTable as stmt_program_table
 use Rattle.b2_stmt_program.proofs.Listed as stmt_program_listed
 use Rattle.b2_stmt_var.specs.Plan as stmt_var
 use Rattle.b2_stmt_var.proofs.LeftAlone as stmt_var_laws
 use Rattle.b2_sched.specs.Choice.{basic, family_of, finish_by, is_at_once, is_built, plan_by}
 use Rattle.b2_sched.specs.KeptFiles as kept
 use Rattle.b2_sched.specs.Legal.{arrays_legally, control_legally, devices_legally, disks_legally, files_legally, packed_legally, programs_legally, terminal_legally, variables_legally}
-use Rattle.b2_sched.specs.Listed.{arrays_listed, control_listed, packed_listed, variables_listed}
+use Rattle.b2_sched.specs.Listed.{arrays_listed, control_listed, packed_listed, terminal_by_listed, variables_listed}
 use Rattle.b2_sched.specs.declared.choice.Family.{Family}
 use Rattle.b2_sched.specs.declared.choice.Family.TheVariants as family
 
@@ -124,6 +128,22 @@ plan_listed family.Disks = stmt_disk_listed.asked_are_listed
 
 pub basic_asks_for_listed : AskForListed basic
 basic_asks_for_listed r = plan_listed (family_of r)
+
+-- Over two tables that list the same for its partition a statement plans the same; four crates look at no table.
+plan_alike : (f : Family) (ds es : List Device) (me : Private) (s : SeenLent) → ListAlike me.part ds es → plan_by ds f me s ≡ plan_by es f me s
+plan_alike family.Variables ds es me s alike = refl
+plan_alike family.Control ds es me s alike = refl
+plan_alike family.Printing ds es me s alike = terminal_by_listed ds es me s (alike true)
+plan_alike family.Terminal ds es me s alike = terminal_by_listed ds es me s (alike true)
+plan_alike family.Arrays ds es me s alike = refl
+plan_alike family.Packed ds es me s alike = refl
+plan_alike family.Files ds es me s alike = stmt_file_table.by_table ds es me s (alike false)
+plan_alike family.Programs ds es me s alike = stmt_program_table.by_table ds es me s (alike false)
+plan_alike family.Devices ds es me s alike = stmt_device_table.by_table ds es me s alike
+plan_alike family.Disks ds es me s alike = stmt_disk_table.by_table ds es me s (alike false)
+
+pub basic_goes_by_listed : GoByListed basic
+basic_goes_by_listed = record { same_rows = λ ds es. refl; plans_alike = λ r. plan_alike (family_of r); finishes_alike = λ ds es. refl }
 
 -- Where files are open, they stay so.
 plan_open : (f : Family) → PlansKeepOpenFiles (λ devices. plan_by devices f)

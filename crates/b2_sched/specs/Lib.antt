@@ -11,6 +11,7 @@ pub mod EachStep
 pub mod Start
 pub mod Laws
 pub mod Groups
+pub mod Parts
 pub mod Devices
 pub mod Holding
 pub mod Inside

@@ -13,7 +13,7 @@ pub struct Basic;
 
 impl Language for Basic {
     ghost use Rattle.b2_sched.specs.Choice.{basic, is_at_once};
-    ghost use Rattle.b2_sched.specs.Lawful.{at_once_is_built, basic_asks_for_listed, basic_is_lawful, basic_keeps_open_files};
+    ghost use Rattle.b2_sched.specs.Lawful.{at_once_is_built, basic_asks_for_listed, basic_goes_by_listed, basic_is_lawful, basic_keeps_open_files};
 
     ghost ways = { basic };
 
@@ -132,6 +132,8 @@ impl Language for Basic {
     ghost lawful = { basic_is_lawful };
 
     ghost asks_listed = { basic_asks_for_listed };
+
+    ghost goes_by_listed = { basic_goes_by_listed };
 
     ghost keeps_open = { basic_keeps_open_files };
 }

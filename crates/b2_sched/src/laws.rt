@@ -11,6 +11,7 @@ ghost use Rattle.b2_sched.specs.Inside.{AreInsideAsEntered, StepsEnterAsSaid, Te
 ghost use Rattle.b2_sched.specs.Laws.{RunsByActions, LeavesOthers, KeepsPresent, RoundsAscend, CountsTurns, NoPlaceIsKept, RunsKeepToTheirGrant, TurnsCountAllButOne};
 ghost use Rattle.b2_sched.specs.Marking.{TurnsMarkTheirSteps};
 ghost use Rattle.b2_sched.specs.OpenFiles.{OpenFilesAreListed};
+ghost use Rattle.b2_sched.specs.Parts.{PartsAreEnough, PartsOfCleanGroupsAreEnough};
 ghost use Rattle.b2_sched.specs.Saving.{RunsSaveRecords, RunsSaveStorable, StepsSaveRecords, StepsSaveStorable, WorldsHoldNumbers};
 ghost use Rattle.b2_sched.specs.Sound.{RunsStaySound};
 ghost use Rattle.b2_sched.specs.Start.{CanStart};
@@ -65,6 +66,14 @@ pub fn law_a_clean_group_relies_on_its_own()
 /// contents, that they have in the world booted with the group alone under the same log. What belongs to others isn't compared.
 pub fn law_a_clean_group_is_as_alone()
     ensures { CleanGroupsAreAsAlone }
+{}
+
+/// The own part of a group is enough: after any log that can be run its partitions have the own states, and its terminals, its printers
+/// and its platters the contents, that they have after the part of boot and log that its partitions can come to. So it is where the
+/// group is alone, and for a clean group among others, but for what these wrote.
+pub fn law_the_own_part_is_enough()
+    ensures alone { PartsAreEnough }
+    ensures clean { PartsOfCleanGroupsAreEnough }
 {}
 
 /// No turn of a partition changes the text of another.

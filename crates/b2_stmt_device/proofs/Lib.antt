@@ -13,4 +13,5 @@ pub mod HeldLists
 pub mod HeldOnce
 pub mod LeftAlone
 pub mod Listed
+pub mod ByTable
 pub mod Legal

@@ -1,6 +1,6 @@
 -- What holds of statements that take and free devices, over any devices.
-use Rattle.std.specs.Prelude.{◌≡◌, true, List}
-use Rattle.b2_access.specs.Devices.{are_distinct}
+use Rattle.std.specs.Prelude.{◌≡◌, ℕ, true, Bool, List}
+use Rattle.b2_access.specs.Devices.{are_distinct, has_device}
 use Rattle.b2_access.specs.Lending.{SeenLent}
 use Rattle.b2_access.specs.LegalPlans.{PlansLegally}
 use Rattle.b2_access.specs.LeftAlone.{LeaveTheRest}
@@ -22,6 +22,11 @@ AskedDevicesAreListed = PlansListed plan
 -- and what they ask for may be asked for
 abbrev pub StatementsPlanLegally : Type 0
 StatementsPlanLegally = (devices : List Device) → PlansLegally (plan devices)
+
+-- and they plan by the devices that the table lists for their partition, and by nothing else of it
+abbrev pub StatementsPlanByListed : Type 0
+StatementsPlanByListed =
+    (ds es : List Device) (me : Private) (s : SeenLent) → ((printer : Bool) (a : List ℕ) → has_device printer me.part a ds ≡ has_device printer me.part a es) → plan ds me s ≡ plan es me s
 
 -- where a partition holds no device twice, it holds none twice after a statement has planned, and after it has finished
 abbrev pub HoldsOnce : Private → Type 0

@@ -1,5 +1,5 @@
 //! What holds of statements that take and free devices: the contracts of functions without a body.
-ghost use Rattle.b2_stmt_device.specs.Laws.{AskedDevicesAreListed, DevicesAreHeldOnce, StatementsLeaveTheRest, StatementsPlanLegally};
+ghost use Rattle.b2_stmt_device.specs.Laws.{AskedDevicesAreListed, DevicesAreHeldOnce, StatementsLeaveTheRest, StatementsPlanByListed, StatementsPlanLegally};
 
 /// A statement, as it plans over any devices and as it finishes, names no partition as a home, in a place, in a frame, where it
 /// leads or in what it asks for, but its own and those that were named before. It leaves the place of the partition, which moves
@@ -17,6 +17,12 @@ pub fn asked_devices_are_listed()
 /// What a statement asks for may be asked for.
 pub fn what_is_asked_is_legal()
     ensures { StatementsPlanLegally }
+{}
+
+/// What a statement plans follows from the devices that the table lists for its partition, by their kinds: over two tables that list the
+/// same, it plans the same.
+pub fn statements_plan_by_what_is_listed()
+    ensures { StatementsPlanByListed }
 {}
 
 /// Where the partition holds no device twice, it holds none twice after a statement has planned, and after it has finished.

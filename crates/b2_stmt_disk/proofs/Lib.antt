@@ -11,4 +11,5 @@ pub mod Waits
 pub mod Reached
 pub mod LeftAlone
 pub mod Listed
+pub mod ByTable
 pub mod Legal

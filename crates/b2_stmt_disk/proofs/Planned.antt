@@ -11,7 +11,6 @@ use Rattle.b2_expr.specs.Answers.{◌>>=◌}
 use Rattle.b2_expr.specs.Scope.{Context}
 use Rattle.b2_expr.specs.Value.{context_of}
 use Rattle.b2_expr.specs.Workspace.{work_in}
-use Rattle.b2_access.specs.Devices.{is_platter_for}
 use Rattle.b2_access.specs.Holding.{holders_changed}
 use Rattle.b2_access.specs.Lending.{SeenLent}
 use Rattle.b2_access.specs.Partition.{setting_of}
@@ -44,11 +43,14 @@ differ : (a b : List ℕ) → bytes_eq a b ≡ false → a ≢ b
 differ a b is same = absurd (true≢false (sym ((bytes_eq-Decides a b).1 same) ∙ is))
 
 -- what holds of each refusal, and of each access that fits and takes and frees no device
-module _ (F : Planned → Type 0) (d : DrivesSeen) (failed : (code : ℕ) → F (planned.Done (outcome.Failed code))) (asks : (a : Access) → Fits d.devices d.who a → holders_changed a ≡ [] → F (planned.Ask a)) where
+module _ (F : Planned → Type 0) (devices : List Device) (me : Private) (failed : (code : ℕ) → F (planned.Done (outcome.Failed code))) (asks : (a : Access) → Fits devices me.part a → holders_changed a ≡ [] → F (planned.Ask a)) where
+  abbrev d : DrivesSeen
+  d = drives_of devices me
+
   Asked : Result Access ℕ → Type 0
   Asked r = F (asks_or_fails r)
 
-  at_drive : (t : Trees) (next : List ℕ → Result Access ℕ) → ((x : List ℕ) → is_platter_for d.who x d.devices ≡ true → Asked (next x)) → Asked (drive_used d t >>= next)
+  at_drive : (t : Trees) (next : List ℕ → Result Access ℕ) → ((x : List ℕ) → d.listed x ≡ true → Asked (next x)) → Asked (drive_used d t >>= next)
   unfolding Asked
   at_drive t next h = after_drive F d failed t next h
 
@@ -56,7 +58,7 @@ module _ (F : Planned → Type 0) (d : DrivesSeen) (failed : (code : ℕ) → F 
   unfolding Asked
   at_value r next h = after_value F d failed r next h
 
-  at_platter : (o : Option (List ℕ)) (next : List ℕ → Result Access ℕ) → ((x : List ℕ) → is_platter_for d.who x d.devices ≡ true → Asked (next x)) → Asked (platter_used d (platter_meant o d.selected) >>= next)
+  at_platter : (o : Option (List ℕ)) (next : List ℕ → Result Access ℕ) → ((x : List ℕ) → d.listed x ≡ true → Asked (next x)) → Asked (platter_used d (platter_meant o d.selected) >>= next)
   unfolding Asked
   at_platter o next h = after_platter F d failed (platter_meant o d.selected) next h
 
@@ -88,7 +90,7 @@ module _ (F : Planned → Type 0) (d : DrivesSeen) (failed : (code : ℕ) → F 
   list_asked t = failed S23_DEVICE
 
   -- two platters that differ
-  apart_asked : (same : Bool) (a : List ℕ) (name : Option (List ℕ)) (b : List ℕ) → bytes_eq a b ≡ same → is_platter_for d.who a d.devices ≡ true → is_platter_for d.who b d.devices ≡ true
+  apart_asked : (same : Bool) (a : List ℕ) (name : Option (List ℕ)) (b : List ℕ) → bytes_eq a b ≡ same → d.listed a ≡ true → d.listed b ≡ true
       → Asked (if same then Err P34_RANGE else Ok (moves a name b))
   unfolding Asked
   apart_asked true a name b is listed also = failed P34_RANGE
@@ -126,7 +128,7 @@ module _ (devices : List Device) (me : Private) (s : SeenLent) (F : Planned → 
   unfolding Each
   each_statement u =
       either Each (u.row == row.SELECT_DISK) _ _ (each_selected (selects (drives_of devices me) u.tree))
-      (each_asked F (drives_of devices me) failed asks (context_of (work_in (setting_of me) s.home me.vars s.globals)) u.row u.tree)
+      (each_asked F devices me failed asks (context_of (work_in (setting_of me) s.home me.vars s.globals)) u.row u.tree)
 
   pub each_planned : F (planned_of (works devices me s))
   unfolding Each

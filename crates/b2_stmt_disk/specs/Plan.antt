@@ -20,7 +20,7 @@ use Rattle.b2_access.specs.declared.planned.Outcome.{Outcome}
 use Rattle.b2_access.specs.declared.planned.Outcome.TheVariants as outcome
 use Rattle.b2_access.specs.declared.private.Private.{Private}
 use Rattle.b2_drive.specs.Asking.{asks_or_fails, change_ends}
-use Rattle.b2_drive.specs.Drives.{DrivesSeen, drives_of, selects}
+use Rattle.b2_drive.specs.Drives.{DrivesSeen, drives_by, platters_for, selects}
 use Rattle.b2_stmt_disk.specs.Selecting.{selected}
 use Rattle.b2_stmt_disk.specs.Limits.{asks_limits, limits_end}
 use Rattle.b2_stmt_disk.specs.Listing.{asks_to_list, listing_ends}
@@ -42,20 +42,33 @@ asked_of d e r t =
     else Err S27_LEFT_OUT))))
 
 -- SELECT DISK ends at once; the others ask for an access
+abbrev pub course_by : (List ℕ → Bool) → Statement → Private → SeenLent → Working
+course_by listed u me s =
+    if u.row == row.SELECT_DISK then Ends (selected (selects (drives_by listed me) u.tree) me)
+    else Plans (asks_or_fails (asked_of (drives_by listed me) (context_of (work_in (setting_of me) s.home me.vars s.globals)) u.row u.tree))
+
+abbrev pub does_by : (List ℕ → Bool) → Private → SeenLent → Statement → Here → Working
+does_by listed me s u h = course_by listed u me s
+
+-- what the statement at a partition's place plans, by the platters that are listed for it
+abbrev pub works_by : (List ℕ → Bool) → Private → SeenLent → Working
+works_by listed me s = course is_refused stops (does_by listed me s) me.place me s
+
+abbrev pub plan_by : (List ℕ → Bool) → Private → SeenLent → Planning
+plan_by listed me s = plans_by (works_by listed) me s
+
+-- and so over the devices that there are
 abbrev pub course_of : List Device → Statement → Private → SeenLent → Working
-course_of devices u me s =
-    if u.row == row.SELECT_DISK then Ends (selected (selects (drives_of devices me) u.tree) me)
-    else Plans (asks_or_fails (asked_of (drives_of devices me) (context_of (work_in (setting_of me) s.home me.vars s.globals)) u.row u.tree))
+course_of devices u me s = course_by (platters_for me.part devices) u me s
 
 abbrev pub does : List Device → Private → SeenLent → Statement → Here → Working
 does devices me s u h = course_of devices u me s
 
--- what the statement at a partition's place plans, over the devices that there are
 abbrev pub works : List Device → Private → SeenLent → Working
-works devices me s = course is_refused stops (does devices me s) me.place me s
+works devices me s = works_by (platters_for me.part devices) me s
 
 abbrev pub plan : List Device → Private → SeenLent → Planning
-plan devices me s = plans_by (works devices) me s
+plan devices me s = plan_by (platters_for me.part devices) me s
 
 -- how a statement finishes by the answer to the access that it asked for, where it may stand
 abbrev pub ended_of : Statement → Access → Answer → Private → SeenLent → Worked

@@ -26,6 +26,7 @@ pub mod Reached
 pub mod OpenFiles
 pub mod LeftAlone
 pub mod Listed
+pub mod ByTable
 pub mod Legal
 pub mod Refusals
 pub mod Ended

@@ -63,15 +63,15 @@ SavesItems e a = Unit {0}
 
 -- what holds of each refusal, and of each access of a platter that may be used
 module _ (F : Planned → Type 0) (d : DrivesSeen) (e : Context) (failed : (code : ℕ) → F (planned.Done (outcome.Failed code)))
-    (asks : (addr : List ℕ) (a : Access) → is_platter_for d.who addr d.devices ≡ true → IsAtDisk addr a → IsLegal a → SavesItems e a → F (planned.Ask a)) where
+    (asks : (addr : List ℕ) (a : Access) → d.listed addr ≡ true → IsAtDisk addr a → IsLegal a → SavesItems e a → F (planned.Ask a)) where
   Asked : Result Access ℕ → Type 0
   Asked r = F (asks_or_fails r)
 
-  after_platter : (o : Option (List ℕ)) (next : List ℕ → Result Access ℕ) → ((x : List ℕ) → is_platter_for d.who x d.devices ≡ true → Asked (next x)) → Asked (platter_used d o >>= next)
+  after_platter : (o : Option (List ℕ)) (next : List ℕ → Result Access ℕ) → ((x : List ℕ) → d.listed x ≡ true → Asked (next x)) → Asked (platter_used d o >>= next)
   unfolding Asked
   after_platter o next h = asked.after_platter F d failed o next h
 
-  after_drive : (t : Trees) (next : List ℕ → Result Access ℕ) → ((x : List ℕ) → is_platter_for d.who x d.devices ≡ true → Asked (next x)) → Asked (drive_used d t >>= next)
+  after_drive : (t : Trees) (next : List ℕ → Result Access ℕ) → ((x : List ℕ) → d.listed x ≡ true → Asked (next x)) → Asked (drive_used d t >>= next)
   unfolding Asked
   after_drive t next h = asked.after_drive F d failed t next h
 
@@ -105,9 +105,9 @@ module _ (F : Planned → Type 0) (d : DrivesSeen) (e : Context) (failed : (code
 
   -- a file in a slot, whose place isn't before its first sector
   Used : Slot → Type 0
-  Used s = (is_platter_for d.who s.addr d.devices ≡ true) × (s.start ≤ s.pos)
+  Used s = (d.listed s.addr ≡ true) × (s.start ≤ s.pos)
 
-  listed_by : (b : Bool) (s : Slot) (next : Slot → Result Access ℕ) → is_platter_for d.who s.addr d.devices ≡ b → s.start ≤ s.pos → ((x : Slot) → Used x → Asked (next x))
+  listed_by : (b : Bool) (s : Slot) (next : Slot → Result Access ℕ) → d.listed s.addr ≡ b → s.start ≤ s.pos → ((x : Slot) → Used x → Asked (next x))
       → Asked ((if b then Ok s else Err P48_DEVICE) >>= next)
   unfolding Asked Used
   listed_by true s next is placed h = h s (is, placed)
@@ -116,7 +116,7 @@ module _ (F : Planned → Type 0) (d : DrivesSeen) (e : Context) (failed : (code
   held_by : (b : Bool) (s : Slot) (next : Slot → Result Access ℕ) → nat_le s.start s.pos ≡ b → ((x : Slot) → Used x → Asked (next x))
       → Asked (((if b then Ok s else Err D80_NOT_OPEN) >>= file_listed d) >>= next)
   unfolding Asked
-  held_by true s next is h = listed_by (is_platter_for d.who s.addr d.devices) s next refl (at_least s.start s.pos is) h
+  held_by true s next is h = listed_by (d.listed s.addr) s next refl (at_least s.start s.pos is) h
   held_by false s next is h = failed D80_NOT_OPEN
 
   after_held : (o : Option Slot) (next : Slot → Result Access ℕ) → ((x : Slot) → Used x → Asked (next x)) → Asked ((file_held o >>= file_listed d) >>= next)
@@ -134,20 +134,20 @@ module _ (F : Planned → Type 0) (d : DrivesSeen) (e : Context) (failed : (code
   after_values (Err code) next short h = failed code
 
   -- what opens
-  reuses_asked : (addr : List ℕ) (t name : Trees) → is_platter_for d.who addr d.devices ≡ true → Asked (reuses e addr t name)
+  reuses_asked : (addr : List ℕ) (t name : Trees) → d.listed addr ≡ true → Asked (reuses e addr t name)
   unfolding Asked
   reuses_asked addr (Put opening (In n old closing)) name listed =
       after_value (name_given e old) (λ o. name_given e name >>= (λ x. Ok (access.DataNew addr (Some o) 0 x)))
       (λ o. after_name name (λ x. Ok (access.DataNew addr (Some o) 0 x)) (λ x named. asks addr (access.DataNew addr (Some o) 0 x) listed refl named tt))
   reuses_asked addr t name listed = failed S18_ALPHA
 
-  makes_asked : (addr : List ℕ) (sectors name : Trees) → is_platter_for d.who addr d.devices ≡ true → Asked (makes e addr sectors name)
+  makes_asked : (addr : List ℕ) (sectors name : Trees) → d.listed addr ≡ true → Asked (makes e addr sectors name)
   unfolding Asked
   makes_asked addr sectors name listed =
       after_count 2 sectors (λ n. name_given e name >>= (λ x. Ok (access.DataNew addr None n x)))
       (λ n enough. after_name name (λ x. Ok (access.DataNew addr None n x)) (λ x named. asks addr (access.DataNew addr None n x) listed refl (enough, named) tt))
 
-  new_file_asked : (addr : List ℕ) (t : Trees) → is_platter_for d.who addr d.devices ≡ true → Asked (new_file e addr t)
+  new_file_asked : (addr : List ℕ) (t : Trees) → d.listed addr ≡ true → Asked (new_file e addr t)
   unfolding Asked
   new_file_asked addr (In k what (Put comma (In n name end))) listed = either Asked (k == 1) _ _ (reuses_asked addr what name listed) (makes_asked addr what name listed)
   new_file_asked addr t listed = failed S17_NUMERIC
@@ -157,7 +157,7 @@ module _ (F : Planned → Type 0) (d : DrivesSeen) (e : Context) (failed : (code
   new_asked (Put word (In n drive (In m slot file))) = after_drive drive (λ addr. new_file e addr file) (λ addr listed. new_file_asked addr file listed)
   new_asked t = failed S17_NUMERIC
 
-  old_file_asked : (addr : List ℕ) (t : Trees) → is_platter_for d.who addr d.devices ≡ true → Asked (old_file e addr t)
+  old_file_asked : (addr : List ℕ) (t : Trees) → d.listed addr ≡ true → Asked (old_file e addr t)
   unfolding Asked
   old_file_asked addr (In n name end) listed = after_value (name_given e name) (λ x. Ok (access.DataOpen addr x)) (λ x. asks addr (access.DataOpen addr x) listed refl tt tt)
   old_file_asked addr t listed = failed S18_ALPHA

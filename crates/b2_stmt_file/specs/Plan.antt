@@ -22,7 +22,7 @@ use Rattle.b2_access.specs.declared.planned.Outcome.{Outcome}
 use Rattle.b2_access.specs.declared.planned.Outcome.TheVariants as outcome
 use Rattle.b2_access.specs.declared.private.Private.{Private}
 use Rattle.b2_drive.specs.Asking.{asks_or_fails}
-use Rattle.b2_drive.specs.Drives.{DrivesSeen, drives_of}
+use Rattle.b2_drive.specs.Drives.{DrivesSeen, drives_by, platters_for}
 use Rattle.b2_stmt_file.specs.Coming.{by_place, file_ends}
 use Rattle.b2_stmt_file.specs.Ending.{if_end}
 use Rattle.b2_stmt_file.specs.Loading.{asks_to_load, loading_ends}
@@ -43,31 +43,47 @@ asked_of d slots e r t =
     else Err S27_LEFT_OUT)))
 
 -- what a statement asks for at a place, where one stands there
+abbrev pub asks_by : (List ℕ → Bool) → Statement → Private → SeenLent → Working
+asks_by listed u me s = Plans (asks_or_fails (asked_of (drives_by listed me) me.slots (context_of (work_in (setting_of me) s.home me.vars s.globals)) u.row u.tree))
+
 abbrev pub asks_for : List Device → Statement → Private → SeenLent → Working
-asks_for devices u me s = Plans (asks_or_fails (asked_of (drives_of devices me) me.slots (context_of (work_in (setting_of me) s.home me.vars s.globals)) u.row u.tree))
+asks_for devices u me s = asks_by (platters_for me.part devices) u me s
 
 abbrev pub asking : List Device → Private → SeenLent → Option Statement → Working
 asking devices me s None = stops outcome.Ready
 asking devices me s (Some u) = asks_for devices u me s
 
 -- IF END ends at once; the others ask for an access
+abbrev pub course_by : (List ℕ → Bool) → Statement → Here → Private → SeenLent → Working
+course_by listed u h me s = if u.row == row.IF_END then stops (if_end me.at_end h s.home.lines u.tree) else asks_by listed u me s
+
 abbrev pub course_of : List Device → Statement → Here → Private → SeenLent → Working
-course_of devices u h me s = if u.row == row.IF_END then stops (if_end me.at_end h s.home.lines u.tree) else asks_for devices u me s
+course_of devices u h me s = course_by (platters_for me.part devices) u h me s
 
 -- how IF END ends where it stands
 abbrev pub ended_there : Bool → Option Statement → Here → Lines → Option Outcome
 ended_there at_end None h lines = None
 ended_there at_end (Some u) h lines = if u.row == row.IF_END then Some (if_end at_end h lines u.tree) else None
 
+abbrev pub does_by : (List ℕ → Bool) → Private → SeenLent → Statement → Here → Working
+does_by listed me s u h = course_by listed u h me s
+
+-- what the statement at a partition's place plans, by the platters that are listed for it
+abbrev pub works_by : (List ℕ → Bool) → Private → SeenLent → Working
+works_by listed me s = course is_refused stops (does_by listed me s) me.place me s
+
+abbrev pub plan_by : (List ℕ → Bool) → Private → SeenLent → Planning
+plan_by listed me s = plans_by (works_by listed) me s
+
+-- and so over the devices that there are
 abbrev pub does : List Device → Private → SeenLent → Statement → Here → Working
 does devices me s u h = course_of devices u h me s
 
--- what the statement at a partition's place plans, over the devices that there are
 abbrev pub works : List Device → Private → SeenLent → Working
-works devices me s = course is_refused stops (does devices me s) me.place me s
+works devices me s = works_by (platters_for me.part devices) me s
 
 abbrev pub plan : List Device → Private → SeenLent → Planning
-plan devices me s = plans_by (works devices) me s
+plan devices me s = plan_by (platters_for me.part devices) me s
 
 -- how a statement finishes by the answer to the access that it asked for
 abbrev pub ended_of : Statement → Access → Answer → Private → SeenLent → FileWorked

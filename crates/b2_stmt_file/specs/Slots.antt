@@ -15,7 +15,6 @@ use Rattle.b2_atom.specs.declared.forms.Start.TheVariants as start
 use Rattle.b2_rows.specs.Rows.{tree_at}
 use Rattle.b2_rows.specs.Values.{slot_number}
 use Rattle.b2_expr.specs.Answers.{◌>>=◌}
-use Rattle.b2_access.specs.Devices.{is_platter_for}
 use Rattle.b2_drive.specs.Drives.{DrivesSeen}
 
 -- the number of the slot that is written, 0 where none is
@@ -37,7 +36,7 @@ file_held (Some s) = if nat_le s.start s.pos then Ok s else Err D80_NOT_OPEN
 
 -- its own platter must be one that the partition may use, else P48: the one that is selected isn't looked at
 abbrev pub file_listed : DrivesSeen → Slot → Result Slot ℕ
-file_listed d s = if is_platter_for d.who s.addr d.devices then Ok s else Err P48_DEVICE
+file_listed d s = if d.listed s.addr then Ok s else Err P48_DEVICE
 
 abbrev pub file_used : DrivesSeen → List (Option Slot) → ℕ → Result Slot ℕ
 file_used d slots n = file_held (get_or slots n None) >>= file_listed d

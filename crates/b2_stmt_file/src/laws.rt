@@ -1,5 +1,5 @@
 //! What holds of statements on data files, whatever they are: the contracts of functions without a body.
-ghost use Rattle.b2_stmt_file.specs.Laws.{AskedDevicesAreListed, OpenFilesStayOpen, StatementsLeaveTheRest, StatementsPlanLegally};
+ghost use Rattle.b2_stmt_file.specs.Laws.{AskedDevicesAreListed, OpenFilesStayOpen, StatementsLeaveTheRest, StatementsPlanByListed, StatementsPlanLegally};
 ghost use Rattle.b2_stmt_file.specs.SavedNumbers.{SavedNumbersAreNumbers};
 
 /// A statement, as it plans over any devices and as it finishes, names no partition as a home, in a place, in a frame, where it
@@ -18,6 +18,12 @@ pub fn asked_devices_are_listed()
 /// What a statement asks for may be asked for.
 pub fn what_is_asked_is_legal()
     ensures { StatementsPlanLegally }
+{}
+
+/// What a statement plans follows from the platters that the table lists for its partition: over two tables that list the same, it plans
+/// the same.
+pub fn statements_plan_by_what_is_listed()
+    ensures { StatementsPlanByListed }
 {}
 
 /// Where each file that the partition has open is on a platter that the table lists for it, and its place isn't before its first

@@ -9,4 +9,5 @@ pub mod Waits
 pub mod Reached
 pub mod LeftAlone
 pub mod Listed
+pub mod ByTable
 pub mod Legal

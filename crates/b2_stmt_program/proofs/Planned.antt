@@ -43,7 +43,10 @@ pub record FitsHere (devices : List Device) (who entered : ℕ) (a : Access) : T
   pub legal : IsLegal a
 
 -- what holds of each refusal, and of each access that fits and takes and frees no device
-module _ (F : Planned → Type 0) (d : DrivesSeen) (failed : (code : ℕ) → F (planned.Done (outcome.Failed code))) (homes : ℕ) (asks : (a : Access) → FitsHere d.devices d.who homes a → holders_changed a ≡ [] → F (planned.Ask a)) where
+module _ (F : Planned → Type 0) (devices : List Device) (me : Private) (failed : (code : ℕ) → F (planned.Done (outcome.Failed code))) (homes : ℕ) (asks : (a : Access) → FitsHere devices me.part homes a → holders_changed a ≡ [] → F (planned.Ask a)) where
+  abbrev d : DrivesSeen
+  d = drives_of devices me
+
   Asked : Result Access ℕ → Type 0
   Asked r = F (asks_or_fails r)
 
@@ -80,4 +83,4 @@ module _ (devices : List Device) (me : Private) (s : SeenLent) (F : Planned → 
   unfolding Each
   each_planned =
       each_course is_refused stops (does devices me s) me s Each ready (failed S26_PROGRAM_ONLY)
-      (λ p is u. each_asked F (drives_of devices me) failed (homes_entered me.stack) asks (context_of (work_in (setting_of me) s.home me.vars s.globals)) me.declared (is_some p.line) u.row u.tree)
+      (λ p is u. each_asked F devices me failed (homes_entered me.stack) asks (context_of (work_in (setting_of me) s.home me.vars s.globals)) me.declared (is_some p.line) u.row u.tree)

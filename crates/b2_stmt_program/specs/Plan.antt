@@ -21,7 +21,7 @@ use Rattle.b2_access.specs.declared.accesses.Answer.{Answer}
 use Rattle.b2_access.specs.declared.devices.Device.{Device}
 use Rattle.b2_access.specs.declared.private.Private.{Private}
 use Rattle.b2_drive.specs.Asking.{asks_or_fails, change_ends}
-use Rattle.b2_drive.specs.Drives.{DrivesSeen, drives_of}
+use Rattle.b2_drive.specs.Drives.{DrivesSeen, drives_by, platters_for}
 use Rattle.b2_stmt_program.specs.Loading.{asks_to_load, loading_ends, replacing}
 use Rattle.b2_stmt_program.specs.Saving.{asks_to_save}
 
@@ -36,16 +36,26 @@ asked_of d e declared homes program r t =
     else (if r == row.LOAD then asks_to_load d e declared homes program t
     else Err S27_LEFT_OUT)
 
-abbrev pub does : List Device → Private → SeenLent → Statement → Here → Working
-does devices me s u h =
-    Plans (asks_or_fails (asked_of (drives_of devices me) (context_of (work_in (setting_of me) s.home me.vars s.globals)) me.declared (homes_entered me.stack) (is_some h.place.line) u.row u.tree))
+abbrev pub does_by : (List ℕ → Bool) → Private → SeenLent → Statement → Here → Working
+does_by listed me s u h =
+    Plans (asks_or_fails (asked_of (drives_by listed me) (context_of (work_in (setting_of me) s.home me.vars s.globals)) me.declared (homes_entered me.stack) (is_some h.place.line) u.row u.tree))
 
--- what the statement at a partition's place plans, over the devices that there are
+-- what the statement at a partition's place plans, by the platters that are listed for it
+abbrev pub works_by : (List ℕ → Bool) → Private → SeenLent → Working
+works_by listed me s = course is_refused stops (does_by listed me s) me.place me s
+
+abbrev pub plan_by : (List ℕ → Bool) → Private → SeenLent → Planning
+plan_by listed me s = plans_by (works_by listed) me s
+
+-- and so over the devices that there are
+abbrev pub does : List Device → Private → SeenLent → Statement → Here → Working
+does devices me s u h = does_by (platters_for me.part devices) me s u h
+
 abbrev pub works : List Device → Private → SeenLent → Working
-works devices me s = course is_refused stops (does devices me s) me.place me s
+works devices me s = works_by (platters_for me.part devices) me s
 
 abbrev pub plan : List Device → Private → SeenLent → Planning
-plan devices me s = plans_by (works devices) me s
+plan devices me s = plan_by (platters_for me.part devices) me s
 
 -- how it finishes, by the access that it asked for and its answer, over the own text as it then is
 abbrev pub ended_by : Option Bool → Access → Answer → Lines → Private → Steered
