@@ -28,3 +28,4 @@ pub mod Passed
 pub mod Runs
 pub mod Onward
 pub mod Advances
+pub mod SeenTurns

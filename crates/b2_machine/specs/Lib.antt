@@ -16,3 +16,4 @@ pub mod AtOnce
 pub mod Touched
 pub mod OpenFiles
 pub mod Counting
+pub mod Seeing

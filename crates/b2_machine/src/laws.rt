@@ -5,6 +5,7 @@ ghost use Rattle.b2_access.specs.Partition.{KeepsNone};
 ghost use Rattle.b2_access.specs.declared.private.Private.{Private};
 ghost use Rattle.b2_machine.specs.Counting.{StepsCountOrEnd, UncountedStepsChangeNothing};
 ghost use Rattle.b2_machine.specs.OpenFiles.{StepsKeepOpenFiles};
+ghost use Rattle.b2_machine.specs.Seeing.{StepsAreSeen, TurnsAreSeen};
 ghost use Rattle.b2_machine.specs.Step.{step};
 ghost use Rattle.b2_machine.specs.Tables.{StepsGoByListed, TurnsGoByListed};
 ghost use Rattle.b2_machine.specs.Touched.{StepsAreLocal, StepsAskAtTerminal, StepsAskForListed, StepsKeepPart, StepsLeadNames, StepsShowAtTerminal, StepsStayWithin};
@@ -76,4 +77,11 @@ pub fn law_a_step_counts_or_ends_its_turn<L: Language, S: Shared>()
 /// A step that doesn't count has changed nothing of its partition, but that a halt which found it ready is forgotten.
 pub fn law_an_uncounted_step_changes_nothing<L: Language, S: Shared>()
     ensures { (devices : List Device) → UncountedStepsChangeNothing (L.ways devices) S.store S.serving S.lending }
+{}
+
+/// Over a store that is seen as another one, which serves and lends as that does, a step and a turn are, seen so, what they are over the
+/// other.
+pub fn law_a_turn_is_seen_as_over_another<L: Language, S: Shared, T: Shared>()
+    ensures steps { (devices : List Device) → StepsAreSeen S.store T.store S.serving T.serving S.lending T.lending (L.ways devices) }
+    ensures turns { (devices : List Device) → TurnsAreSeen S.store T.store S.serving T.serving S.lending T.lending (L.ways devices) }
 {}

@@ -5,7 +5,6 @@ ghost use Rattle.b2_base.specs.Seen.{shelf_seen};
 ghost use Rattle.b2_access.specs.declared.objects.Object.{Object};
 ghost use Rattle.b2_access.specs.Store.{content};
 ghost use Rattle.b2_sched.specs.Start.{platter_addresses, printer_addresses};
-ghost use Rattle.b2_store.specs.Meaning.{store_of};
 ghost use Rattle.b2_mvp.specs.Outputs as spec;
 
 use crate::parts::add_list;
@@ -13,11 +12,15 @@ use b2_base::{Addr, FileName, Keep, NoMemory, Part, Shelf, Term};
 use b2_boot::{Boot, BootPartition, BootPlatter, BootPrinter};
 use b2_sched::World;
 use b2_status::Status;
-use b2_store::Stores;
+use b2_store::Ends;
 use std::alloc::Global;
 
 /// The partitions that are apart in a world.
-fn apart(alloc: Global, partitions: &[BootPartition], world: &World) -> Result<Vec<Part>, NoMemory>
+fn apart<S: Ends + Drop>(
+    alloc: Global,
+    partitions: &[BootPartition],
+    world: &World<S>,
+) -> Result<Vec<Part>, NoMemory>
     ensures { IfOk result (λ parts. parts.items ≡ spec.apart_in world.now.marks partitions.now) }
 {
     let mut parts = Vec::new(alloc);
@@ -30,7 +33,11 @@ fn apart(alloc: Global, partitions: &[BootPartition], world: &World) -> Result<V
 }
 
 /// The line that a run ends with.
-pub fn summarize(alloc: Global, boot: &Boot, world: &World) -> Result<Vec<u8>, NoMemory>
+pub fn summarize<S: Ends + Drop>(
+    alloc: Global,
+    boot: &Boot,
+    world: &World<S>,
+) -> Result<Vec<u8>, NoMemory>
     ensures { IfOk result (λ line. line.items ≡ spec.summary boot.now world.now) }
 {
     let turns = world.turns();
@@ -68,16 +75,16 @@ fn keep_file<F: Shelf>(name: FileName, bytes: &[u8], shelf: &mut F) -> Result<()
 }
 
 /// Keeps the transcript of a terminal, where it is listed.
-fn keep_transcript<F: Shelf>(
+fn keep_transcript<S: Ends, F: Shelf>(
     out: &FileName,
     t: Term,
-    stores: &Stores,
+    stores: &S,
     shelf: &mut F,
 ) -> Result<(), Status>
     requires { length out.now ≤ 190 }
     ensures faults { F.faults shelf.old ≤ F.faults shelf.new }
-    ensures ok { OnOk result (F.files shelf.new ≡ spec.with_files (spec.transcript out.now t (content (store_of stores.now) (Object.Terminal t))) (F.files shelf.old)) }
-    ensures err { IfErr result (λ status. spec.CannotKeep (spec.transcript out.now t (content (store_of stores.now) (Object.Terminal t)))
+    ensures ok { OnOk result (F.files shelf.new ≡ spec.with_files (spec.transcript out.now t (content (S.store (S.meaning stores.now)) (Object.Terminal t))) (F.files shelf.old)) }
+    ensures err { IfErr result (λ status. spec.CannotKeep (spec.transcript out.now t (content (S.store (S.meaning stores.now)) (Object.Terminal t)))
         (shelf_seen F.files F.faults F.misses F.longs shelf.old) (shelf_seen F.files F.faults F.misses F.longs shelf.new) status) }
 {
     let Some(terminal) = stores.terminal(t) else {
@@ -87,11 +94,15 @@ fn keep_transcript<F: Shelf>(
 }
 
 /// Keeps the transcript of each terminal, by number.
-fn keep_transcripts<F: Shelf>(out: &FileName, stores: &Stores, shelf: &mut F) -> Result<(), Status>
+fn keep_transcripts<S: Ends, F: Shelf>(
+    out: &FileName,
+    stores: &S,
+    shelf: &mut F,
+) -> Result<(), Status>
     requires { length out.now ≤ 190 }
     ensures faults { F.faults shelf.old ≤ F.faults shelf.new }
-    ensures ok { OnOk result (F.files shelf.new ≡ spec.with_files (spec.transcripts_to out.now (store_of stores.now) 12) (F.files shelf.old)) }
-    ensures err { IfErr result (λ status. spec.CannotKeep (spec.transcripts_to out.now (store_of stores.now) 12)
+    ensures ok { OnOk result (F.files shelf.new ≡ spec.with_files (spec.transcripts_to out.now (S.store (S.meaning stores.now)) 12) (F.files shelf.old)) }
+    ensures err { IfErr result (λ status. spec.CannotKeep (spec.transcripts_to out.now (S.store (S.meaning stores.now)) 12)
         (shelf_seen F.files F.faults F.misses F.longs shelf.old) (shelf_seen F.files F.faults F.misses F.longs shelf.new) status) }
 {
     for before in 0..12u8 {
@@ -115,16 +126,16 @@ fn printout_name(out: &FileName, address: Addr) -> FileName
 }
 
 /// Keeps what the printer at an address printed, where it is listed.
-fn keep_printout<F: Shelf>(
+fn keep_printout<S: Ends, F: Shelf>(
     out: &FileName,
     address: Addr,
-    stores: &Stores,
+    stores: &S,
     shelf: &mut F,
 ) -> Result<(), Status>
     requires { length out.now ≤ 190 }
     ensures faults { F.faults shelf.old ≤ F.faults shelf.new }
-    ensures ok { OnOk result (F.files shelf.new ≡ spec.with_files (spec.printout out.now address (content (store_of stores.now) (Object.Printer address))) (F.files shelf.old)) }
-    ensures err { IfErr result (λ status. spec.CannotKeep (spec.printout out.now address (content (store_of stores.now) (Object.Printer address)))
+    ensures ok { OnOk result (F.files shelf.new ≡ spec.with_files (spec.printout out.now address (content (S.store (S.meaning stores.now)) (Object.Printer address))) (F.files shelf.old)) }
+    ensures err { IfErr result (λ status. spec.CannotKeep (spec.printout out.now address (content (S.store (S.meaning stores.now)) (Object.Printer address)))
         (shelf_seen F.files F.faults F.misses F.longs shelf.old) (shelf_seen F.files F.faults F.misses F.longs shelf.new) status) }
 {
     let Some(printed) = stores.printer(address) else {
@@ -134,16 +145,16 @@ fn keep_printout<F: Shelf>(
 }
 
 /// Keeps what each printer printed, by address.
-fn keep_printouts<F: Shelf>(
+fn keep_printouts<S: Ends, F: Shelf>(
     out: &FileName,
     printers: &[BootPrinter],
-    stores: &Stores,
+    stores: &S,
     shelf: &mut F,
 ) -> Result<(), Status>
     requires { length out.now ≤ 190 }
     ensures faults { F.faults shelf.old ≤ F.faults shelf.new }
-    ensures ok { OnOk result (F.files shelf.new ≡ spec.with_files (spec.printouts_at out.now (store_of stores.now) (printer_addresses printers.now)) (F.files shelf.old)) }
-    ensures err { IfErr result (λ status. spec.CannotKeep (spec.printouts_at out.now (store_of stores.now) (printer_addresses printers.now))
+    ensures ok { OnOk result (F.files shelf.new ≡ spec.with_files (spec.printouts_at out.now (S.store (S.meaning stores.now)) (printer_addresses printers.now)) (F.files shelf.old)) }
+    ensures err { IfErr result (λ status. spec.CannotKeep (spec.printouts_at out.now (S.store (S.meaning stores.now)) (printer_addresses printers.now))
         (shelf_seen F.files F.faults F.misses F.longs shelf.old) (shelf_seen F.files F.faults F.misses F.longs shelf.new) status) }
 {
     for printer in printers {
@@ -167,16 +178,16 @@ fn image_name(out: &FileName, address: Addr) -> FileName
 }
 
 /// Keeps the image of the platter at an address, where it is listed.
-fn keep_image<F: Shelf>(
+fn keep_image<S: Ends, F: Shelf>(
     out: &FileName,
     address: Addr,
-    stores: &Stores,
+    stores: &S,
     shelf: &mut F,
 ) -> Result<(), Status>
     requires { length out.now ≤ 190 }
     ensures faults { F.faults shelf.old ≤ F.faults shelf.new }
-    ensures ok { OnOk result (F.files shelf.new ≡ spec.with_files (spec.image out.now address (content (store_of stores.now) (Object.Platter address))) (F.files shelf.old)) }
-    ensures err { IfErr result (λ status. spec.CannotKeep (spec.image out.now address (content (store_of stores.now) (Object.Platter address)))
+    ensures ok { OnOk result (F.files shelf.new ≡ spec.with_files (spec.image out.now address (content (S.store (S.meaning stores.now)) (Object.Platter address))) (F.files shelf.old)) }
+    ensures err { IfErr result (λ status. spec.CannotKeep (spec.image out.now address (content (S.store (S.meaning stores.now)) (Object.Platter address)))
         (shelf_seen F.files F.faults F.misses F.longs shelf.old) (shelf_seen F.files F.faults F.misses F.longs shelf.new) status) }
 {
     let Some(platter) = stores.platter(address) else {
@@ -186,16 +197,16 @@ fn keep_image<F: Shelf>(
 }
 
 /// Keeps the image of each platter, by address.
-fn keep_images<F: Shelf>(
+fn keep_images<S: Ends, F: Shelf>(
     out: &FileName,
     platters: &[BootPlatter],
-    stores: &Stores,
+    stores: &S,
     shelf: &mut F,
 ) -> Result<(), Status>
     requires { length out.now ≤ 190 }
     ensures faults { F.faults shelf.old ≤ F.faults shelf.new }
-    ensures ok { OnOk result (F.files shelf.new ≡ spec.with_files (spec.images_at out.now (store_of stores.now) (platter_addresses platters.now)) (F.files shelf.old)) }
-    ensures err { IfErr result (λ status. spec.CannotKeep (spec.images_at out.now (store_of stores.now) (platter_addresses platters.now))
+    ensures ok { OnOk result (F.files shelf.new ≡ spec.with_files (spec.images_at out.now (S.store (S.meaning stores.now)) (platter_addresses platters.now)) (F.files shelf.old)) }
+    ensures err { IfErr result (λ status. spec.CannotKeep (spec.images_at out.now (S.store (S.meaning stores.now)) (platter_addresses platters.now))
         (shelf_seen F.files F.faults F.misses F.longs shelf.old) (shelf_seen F.files F.faults F.misses F.longs shelf.new) status) }
 {
     for platter in platters {
@@ -209,16 +220,16 @@ fn keep_images<F: Shelf>(
 
 /// Keeps the transcript of each terminal, by number, then what each printer of a boot printed, by address, and then the image of
 /// each of its platters, by address.
-pub fn keep_outputs<F: Shelf>(
+pub fn keep_outputs<S: Ends, F: Shelf>(
     out: &FileName,
     boot: &Boot,
-    stores: &Stores,
+    stores: &S,
     shelf: &mut F,
 ) -> Result<(), Status>
     requires { length out.now ≤ 190 }
     ensures faults { F.faults shelf.old ≤ F.faults shelf.new }
-    ensures ok { OnOk result (F.files shelf.new ≡ spec.with_files (spec.outputs out.now boot.now (store_of stores.now)) (F.files shelf.old)) }
-    ensures err { IfErr result (λ status. spec.CannotKeep (spec.outputs out.now boot.now (store_of stores.now))
+    ensures ok { OnOk result (F.files shelf.new ≡ spec.with_files (spec.outputs out.now boot.now (S.store (S.meaning stores.now))) (F.files shelf.old)) }
+    ensures err { IfErr result (λ status. spec.CannotKeep (spec.outputs out.now boot.now (S.store (S.meaning stores.now)))
         (shelf_seen F.files F.faults F.misses F.longs shelf.old) (shelf_seen F.files F.faults F.misses F.longs shelf.new) status) }
 {
     match keep_transcripts(out, stores, shelf) {

@@ -15,6 +15,7 @@ use b2_look::{View, show};
 use b2_platter::Platter;
 use b2_sched::World;
 use b2_status::{Status, put_last};
+use b2_store::{Ends, Stores};
 use std::alloc::Global;
 
 /// What a run is given: where its boot and its log come from, the front of the outputs' names, and the partitions that are to be
@@ -37,8 +38,8 @@ pub enum Command {
 
 /// The world at the end of a run, and the line for it.
 #[derive(Drop)]
-struct Ready {
-    world: World,
+struct Ready<S: Ends> {
+    world: World<S>,
     line: Vec<u8>,
 }
 
@@ -143,12 +144,12 @@ fn read_command(words: &[Vec<u8>]) -> Option<Command>
 }
 
 /// Runs the events from the world of the boot and the images of its platters.
-fn run_events(
+fn run_events<S: Ends + Drop>(
     alloc: Global,
     boot: &Boot,
     platters: Vec<Platter>,
     events: &[Event],
-) -> Result<Ready, NoMemory>
+) -> Result<Ready<S>, NoMemory>
     requires start { CanStart boot.now }
     requires as_many { length boot.now.platters ≡ length platters.items }
     ensures world { IfOk result (λ ready. ready.world ≡ world_after boot.now platters.items events.now) }
@@ -162,13 +163,13 @@ fn run_events(
 
 /// Runs the events from the world of the boot, or of the boot with a group alone.
 #[tactic(auto, using(b2_sched::proofs::BootDevices::starts_alone))]
-fn run_group(
+fn run_group<S: Ends + Drop>(
     alloc: Global,
     group: &Option<Parts>,
     boot: &Boot,
     platters: Vec<Platter>,
     events: &[Event],
-) -> Result<Ready, NoMemory>
+) -> Result<Ready<S>, NoMemory>
     requires start { CanStart boot.now }
     requires as_many { length boot.now.platters ≡ length platters.items }
     ensures world { IfOk result (λ ready. ready.world ≡ world_after (boot_for group.now boot.now) platters.items events.now) }
@@ -184,10 +185,10 @@ fn run_group(
 }
 
 /// Keeps the transcripts, the printouts and the images, and puts the line.
-fn deliver<F: Shelf, O: Sink>(
+fn deliver<S: Ends + Drop, F: Shelf, O: Sink>(
     out: &FileName,
     boot: &Boot,
-    ready: &Ready,
+    ready: &Ready<S>,
     shelf: &mut F,
     sink: &mut O,
 ) -> Status
@@ -203,8 +204,13 @@ fn deliver<F: Shelf, O: Sink>(
     put_last(&ready.line, sink)
 }
 
-/// Does a job.
-fn run_job<F: Shelf, O: Sink>(alloc: Global, job: Job, shelf: &mut F, sink: &mut O) -> Status
+/// Does a job, over a store of any make.
+fn run_job<S: Ends + Drop, F: Shelf, O: Sink>(
+    alloc: Global,
+    job: Job,
+    shelf: &mut F,
+    sink: &mut O,
+) -> Status
     requires { IsReady job }
     ensures { JobEnds job
         (shelf_seen F.files F.faults F.misses F.longs shelf.old) (shelf_seen F.files F.faults F.misses F.longs shelf.new)
@@ -218,7 +224,7 @@ fn run_job<F: Shelf, O: Sink>(alloc: Global, job: Job, shelf: &mut F, sink: &mut
         Ok(platters) => platters,
         Err(status) => return status,
     };
-    let Ok(ready) = run_group(alloc, &job.group, &inputs.boot, platters, &inputs.events) else {
+    let Ok(ready) = run_group::<S>(alloc, &job.group, &inputs.boot, platters, &inputs.events) else {
         return Status::NoMemory;
     };
     deliver(&job.out, &inputs.boot, &ready, shelf, sink)
@@ -237,7 +243,7 @@ fn run_words<F: Shelf, O: Sink>(
 {
     match read_command(words) {
         None => Status::Usage,
-        Some(Command::Run(job)) => run_job(alloc, job, shelf, sink),
+        Some(Command::Run(job)) => run_job::<Stores, F, O>(alloc, job, shelf, sink),
         Some(Command::Show(view, name)) => show(alloc, view, name, shelf, sink),
     }
 }

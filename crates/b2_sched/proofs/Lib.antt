@@ -22,6 +22,7 @@ pub mod OwnTexts
 pub mod MarkedTurns
 pub mod Settled
 pub mod Present
+pub mod PlainTurns
 pub mod WatchedTurns
 pub mod WorldMarks
 pub mod KeptPlaces

@@ -1,7 +1,6 @@
 // The world: events and runs.
 ghost use Rattle.std.specs.Prelude.{◌≡◌, [], IfOk, IfErr, OnOk, length};
 ghost use Rattle.b2_audit.specs.Marks.{is_clean};
-ghost use Rattle.b2_store.specs.Meaning.{store_of};
 ghost use Rattle.b2_sched.specs.Start.{CanStart, booted};
 ghost use Rattle.b2_sched.specs.World.{does, does_all, turns_from, rounds, happens, ran, GivesTurns, Key, Front, Halt, Reset, Turn};
 
@@ -15,7 +14,7 @@ use b2_base::{NoMemory, Part, Term};
 use b2_boot::{Boot, Event};
 use b2_machine::turn;
 use b2_platter::Platter;
-use b2_store::{Rows, StoreBoot, Stores};
+use b2_store::{Ends, Rows, StoreBoot};
 use b2_term::KeyItem;
 use std::alloc::Global;
 use std::marker::Model;
@@ -23,22 +22,21 @@ use std::marker::Model;
 /// The devices that there are, partitions, the store that they share, the marks of what they touch and write there, and counts of turns, counting steps and
 /// dropped keys. Contracts see it as one record.
 #[derive(Drop)]
-pub struct World {
+pub struct World<S: Ends> {
     alloc: Global,
     quota: u16,
     devices: DeviceTable,
     privates: Rows<Part, Private>,
-    stores: Stores,
+    stores: S,
     seen: Seen,
     turns: u64,
     steps: u64,
     dropped: u64,
 }
 
-impl Model for World {
+impl<S: Ends> Model for World<S> {
     ghost use Rattle.std.specs.Coded.{codes};
     ghost use Rattle.b2_vars.specs.Tables.{coded_vars};
-    ghost use Rattle.b2_store.specs.Meaning.{store_of};
     ghost use Rattle.b2_sched.specs.Presence.{ArePresent};
     ghost use Rattle.b2_sched.specs.World.{WorldState};
 
@@ -46,15 +44,15 @@ impl Model for World {
 
     ghost coded = { Prim.hlevel (codes, coded_vars) };
 
-    ghost view = { λ w. record { quota = w.quota; devices = w.devices; privates = w.privates; store = store_of w.stores; marks = w.seen; turns = w.turns; steps = w.steps; dropped = w.dropped } };
+    ghost view = { λ w. record { quota = w.quota; devices = w.devices; privates = w.privates; store = S.store (S.meaning w.stores); marks = w.seen; turns = w.turns; steps = w.steps; dropped = w.dropped } };
 
-    ghost invariant = { λ w. ArePresent w.privates (store_of w.stores) w.seen };
+    ghost invariant = { λ w. ArePresent w.privates (S.store (S.meaning w.stores)) w.seen };
 }
 
-impl World {
+impl<S: Ends + Drop> World<S> {
     /// The world of a boot and of the images of its platters, in its order: each partition as it starts, empty texts, idle
     /// terminals, printers that printed nothing, devices that nobody holds, and nothing marked or counted.
-    pub fn boot(alloc: Global, b: &Boot, platters: Vec<Platter>) -> Result<World, NoMemory>
+    pub fn boot(alloc: Global, b: &Boot, platters: Vec<Platter>) -> Result<World<S>, NoMemory>
         requires start { CanStart b.now }
         requires as_many { length b.now.platters ≡ length platters.items }
         ensures started { IfOk result (λ w. w ≡ booted b.now platters.items) }
@@ -67,7 +65,7 @@ impl World {
             printers: printer_addresses(alloc, &b.printers)?,
             platters: platter_addresses(alloc, &b.platters)?,
         };
-        let stores = Stores::new(alloc, &start, platters)?;
+        let stores = S::new(alloc, &start, platters)?;
         let seen = Seen::new(alloc);
         Ok(World {
             alloc,
@@ -139,8 +137,8 @@ impl World {
     }
 
     /// The store that the partitions share.
-    pub fn stores(&self) -> &Stores
-        ensures value { store_of result.now ≡ self.now.store }
+    pub fn stores(&self) -> &S
+        ensures value { S.store (S.meaning result.now) ≡ self.now.store }
     {
         &self.stores
     }

@@ -13,3 +13,4 @@ pub mod FileWork
 pub mod TwoRows
 pub mod DiskWork
 pub mod Files
+pub mod Plainly

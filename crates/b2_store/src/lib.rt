@@ -20,6 +20,7 @@ mod data_files;
 mod device_calls;
 mod disk_calls;
 mod disks;
+mod ends;
 pub mod laws;
 mod name_calls;
 mod names;
@@ -37,6 +38,7 @@ mod text_calls;
 mod two_rows;
 
 pub use boot::StoreBoot;
+pub use ends::Ends;
 pub use printer::Printer;
 pub use rows::{Key, Rows};
 pub use stores::Stores;

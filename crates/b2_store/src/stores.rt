@@ -1,14 +1,14 @@
 // The store: its rows, how each access is served, and what is lent.
-ghost use Rattle.std.specs.Prelude.{◌≡◌, ◌++◌, map, length, IfOk, IfErr, option_copied};
+ghost use Rattle.std.specs.Prelude.{◌≡◌, ◌++◌, map, length, IfOk, IfErr};
 ghost use Rattle.b2_access.specs.Loans.{lender_at};
-ghost use Rattle.b2_access.specs.Store.{StoreState, content};
+ghost use Rattle.b2_access.specs.Store.{StoreState};
 ghost use Rattle.b2_access.specs.Touching.{IsLegal, MayWantMemory};
 ghost use Rattle.b2_store.specs.Asked.{IsGoodIfSkipped};
-ghost use Rattle.b2_store.specs.Changes.{keyed_at, front_at, room_at};
-ghost use Rattle.b2_store.specs.Start.{store_at_start, text_row, borrow_row, globals_row, idle_row, blank_row, free_row, with_keys};
+ghost use Rattle.b2_store.specs.Start.{text_row, borrow_row, globals_row, idle_row, blank_row, free_row, with_keys};
 
 use crate::boot::StoreBoot;
 use crate::borrows::Borrows;
+use crate::ends::Ends;
 use crate::names::Names;
 use crate::printer::Printer;
 use crate::rows::Rows;
@@ -16,7 +16,7 @@ use crate::spared::Spared;
 use crate::start::{
     borrows_of, globals_of, holders_of, platters_of, printers_of, terminals_of, texts_of,
 };
-use b2_access::{Access, Answer, At, Lent, Object, Shared};
+use b2_access::{Access, Answer, At, Lent, Shared};
 use b2_base::{Addr, Name8, NoMemory, Part, Term};
 use b2_platter::Platter;
 use b2_term::{KeyItem, Terminal};
@@ -92,71 +92,6 @@ fn devices_of(alloc: Global, b: &StoreBoot, platters: Vec<Platter>) -> Result<De
 
 impl Stores {
     ghost use Rattle.b2_store.specs.Meaning.{store_of, Does};
-
-    /// The store of a boot: empty texts, no `@` variables, idle terminals, printers that printed nothing, and these platters, one for each
-    /// address of the boot, in its order. Nobody holds a device.
-    pub fn new(alloc: Global, b: &StoreBoot, platters: Vec<Platter>) -> Result<Stores, NoMemory>
-        requires as_many { length b.now.platters.items ≡ length platters.items }
-        ensures at_start { IfOk result (λ s. store_of s ≡ store_at_start b.now platters.items) }
-    {
-        let homes = homes_of(alloc, b)?;
-        let devices = devices_of(alloc, b, platters)?;
-        Ok(Stores {
-            alloc,
-            texts: homes.texts,
-            borrows: homes.borrows,
-            globals: homes.globals,
-            terminals: devices.terminals,
-            printers: devices.printers,
-            platters: devices.platters,
-            hogs: devices.hogs,
-            names: Names::new(alloc),
-        })
-    }
-
-    /// A terminal, None exactly where it isn't listed.
-    pub fn terminal(&self, t: Term) -> Option<&Terminal>
-        ensures listed { option_copied result ≡ content (store_of self.now) (Object.Terminal t) }
-    {
-        self.terminals.get(t)
-    }
-
-    /// The bytes that a printer printed, None exactly where its address isn't listed.
-    pub fn printer(&self, a: Addr) -> Option<&[u8]>
-        ensures listed { option_copied result ≡ content (store_of self.now) (Object.Printer a) }
-    {
-        match self.printers.get(a) {
-            Some(printer) => Some(printer.printed()),
-            None => None,
-        }
-    }
-
-    /// A platter, None exactly where its address isn't listed.
-    pub fn platter(&self, a: Addr) -> Option<&Platter>
-        ensures listed { option_copied result ≡ content (store_of self.now) (Object.Platter a) }
-    {
-        self.platters.get(a)
-    }
-
-    /// Queues a key at a terminal. It answers whether there was room, None exactly where the terminal isn't listed.
-    pub fn key(&mut self, t: Term, k: KeyItem) -> Option<bool>
-        ensures room { result ≡ room_at (content (store_of self.old) (Object.Terminal t)) }
-        ensures queued { store_of self.new ≡ keyed_at t k (store_of self.old) }
-    {
-        match self.terminals.get_mut(t) {
-            Some(terminal) => Some(terminal.key(k)),
-            None => None,
-        }
-    }
-
-    /// Puts a partition in front of a terminal, where it is listed.
-    pub fn set_front(&mut self, t: Term, p: Part)
-        ensures front { store_of self.new ≡ front_at t p (store_of self.old) }
-    {
-        if let Some(terminal) = self.terminals.get_mut(t) {
-            terminal.set_front(p);
-        }
-    }
 
     /// Whose `@` variables are asked for.
     fn lender(&self, home: Part, at: &At) -> Option<Part>
@@ -305,4 +240,54 @@ impl Shared for Stores {
     ghost lends_globals = { λ who home at m w. refl };
 
     ghost lends_texts_again = { λ who home m. refl };
+}
+
+impl Ends for Stores {
+    ghost use Rattle.std.specs.Prelude.{refl};
+
+    fn new(alloc: Global, b: &StoreBoot, platters: Vec<Platter>) -> Result<Stores, NoMemory> {
+        let homes = homes_of(alloc, b)?;
+        let devices = devices_of(alloc, b, platters)?;
+        Ok(Stores {
+            alloc,
+            texts: homes.texts,
+            borrows: homes.borrows,
+            globals: homes.globals,
+            terminals: devices.terminals,
+            printers: devices.printers,
+            platters: devices.platters,
+            hogs: devices.hogs,
+            names: Names::new(alloc),
+        })
+    }
+
+    fn terminal(&self, t: Term) -> Option<&Terminal> {
+        self.terminals.get(t)
+    }
+
+    fn printer(&self, a: Addr) -> Option<&[u8]> {
+        match self.printers.get(a) {
+            Some(printer) => Some(printer.printed()),
+            None => None,
+        }
+    }
+
+    fn platter(&self, a: Addr) -> Option<&Platter> {
+        self.platters.get(a)
+    }
+
+    fn key(&mut self, t: Term, k: KeyItem) -> Option<bool> {
+        match self.terminals.get_mut(t) {
+            Some(terminal) => Some(terminal.key(k)),
+            None => None,
+        }
+    }
+
+    fn set_front(&mut self, t: Term, p: Part) {
+        if let Some(terminal) = self.terminals.get_mut(t) {
+            terminal.set_front(p);
+        }
+    }
+
+    ghost serves_plainly = { λ m who a. refl };
 }

@@ -16,7 +16,7 @@ use b2_access::{Access, Answer, At, Object, Shared};
 use b2_audit::{Seen, Watched};
 use b2_base::{NoMemory, Part, Term};
 use b2_cases::Sheet;
-use b2_store::{StoreBoot, Stores};
+use b2_store::{Ends, StoreBoot, Stores};
 use std::alloc::Global;
 
 /// The area of each text and of each partition's `@` variables.

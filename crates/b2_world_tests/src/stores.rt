@@ -21,7 +21,7 @@ use b2_base::{Addr, Name8, NoMemory, Part, Term};
 use b2_cases::{Sheet, small_of, str_of, whole_of};
 use b2_catalog::enter;
 use b2_platter::Platter;
-use b2_store::{StoreBoot, Stores};
+use b2_store::{Ends, StoreBoot, Stores};
 use b2_term::KeyItem;
 use std::alloc::Global;
 

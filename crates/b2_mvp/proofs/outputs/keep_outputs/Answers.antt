@@ -4,7 +4,6 @@ use Rattle.b2_boot.specs.Boots.{BootState}
 use Rattle.b2_boot.specs.declared.boot.BootPlatter.{BootPlatter}
 use Rattle.b2_boot.specs.declared.boot.BootPrinter.{BootPrinter}
 use Rattle.b2_sched.specs.Start.{platter_addresses, printer_addresses}
-use Rattle.b2_store.specs.Meaning.{store_of}
 use Rattle.b2_mvp.specs.Outputs.{CannotKeep, images_at, printouts_at, transcripts_to, with_files}
 use Rattle.b2_mvp.proofs.Keeps.{first_fail, then_fail, with_files_append}
 use Rattle.b2_mvp.proofs.outputs.keep_outputs.Goals as goal
@@ -12,14 +11,14 @@ use Rattle.b2_mvp.proofs.outputs.keep_outputs.Goals as goal
 pub returns-in-Err-clause-err : goal.returns-in-Err-clause-err
 returns-in-Err-clause-err g c =
     let seen = shelf_seen g.F.Shelf.files g.F.Shelf.faults g.F.Shelf.misses g.F.Shelf.longs in
-    let s = store_of c.args.stores.now in
+    let s = g.S.Shared.store (g.S.Shared.meaning c.args.stores.now) in
     first_fail (transcripts_to c.args.out.now s 12) (printouts_at c.args.out.now s (printer_addresses c.args.boot.now.printers) ++ images_at c.args.out.now s (platter_addresses c.args.boot.now.platters))
     (seen c.args.shelf.now) (seen c.keep_transcripts.new.shelf) c.in-Err.status c.in-Err.ensures.err
 
 pub returns-in-Err-keep_printouts-clause-err : goal.returns-in-Err-keep_printouts-clause-err
 returns-in-Err-keep_printouts-clause-err g c =
     let seen = shelf_seen g.F.Shelf.files g.F.Shelf.faults g.F.Shelf.misses g.F.Shelf.longs in
-    let s = store_of c.args.stores.now in
+    let s = g.S.Shared.store (g.S.Shared.meaning c.args.stores.now) in
     let printouts = printouts_at c.args.out.now s (printer_addresses c.args.boot.now.printers) in
     let images = images_at c.args.out.now s (platter_addresses c.args.boot.now.platters) in
     then_fail (transcripts_to c.args.out.now s 12) (printouts ++ images) (seen c.args.shelf.now) (seen c.keep_transcripts.new.shelf) (seen c.keep_printouts.new.shelf)
@@ -30,7 +29,7 @@ returns-in-Err-keep_printouts-clause-err g c =
 
 pub returns-in-Ok-keep_images-clause-ok : goal.returns-in-Ok-keep_images-clause-ok
 returns-in-Ok-keep_images-clause-ok g c =
-    let s = store_of c.args.stores.now in
+    let s = g.S.Shared.store (g.S.Shared.meaning c.args.stores.now) in
     let files = g.F.Shelf.files c.args.shelf.now in
     let transcripts = transcripts_to c.args.out.now s 12 in
     let printouts = printouts_at c.args.out.now s (printer_addresses c.args.boot.now.printers) in
@@ -46,7 +45,7 @@ returns-in-Ok-keep_images-clause-ok g c =
 pub returns-in-Err-keep_images-clause-err : goal.returns-in-Err-keep_images-clause-err
 returns-in-Err-keep_images-clause-err g c =
     let seen = shelf_seen g.F.Shelf.files g.F.Shelf.faults g.F.Shelf.misses g.F.Shelf.longs in
-    let s = store_of c.args.stores.now in
+    let s = g.S.Shared.store (g.S.Shared.meaning c.args.stores.now) in
     let printouts = printouts_at c.args.out.now s (printer_addresses c.args.boot.now.printers) in
     let images = images_at c.args.out.now s (platter_addresses c.args.boot.now.platters) in
     then_fail (transcripts_to c.args.out.now s 12) (printouts ++ images) (seen c.args.shelf.now) (seen c.keep_transcripts.new.shelf) (seen c.keep_images.new.shelf)

@@ -1,25 +1,24 @@
 use Rattle.std.proofs.Common.{sym, subst}
 use Rattle.b2_access.specs.Store.{StoreState, content}
 use Rattle.b2_access.specs.declared.objects.Object.TheVariants as object
-use Rattle.b2_store.specs.Meaning.{store_of}
 use Rattle.b2_sched.specs.Presence.{ArePresent}
 use Rattle.b2_sched.proofs.Present.{present_at}
 use Rattle.b2_sched.proofs.world.World.key.Goals as goal
 
 pub invariant_of-self : goal.invariant_of-self
-invariant_of-self c =
-    let s = store_of c.self.inside.stores in
+invariant_of-self g c =
+    let s = g.S.Shared.store (g.S.Shared.meaning c.self.inside.stores) in
     subst (λ (t : StoreState). ArePresent c.self.inside.privates t c.self.inside.seen) (sym c.key.ensures.queued)
     (present_at c.self.inside.privates s c.self.inside.seen (content s (object.Terminal c.args.t)) c.args.t _ c.self.invariant)
 
 pub invariant_of-self-else-key : goal.invariant_of-self-else-key
-invariant_of-self-else-key c =
-    let s = store_of c.self.inside.stores in
+invariant_of-self-else-key g c =
+    let s = g.S.Shared.store (g.S.Shared.meaning c.self.inside.stores) in
     subst (λ (t : StoreState). ArePresent c.self.inside.privates t c.self.inside.seen) (sym c.key.ensures.queued)
     (present_at c.self.inside.privates s c.self.inside.seen (content s (object.Terminal c.args.t)) c.args.t _ c.self.invariant)
 
 pub invariant_of-self-in_default : goal.invariant_of-self-in_default
-invariant_of-self-in_default c =
-    let s = store_of c.self.inside.stores in
+invariant_of-self-in_default g c =
+    let s = g.S.Shared.store (g.S.Shared.meaning c.self.inside.stores) in
     subst (λ (t : StoreState). ArePresent c.self.inside.privates t c.self.inside.seen) (sym c.key.ensures.queued)
     (present_at c.self.inside.privates s c.self.inside.seen (content s (object.Terminal c.args.t)) c.args.t _ c.self.invariant)

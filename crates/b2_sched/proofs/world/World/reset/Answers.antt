@@ -3,15 +3,14 @@ use Rattle.std.specs.Option.{option_copied_mut}
 use Rattle.b2_access.specs.Homes.{IsWithin}
 use Rattle.b2_access.specs.Leading.{is_present}
 use Rattle.b2_access.specs.declared.private.Private.{Private}
-use Rattle.b2_store.specs.Meaning.{store_of}
 use Rattle.b2_sched.specs.Presence.{IsSettled}
 use Rattle.b2_sched.proofs.Present.{flagged, still_present}
 use Rattle.b2_sched.proofs.Settled.{reset_settled}
 use Rattle.b2_sched.proofs.world.World.reset.Goals as goal
 
 pub invariant_of-self-2 : goal.invariant_of-self-2
-invariant_of-self-2 c =
-    let s = store_of c.self.inside.stores in
+invariant_of-self-2 g c =
+    let s = g.S.Shared.store (g.S.Shared.meaning c.self.inside.stores) in
     let m = c.self.inside.seen in
     let p = c.args.p in
     let me = c.in-Some.me.now in

@@ -4,7 +4,7 @@ use Rattle.b2_sched.proofs.Folds.{keeps_quota, turn_first}
 use Rattle.b2_sched.proofs.world.World.round.Goals as goal
 
 pub loop-n-preserved : goal.loop-n-preserved
-loop-n-preserved c =
+loop-n-preserved g c =
     let q = c.args.self.now.quota in
     let n = c.loop-n.n in
     let w = c.loop-n.self in

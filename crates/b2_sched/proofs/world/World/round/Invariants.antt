@@ -4,7 +4,7 @@ use Rattle.b2_sched.proofs.world.World.round.Given as goal
 
 -- the turns that are left lead from here to where all sixteen lead
 abbrev pub invariant-loop-n : goal.invariant-loop-n
-invariant-loop-n l = record {
+invariant-loop-n g l = record {
   quota : l.self.quota ≡ l.fn.self.quota;
   turned : does_all (turns_from l.fn.self.quota l.n (17 - l.n)) l.self ≡ does_all (turns_from l.fn.self.quota 1 16) l.fn.self;
 }

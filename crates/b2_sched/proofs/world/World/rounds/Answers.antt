@@ -4,7 +4,7 @@ use Rattle.b2_sched.proofs.Folds.{all_keep_quota, round_first}
 use Rattle.b2_sched.proofs.world.World.rounds.Goals as goal
 
 pub loop-preserved : goal.loop-preserved
-loop-preserved c =
+loop-preserved g c =
     let q = c.args.self.now.quota in
     let w = c.loop.self in
     let same = c.loop.invariant.quota in

@@ -4,4 +4,4 @@ use Rattle.b2_sched.proofs.world.World.run.Given as goal
 
 -- the events that are left lead from here to where all lead
 abbrev pub invariant-loop-e : goal.invariant-loop-e
-invariant-loop-e l = ran (drop l.e-index l.log) l.self ≡ ran l.log l.fn.self
+invariant-loop-e g l = ran (drop l.e-index l.log) l.self ≡ ran l.log l.fn.self

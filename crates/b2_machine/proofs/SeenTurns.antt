@@ -1,0 +1,129 @@
+-- A step, by cases on its six rules, and a turn, by its steps, over a store that is seen as another one.
+use Rattle.std.specs.Prelude.{◌≡◌, ℕ, zero, suc, Bool, true, false, List, Option, Some, None, refl, if◌then◌else◌}
+use Rattle.std.proofs.Common.{sym, ap, subst, ◌∙◌}
+use Rattle.b2_vars.specs.Globals.{Globals, unreached}
+use Rattle.b2_flow.specs.declared.frame.Place.{Place}
+use Rattle.b2_access.specs.Loans.{Loan}
+use Rattle.b2_access.specs.Partition.{is_ready}
+use Rattle.b2_access.specs.Sharing.{Gives, ServingOf}
+use Rattle.b2_access.specs.Store.{StoreState}
+use Rattle.b2_access.specs.declared.accesses.Access.{Access}
+use Rattle.b2_access.specs.declared.accesses.Access.TheVariants as access
+use Rattle.b2_access.specs.declared.accesses.Answer.{Answer}
+use Rattle.b2_access.specs.declared.accesses.Answer.TheVariants as answer
+use Rattle.b2_access.specs.declared.lending.At.{At}
+use Rattle.b2_access.specs.declared.lending.At.TheVariants as at
+use Rattle.b2_access.specs.declared.private.Private.{Private}
+use Rattle.b2_language.specs.Languages.{Ways}
+use Rattle.b2_machine.specs.Endings.{Ending}
+use Rattle.b2_machine.specs.Readiness.{gives_back, resets}
+use Rattle.b2_machine.specs.Seeing.{StepsAreSeen, TurnsAreSeen, given_seen, step_seen, turn_seen}
+use Rattle.b2_machine.specs.Statements.{begins, leaves}
+use Rattle.b2_machine.specs.Step.{StepEnd, asks_for, carries_out, enters_or_goes_on, finishes_by, goes_through, halts_or_acts, lent_to_begin, line_read, reads_line, runs_or_reads, seen_by, shows_or_goes_on, step, types_or_goes_on, whose_by}
+use Rattle.b2_machine.specs.Turn.{counted_on, ended_turn, turn_from, unless_ended}
+use Rattle.b2_machine.specs.Typing.{put_by, puts_numbered, shown_by, shows_pending, typed_by_key}
+use Rattle.b2_machine.specs.declared.ends.Why.{Why}
+use Rattle.b2_machine.specs.declared.statements.Progress.{Progress}
+use Rattle.b2_machine.specs.declared.statements.Progress.TheVariants as progress
+
+module _ (ways : Ways) {M N : Type 0} (see : M → N) (other_store : N → StoreState) (serving : ServingOf M) (other_serving : ServingOf N) (lending : Loan M) (other_lending : Loan N)
+    (serves : (m : M) (who : ℕ) (a : Access) → given_seen see (serving m who a) ≡ other_serving (see m) who a)
+    (lends : (who home : ℕ) (whose : At) (m : M) (left : Globals) → see (lending who home whose m left) ≡ other_lending who home whose (see m) left) where
+  abbrev store : M → StoreState
+  store m = other_store (see m)
+
+  abbrev ended_with : Ending → N → StepEnd N
+  ended_with e n = record { me = e.me; after = n; end = e.end }
+
+  -- an access, and how a step ends by its answer
+  by_answer : (a : Access) (ends : Answer → Ending) (me : Private) (m : M) → step_seen see (asks_for store serving lending a ends me m) ≡ asks_for other_store other_serving other_lending a ends me (see m)
+  by_answer a ends me m = ap (λ (g : Gives N). ended_with (ends g.answer) g.after) (serves m me.part a)
+
+  -- a line that is read
+  by_reading : (x : Answer) (me : Private) (m : M) → step_seen see (line_read store serving lending x me m) ≡ line_read other_store other_serving other_lending x me (see m)
+  by_reading (answer.Line bytes) me m = refl
+  by_reading (answer.Special n) me m = ap (λ (k : N). record (line_read other_store other_serving other_lending (answer.Special n) me (see m)) { after = k }) (lends me.part me.part at.None m (unreached None))
+  by_reading x me m = refl
+
+  by_line : (me : Private) (m : M) → step_seen see (reads_line store serving lending me m) ≡ reads_line other_store other_serving other_lending me (see m)
+  by_line me m =
+      let g = serving m me.part (access.ReadLine me.term) in
+      by_reading g.answer me g.after ∙ ap (λ (x : Gives N). line_read other_store other_serving other_lending x.answer me x.after) (serves m me.part (access.ReadLine me.term))
+
+  -- the statement at the place
+  begun : (who home : ℕ) (whose : At) (m : M) (left : Globals) → see (lent_to_begin store serving lending who home whose m left) ≡ lent_to_begin other_store other_serving other_lending who home whose (see m) left
+  begun who home at.None m left = lends who home at.None m (unreached None)
+  begun who home at.Home m left = lends who home at.Home (lending who home at.None m (unreached None)) left ∙ ap (λ (k : N). other_lending who home at.Home k left) (lends who home at.None m (unreached None))
+  begun who home (at.Named n) m left = lends who home (at.Named n) (lending who home at.None m (unreached None)) left ∙ ap (λ (k : N). other_lending who home (at.Named n) k left) (lends who home at.None m (unreached None))
+
+  carried_out : (who : ℕ) (c : Progress) (p : Place) (whose : At) (me : Private) (m : M) → step_seen see (carries_out ways store serving lending who c p whose me m) ≡ carries_out ways other_store other_serving other_lending who c p whose me (see m)
+  carried_out who (progress.Ended e) p whose me m = refl
+  carried_out who (progress.Asks a b w) p whose me m =
+      let g = serving m who a in
+      let finished = finishes_by ways store serving lending who b a w p whose me g in
+      ap (λ (k : N). record { me = finished.me; after = k; end = finished.end }) (lends who p.home whose g.after _)
+      ∙ ap (λ (x : Gives N). finishes_by ways other_store other_serving other_lending who b a w p whose me x) (serves m who a)
+
+  by_place : (x : Option Place) (me : Private) (m : M) → step_seen see (runs_or_reads ways store serving lending x me m) ≡ runs_or_reads ways other_store other_serving other_lending x me (see m)
+  by_place None me m = by_line me m
+  by_place (Some p) me m =
+      let s = store m in
+      let whose = whose_by p me s in
+      let seen = seen_by me.part p.home whose s in
+      let b = begins ways p me seen in
+      let left = leaves ways p me seen in
+      carried_out me.part b.progress p whose b.me (lent_to_begin store serving lending me.part p.home whose m left)
+      ∙ ap (λ (k : N). goes_through ways other_store other_serving other_lending me.part b p whose k) (begun me.part p.home whose m left)
+
+  -- the rules before it
+  by_number : (x : Option (ℕ × Option (List ℕ))) (me : Private) (m : M) → step_seen see (enters_or_goes_on ways store serving lending x me m) ≡ enters_or_goes_on ways other_store other_serving other_lending x me (see m)
+  by_number (Some line) me m = by_answer (puts_numbered line me) (λ a. put_by a me) me m
+  by_number None me m = by_place me.place me m
+
+  by_literal : (x : Option (List ℕ)) (me : Private) (m : M) → step_seen see (types_or_goes_on ways store serving lending x me m) ≡ types_or_goes_on ways other_store other_serving other_lending x me (see m)
+  by_literal (Some text) me m = by_answer (access.Insert me.term text) (λ a. typed_by_key a me) me m
+  by_literal None me m = by_number me.numbered me m
+
+  by_output : (x : Option (List ℕ × List ℕ)) (me : Private) (m : M) → step_seen see (shows_or_goes_on ways store serving lending x me m) ≡ shows_or_goes_on ways other_store other_serving other_lending x me (see m)
+  by_output (Some text) me m = by_answer (shows_pending text.0 text.1 me) (λ a. shown_by (shows_pending text.0 text.1 me) a me) me m
+  by_output None me m = by_literal me.literal me m
+
+  by_test : (b : Bool) (x y : StepEnd M) (u v : StepEnd N) → step_seen see x ≡ u → step_seen see y ≡ v → step_seen see (if b then x else y) ≡ (if b then u else v)
+  by_test true x y u v e f = e
+  by_test false x y u v e f = f
+
+  by_halt : (me : Private) (m : M) → step_seen see (halts_or_acts ways store serving lending me m) ≡ halts_or_acts ways other_store other_serving other_lending me (see m)
+  by_halt me m = by_test (is_ready me) _ _ _ _ (by_output me.pending (record me { halt = false }) m) refl
+
+  one_step : (me : Private) (m : M) → step_seen see (step ways store serving lending me m) ≡ step ways other_store other_serving other_lending me (see m)
+  one_step me m =
+      by_test me.reset _ _ _ _ (by_answer (gives_back me) (λ _. resets me) me m)
+      (by_test me.halt _ _ _ _ (by_halt me m) (by_output me.pending me m))
+
+  -- at most so many more steps
+  more_steps : (n : ℕ) (me : Private) (m : M) (steps : ℕ) → turn_seen see (turn_from ways store serving lending n me m steps) ≡ turn_from ways other_store other_serving other_lending n me (see m) steps
+  unfolding turn_from
+  more_steps zero me m steps = refl
+  more_steps (suc n) me m steps =
+      let x = step ways store serving lending me m in
+      by x.end.why (more_steps n x.me x.after (counted_on steps x.end))
+      ∙ ap (λ (y : StepEnd N). unless_ended y.end.why (λ why. ended_turn (counted_on steps y.end) why y.me y.after) (turn_from ways other_store other_serving other_lending n y.me y.after (counted_on steps y.end))) (one_step me m)
+    where
+      by : (why : Option Why)
+          → turn_seen see (turn_from ways store serving lending n (step ways store serving lending me m).me (step ways store serving lending me m).after (counted_on steps (step ways store serving lending me m).end))
+          ≡ turn_from ways other_store other_serving other_lending n (step ways store serving lending me m).me (see (step ways store serving lending me m).after) (counted_on steps (step ways store serving lending me m).end)
+          → turn_seen see (unless_ended why (λ why. ended_turn (counted_on steps (step ways store serving lending me m).end) why (step ways store serving lending me m).me (step ways store serving lending me m).after) (turn_from ways store serving lending n (step ways store serving lending me m).me (step ways store serving lending me m).after (counted_on steps (step ways store serving lending me m).end)))
+          ≡ unless_ended why (λ why. ended_turn (counted_on steps (step ways store serving lending me m).end) why (step ways store serving lending me m).me (see (step ways store serving lending me m).after)) (turn_from ways other_store other_serving other_lending n (step ways store serving lending me m).me (see (step ways store serving lending me m).after) (counted_on steps (step ways store serving lending me m).end))
+      by None later = later
+      by (Some why) later = refl
+
+module _ (ways : Ways) {M N : Type 0} (store : M → StoreState) (other_store : N → StoreState) (serving : ServingOf M) (other_serving : ServingOf N) (lending : Loan M) (other_lending : Loan N) where
+  pub steps_are_seen : StepsAreSeen store other_store serving other_serving lending other_lending ways
+  steps_are_seen see is me m =
+      subst (λ (s : M → StoreState). step_seen see (step ways s serving lending me m) ≡ step ways other_store other_serving other_lending me (see m)) (sym is.stores)
+      (one_step ways see other_store serving other_serving lending other_lending is.serves is.lends me m)
+
+  pub turns_are_seen : TurnsAreSeen store other_store serving other_serving lending other_lending ways
+  turns_are_seen see is quota me m =
+      subst (λ (s : M → StoreState). turn_seen see (turn_from ways s serving lending quota me m 0) ≡ turn_from ways other_store other_serving other_lending quota me (see m) 0) (sym is.stores)
+      (more_steps ways see other_store serving other_serving lending other_lending is.serves is.lends quota me m 0)
