@@ -14,6 +14,7 @@ pub mod Fitting
 pub mod Held
 pub mod Statements
 pub mod Homes
+pub mod Led
 pub mod EnteredHomes
 pub mod OwnTerminal
 pub mod OwnDevices
@@ -23,6 +24,7 @@ pub mod Tables
 pub mod MarkRows
 pub mod Shown
 pub mod Working
+pub mod LeftAlone
 pub mod OpenFiles
 pub mod Loans
 pub mod Leading

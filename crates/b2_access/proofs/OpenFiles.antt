@@ -36,4 +36,4 @@ left_open devices who false slots h = h
 left_open devices who true slots h = none_open devices who 16
 
 pub steered_open : (devices : List Device) (me : Private) (e : Steered) → HasOpenFiles devices me → HasOpenFiles devices (steered me e).me
-steered_open devices me e h = left_open devices me.part e.control.closes me.slots h
+steered_open devices me e h = left_open devices me.part e.work.closes me.slots h

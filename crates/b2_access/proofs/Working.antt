@@ -1,18 +1,17 @@
 -- What statements leave by their form: whatever such a statement plans, and however it finishes, what it changed is put back, and all else
--- stays.
+-- stays. It holds of every form by a few facts of what the form puts back.
 use Rattle.std.proofs.Common.{◌≡◌, ◌∙◌, ℕ, Bool, List, Option, Some, None, ap, inl, inr, refl}
 use Rattle.b2_base.specs.declared.files.Slot.{Slot}
 use Rattle.b2_vars.specs.Globals.{Globals, MayBecome}
-use Rattle.b2_access.specs.Homes.{FinishesWithin, IsWithin, PlannedIn, PlansWithin}
+use Rattle.b2_access.specs.Homes.{FinishesWithin, FramesIn, IsWithin, PlaceIn, PlannedIn, PlansWithin}
 use Rattle.b2_access.specs.Keeping.{FinishesInPlace, FinishesKeepFiles, FinishesKeepHeld, FinishesKeepNone, PlansInPlace, PlansKeepFiles, PlansKeepHeld, PlansKeepNone}
 use Rattle.b2_access.specs.Lending.{SeenLent}
 use Rattle.b2_access.specs.OwnTerminal.{FinishesAtTerminal, PlannedAt, PlansAtTerminal}
 use Rattle.b2_access.specs.Pending.{FinishesToShow, KeepsOrShows, PendingOutput, PlansToShow}
 use Rattle.b2_access.specs.Reaching.{FinishesReach, PlansReach, ReachedUnlessAsks}
+use Rattle.b2_access.specs.Steering.{Control, put_control, steering}
 use Rattle.b2_access.specs.Waiting.{FinishesUnchanged, PlansBeforeChanges, UnchangedIfAsks}
-use Rattle.b2_access.specs.Working.{Ends, Plans, ChangesNothing, EachReaches, FileWork, FileWorked, HolderWork, HolderWorked, LeadsWithin, PlansEachReach, PlansEachWithin, PlansEachAtTerminal, Work, Worked, Working, as_planned, file_work_of, files_finish_by, finishes_by, globals_after, holder_work_of, holders_finish_by, planned_of, plans_by, put_all, put_back, put_files, put_holdings, told_of_globals, waiting_after, work_of}
-use Rattle.b2_access.specs.declared.accesses.Access.{Access}
-use Rattle.b2_access.specs.declared.accesses.Answer.{Answer}
+use Rattle.b2_access.specs.Working.{Ends, Plans, ChangesNothing, EachReaches, FinishingIn, Form, LeadsWithin, PlansEachReach, PlansEachWithin, PlansEachAtTerminal, Work, Working, as_planned, finishes_in, globals_after, on_devices, on_files, plain, planned_of, plans_by, put_all, put_back, told_of_globals, waiting_after, work_of}
 use Rattle.b2_access.specs.declared.planned.Planned.{Planned}
 use Rattle.b2_access.specs.declared.planned.Planned.TheVariants as planned
 use Rattle.b2_access.specs.declared.private.Private.{Private}
@@ -55,7 +54,7 @@ reaches me s (Plans p) h = reached_unless_asks s.globals p
 module _ (way : Private → SeenLent → Working) where
   pub plans_within : PlansEachWithin way → PlansWithin (plans_by way)
   plans_within h among me s w =
-      (after_plan (IsWithin among) me s (way me s) (λ x. within among me x me.slots me.held w), as_it_comes (PlannedIn among) me s (way me s) (h among me s w.place))
+      (after_plan (IsWithin among) me s (way me s) (λ x. within among me x me.slots me.held w), as_it_comes (PlannedIn among) me s (way me s) (h among me s w))
 
   pub plans_in_place : PlansInPlace (plans_by way)
   plans_in_place me s = after_plan (λ x. x.place ≡ me.place) me s (way me s) (λ w. refl)
@@ -81,83 +80,100 @@ module _ (way : Private → SeenLent → Working) where
   pub plans_keep_held : PlansKeepHeld (plans_by way)
   plans_keep_held me s = after_plan (λ x. (x.part ≡ me.part) × (x.held ≡ me.held)) me s (way me s) (λ w. (refl, refl))
 
--- AND HOW IT FINISHES
-module _ (way : Access → Answer → Private → SeenLent → Worked) where
-  pub finishes_within : LeadsWithin (λ x a me s. (way x a me s).outcome) → FinishesWithin (finishes_by way)
-  finishes_within h among x a me s leads w = (within among me (way x a me s).work me.slots me.held w, h among x a me s w.place)
+-- AND HOW IT FINISHES, in a form of which all that is put back leaves the place and the terminal, and makes nothing wait to be shown but
+-- what is for that; and where nothing is changed, nothing is
+pub record LeavesRest {W : Type 0} (form : Form W) : Type 0 where
+  pub place : (w : W) (me : Private) → (form.put w me).place ≡ me.place
+  pub term : (w : W) (me : Private) → (form.put w me).term ≡ me.term
+  pub shows : (w : W) (me : Private) → KeepsOrShows me.pending (form.put w me).pending
+  pub back : (me : Private) → form.put (form.unchanged me) me ≡ me
+  pub untold : (me : Private) → form.globals (form.unchanged me) ≡ None
 
-  pub finishes_in_place : FinishesInPlace (finishes_by way)
-  finishes_in_place x a me s = refl
+-- it leaves the frames and the place that is kept; the files that are open; the devices that are held
+pub record LeavesFrames {W : Type 0} (form : Form W) : Type 0 where
+  pub kept : (w : W) (me : Private) → (form.put w me).kept ≡ me.kept
+  pub names : (among : ℕ → Bool) (w : W) (me : Private) → IsWithin among me → IsWithin among (form.put w me)
 
-  pub finishes_keep_none : FinishesKeepNone (finishes_by way)
-  finishes_keep_none x a me s none = inl none
+abbrev pub LeavesFiles : {W : Type 0} → Form W → Type 0
+LeavesFiles {W} form = (w : W) (me : Private) → ((form.put w me).part ≡ me.part) × ((form.put w me).slots ≡ me.slots)
 
-  pub finishes_at_terminal : FinishesAtTerminal (finishes_by way)
-  finishes_at_terminal x a me s = refl
+abbrev pub LeavesDevices : {W : Type 0} → Form W → Type 0
+LeavesDevices {W} form = (w : W) (me : Private) → ((form.put w me).part ≡ me.part) × ((form.put w me).held ≡ me.held)
 
-  pub finishes_to_show : FinishesToShow (finishes_by way)
-  finishes_to_show x a me s = keeps_or_shows (way x a me s).work.shows me.pending
+module _ {W : Type 0} (form : Form W) (rest : LeavesRest form) (way : FinishingIn W) where
+  pub finishes_in_place : FinishesInPlace (finishes_in form way)
+  finishes_in_place x a me s = rest.place (way x a me s).work me
 
-  pub finishes_unchanged : ChangesNothing work_of (λ x a me s. (way x a me s).work) → FinishesUnchanged (finishes_by way)
-  finishes_unchanged h x a me s is = ap (λ (w : Work). put_back w me) (h x a me s is)
+  pub finishes_at_terminal : FinishesAtTerminal (finishes_in form way)
+  finishes_at_terminal x a me s = rest.term (way x a me s).work me
 
-  pub finishes_reach : ChangesNothing work_of (λ x a me s. (way x a me s).work) → EachReaches (λ x a me s. (way x a me s).work) → FinishesReach (finishes_by way)
-  finishes_reach h r x a me s = (r x a me s, λ is. ap (λ (w : Work). globals_after w.globals s.globals) (h x a me s is))
+  pub finishes_to_show : FinishesToShow (finishes_in form way)
+  finishes_to_show x a me s = rest.shows (way x a me s).work me
 
-  pub finishes_keep_files : FinishesKeepFiles (finishes_by way)
-  finishes_keep_files x a me s = (refl, refl)
+  pub finishes_unchanged : ChangesNothing form way → FinishesUnchanged (finishes_in form way)
+  finishes_unchanged h x a me s is = ap (λ (w : W). form.put w me) (h x a me s is) ∙ rest.back me
 
-  pub finishes_keep_held : FinishesKeepHeld (finishes_by way)
-  finishes_keep_held x a me s = (refl, refl)
+  pub finishes_reach : ChangesNothing form way → EachReaches form way → FinishesReach (finishes_in form way)
+  finishes_reach h r x a me s = (
+    r x a me s,
+    λ is. ap (λ (w : W). globals_after (form.globals w) s.globals) (h x a me s is) ∙ ap (λ (o : Option Globals). globals_after o s.globals) (rest.untold me),
+  )
 
--- a statement on data files
-module _ (way : Access → Answer → Private → SeenLent → FileWorked) where
-  pub files_finish_within : LeadsWithin (λ x a me s. (way x a me s).outcome) → FinishesWithin (files_finish_by way)
-  files_finish_within h among x a me s leads w = (within among me (way x a me s).work.work (way x a me s).work.slots me.held w, h among x a me s w.place)
+  pub put_back_whole : FinishesInPlace (finishes_in form way) × FinishesAtTerminal (finishes_in form way) × FinishesToShow (finishes_in form way)
+      × (ChangesNothing form way → FinishesUnchanged (finishes_in form way)) × (ChangesNothing form way → EachReaches form way → FinishesReach (finishes_in form way))
+  put_back_whole = (finishes_in_place, finishes_at_terminal, finishes_to_show, finishes_unchanged, finishes_reach)
 
-  pub files_finish_in_place : FinishesInPlace (files_finish_by way)
-  files_finish_in_place x a me s = refl
+module _ {W : Type 0} (form : Form W) (frames : LeavesFrames form) (way : FinishingIn W) where
+  pub finishes_within : LeadsWithin way → FinishesWithin (finishes_in form way)
+  finishes_within h among x a me s leads w = (frames.names among (way x a me s).work me w, h among x a me s w.place)
 
-  pub files_finish_keep_none : FinishesKeepNone (files_finish_by way)
-  files_finish_keep_none x a me s none = inl none
+  pub finishes_keep_none : FinishesKeepNone (finishes_in form way)
+  finishes_keep_none x a me s none = inl (frames.kept (way x a me s).work me ∙ none)
 
-  pub files_finish_at_terminal : FinishesAtTerminal (files_finish_by way)
-  files_finish_at_terminal x a me s = refl
+pub finishes_keep_files : {W : Type 0} (form : Form W) → LeavesFiles form → (way : FinishingIn W) → FinishesKeepFiles (finishes_in form way)
+finishes_keep_files form leaves way x a me s = leaves (way x a me s).work me
 
-  pub files_finish_to_show : FinishesToShow (files_finish_by way)
-  files_finish_to_show x a me s = keeps_or_shows (way x a me s).work.work.shows me.pending
+pub finishes_keep_held : {W : Type 0} (form : Form W) → LeavesDevices form → (way : FinishingIn W) → FinishesKeepHeld (finishes_in form way)
+finishes_keep_held form leaves way x a me s = leaves (way x a me s).work me
 
-  pub files_finish_unchanged : ChangesNothing file_work_of (λ x a me s. (way x a me s).work) → FinishesUnchanged (files_finish_by way)
-  files_finish_unchanged h x a me s is = ap (λ (w : FileWork). put_files w me) (h x a me s is)
+-- what each form leaves
+pub plain_rest : LeavesRest plain
+plain_rest = record { place = λ w me. refl; term = λ w me. refl; shows = λ w me. keeps_or_shows w.shows me.pending; back = λ me. refl; untold = λ me. refl }
 
-  pub files_finish_reach : ChangesNothing file_work_of (λ x a me s. (way x a me s).work) → EachReaches (λ x a me s. (way x a me s).work.work) → FinishesReach (files_finish_by way)
-  files_finish_reach h r x a me s = (r x a me s, λ is. ap (λ (w : FileWork). globals_after w.work.globals s.globals) (h x a me s is))
+pub plain_frames : LeavesFrames plain
+plain_frames = record { kept = λ w me. refl; names = λ among w me h. within among me w me.slots me.held h }
 
-  pub files_finish_keep_held : FinishesKeepHeld (files_finish_by way)
-  files_finish_keep_held x a me s = (refl, refl)
+pub files_rest : LeavesRest on_files
+files_rest = record { place = λ w me. refl; term = λ w me. refl; shows = λ w me. keeps_or_shows w.work.shows me.pending; back = λ me. refl; untold = λ me. refl }
 
--- one that takes or frees devices
-module _ (way : Access → Answer → Private → SeenLent → HolderWorked) where
-  pub holders_finish_within : LeadsWithin (λ x a me s. (way x a me s).outcome) → FinishesWithin (holders_finish_by way)
-  holders_finish_within h among x a me s leads w = (within among me (way x a me s).work.work me.slots (way x a me s).work.held w, h among x a me s w.place)
+pub files_frames : LeavesFrames on_files
+files_frames = record { kept = λ w me. refl; names = λ among w me h. within among me w.work w.more me.held h }
 
-  pub holders_finish_in_place : FinishesInPlace (holders_finish_by way)
-  holders_finish_in_place x a me s = refl
+pub devices_rest : LeavesRest on_devices
+devices_rest = record { place = λ w me. refl; term = λ w me. refl; shows = λ w me. keeps_or_shows w.work.shows me.pending; back = λ me. refl; untold = λ me. refl }
 
-  pub holders_finish_keep_none : FinishesKeepNone (holders_finish_by way)
-  holders_finish_keep_none x a me s none = inl none
+pub devices_frames : LeavesFrames on_devices
+devices_frames = record { kept = λ w me. refl; names = λ among w me h. within among me w.work me.slots w.more h }
 
-  pub holders_finish_at_terminal : FinishesAtTerminal (holders_finish_by way)
-  holders_finish_at_terminal x a me s = refl
+pub steering_rest : LeavesRest steering
+steering_rest = record { place = λ w me. refl; term = λ w me. refl; shows = λ w me. keeps_or_shows w.work.shows me.pending; back = λ me. refl; untold = λ me. refl }
 
-  pub holders_finish_to_show : FinishesToShow (holders_finish_by way)
-  holders_finish_to_show x a me s = keeps_or_shows (way x a me s).work.work.shows me.pending
+-- one of control names what the place that is kept and the frames name then
+pub control_in : (among : ℕ → Bool) (c : Control) (me : Private) → IsWithin among me → PlaceIn among c.kept × FramesIn among c.stack → IsWithin among (put_control c me)
+control_in among c me w h = record { part = w.part; place = w.place; kept = h.0; frames = h.1 }
 
-  pub holders_finish_unchanged : ChangesNothing holder_work_of (λ x a me s. (way x a me s).work) → FinishesUnchanged (holders_finish_by way)
-  holders_finish_unchanged h x a me s is = ap (λ (w : HolderWork). put_holdings w me) (h x a me s is)
+-- the files that are open, and the devices that are held
+pub plain_files : LeavesFiles plain
+plain_files w me = (refl, refl)
 
-  pub holders_finish_reach : ChangesNothing holder_work_of (λ x a me s. (way x a me s).work) → EachReaches (λ x a me s. (way x a me s).work.work) → FinishesReach (holders_finish_by way)
-  holders_finish_reach h r x a me s = (record { unreached = λ h. refl; absent = λ h. refl; there = refl }, λ is. refl)
+pub plain_devices : LeavesDevices plain
+plain_devices w me = (refl, refl)
 
-  pub holders_finish_keep_files : FinishesKeepFiles (holders_finish_by way)
-  holders_finish_keep_files x a me s = (refl, refl)
+pub files_devices : LeavesDevices on_files
+files_devices w me = (refl, refl)
+
+pub devices_files : LeavesFiles on_devices
+devices_files w me = (refl, refl)
+
+pub steering_devices : LeavesDevices steering
+steering_devices w me = (refl, refl)

@@ -29,3 +29,22 @@ pub record LeaveTheRest (plan : Private → SeenLent → Planning) (finish : Acc
   pub finishes_unchanged : FinishesUnchanged finish
   pub plans_reach : PlansReach plan
   pub finishes_reach : FinishesReach finish
+
+-- IN TWO PARTS: as it plans, and as it finishes
+pub record PlansLeave (plan : Private → SeenLent → Planning) : Type 0 where
+  pub within : PlansWithin plan
+  pub in_place : PlansInPlace plan
+  pub keep_none : PlansKeepNone plan
+  pub at_terminal : PlansAtTerminal plan
+  pub to_show : PlansToShow plan
+  pub before_changes : PlansBeforeChanges plan
+  pub reach : PlansReach plan
+
+pub record FinishesLeave (finish : Access → Answer → Private → SeenLent → Finishing) : Type 0 where
+  pub within : FinishesWithin finish
+  pub in_place : FinishesInPlace finish
+  pub keep_none : FinishesKeepNone finish
+  pub at_terminal : FinishesAtTerminal finish
+  pub to_show : FinishesToShow finish
+  pub unchanged : FinishesUnchanged finish
+  pub reach : FinishesReach finish

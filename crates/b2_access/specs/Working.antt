@@ -1,8 +1,8 @@
--- Statements that change no frame and no place that is kept, which are all but those of control. WHAT SUCH A STATEMENT MAY CHANGE of a
--- partition is a record of its own, which is put back in one place. So by its type it leaves the partition itself and its terminal, where
--- it stands, its frames and the place that is kept, the files that it has open and the devices that it holds, the platter that it starts
--- with, the name that it has declared, the lines that it was given, and what was asked of it. One on data files changes which files are open besides as it finishes,
--- and one that takes or frees devices which of them are held.
+-- WHAT A STATEMENT MAY CHANGE of a partition is a record of its own, which is put back in one place. So by its type it leaves the
+-- partition itself and its terminal, where it stands, its frames and the place that is kept, the files that it has open and the devices
+-- that it holds, the platter that it starts with, the name that it has declared, the lines that it was given, and what was asked of it.
+-- Few may change more, each by a FORM that says how that is put back: one on data files changes which files are open besides as it
+-- finishes, one that takes or frees devices which of them are held, and one of control what `Steering` says.
 use Rattle.std.specs.Prelude.{◌≡◌, ℕ, Bool, true, List, Option, Some, None}
 use Rattle.b2_base.specs.declared.files.Slot.{Slot}
 use Rattle.b2_dec.specs.declared.number.Mode.{Mode}
@@ -12,7 +12,7 @@ use Rattle.b2_vars.specs.Assigned.{Changed}
 use Rattle.b2_vars.specs.Globals.{Globals, MayBecome}
 use Rattle.b2_vars.specs.Tables.{VarsState}
 use Rattle.b2_access.specs.AnswerKinds.{delays}
-use Rattle.b2_access.specs.Homes.{FinishesWithin, OutcomeIn, PlaceIn, PlannedIn, PlansWithin}
+use Rattle.b2_access.specs.Homes.{FinishesWithin, IsWithin, OutcomeIn, PlaceIn, PlannedIn, PlansWithin}
 use Rattle.b2_access.specs.Keeping.{FinishesInPlace, FinishesKeepFiles, FinishesKeepHeld, FinishesKeepNone, PlansInPlace, PlansKeepFiles, PlansKeepHeld, PlansKeepNone}
 use Rattle.b2_access.specs.Lending.{SeenLent}
 use Rattle.b2_access.specs.OwnTerminal.{FinishesAtTerminal, PlannedAt, PlansAtTerminal}
@@ -103,14 +103,61 @@ globals_after (Some after) before = after
 abbrev pub lent_after : Work → SeenLent → SeenLent
 lent_after w s = record s { globals = globals_after w.globals s.globals }
 
--- a statement that has ended, and what it changed
-pub record Worked : Type 0 where
+-- A FORM OF WHAT A STATEMENT MAY CHANGE: nothing of it is changed, it is put back, and what it tells of the `@` variables
+pub record Form (W : Type 0) : Type 0 where
+  pub unchanged : Private → W
+  pub put : W → Private → Private
+  pub globals : W → Option Globals
+
+-- that of most
+abbrev pub plain : Form Work
+plain = record { unchanged = work_of; put = put_back; globals = λ w. w.globals }
+
+-- what any may change, and more
+pub record Wider (More : Type 0) : Type 0 where
   pub work : Work
+  pub more : More
+
+-- the files that are open then
+abbrev pub OpenSlots : Type 0
+OpenSlots = List (Option Slot)
+
+abbrev pub on_files : Form (Wider OpenSlots)
+on_files = record {
+  unchanged = λ me. record { work = work_of me; more = me.slots };
+  put = λ w me. put_all w.work w.more me.held me;
+  globals = λ w. w.work.globals;
+}
+
+-- the devices that are held then; as it finishes it leaves the `@` variables
+abbrev pub HeldDevices : Type 0
+HeldDevices = List (List ℕ)
+
+abbrev pub on_devices : Form (Wider HeldDevices)
+on_devices = record {
+  unchanged = λ me. record { work = work_of me; more = me.held };
+  put = λ w me. put_all w.work me.slots w.more me;
+  globals = λ w. None;
+}
+
+-- a statement that has ended, and what it changed
+pub record WorkedIn (W : Type 0) : Type 0 where
+  pub work : W
   pub outcome : Outcome
 
 -- it changed nothing
+abbrev pub leaves_in : {W : Type 0} → Form W → Private → Outcome → WorkedIn W
+leaves_in form me o = record { work = form.unchanged me; outcome = o }
+
+-- a statement of the form of most
+abbrev pub Worked : Type 0
+Worked = WorkedIn Work
+
 abbrev pub leaves : Private → Outcome → Worked
-leaves me o = record { work = work_of me; outcome = o }
+leaves me o = leaves_in plain me o
+
+abbrev pub FileWorked : Type 0
+FileWorked = WorkedIn (Wider OpenSlots)
 
 -- variables that were changed, and where it goes on or a fault
 abbrev pub with_variables : Changed → Outcome → Work → Worked
@@ -137,66 +184,34 @@ abbrev pub as_planned : Private → SeenLent → Working → Planning
 as_planned me s (Ends w) = done (lent_after w.work s) (ended me w)
 as_planned me s (Plans p) = record { me = me; globals = s.globals; planned = p }
 
--- A STATEMENT ON DATA FILES as it finishes: what it changed, and the files that are open then
-pub record FileWork : Type 0 where
-  pub work : Work
-  pub slots : List (Option Slot)
-
-abbrev pub file_work_of : Private → FileWork
-file_work_of me = record { work = work_of me; slots = me.slots }
-
-abbrev pub put_files : FileWork → Private → Private
-put_files w me = put_all w.work w.slots me.held me
-
-pub record FileWorked : Type 0 where
-  pub work : FileWork
-  pub outcome : Outcome
-
-abbrev pub leaves_files : Private → Outcome → FileWorked
-leaves_files me o = record { work = file_work_of me; outcome = o }
-
--- ONE THAT TAKES OR FREES DEVICES: what it changed, and the devices that are held then; as it finishes it leaves the `@` variables
-pub record HolderWork : Type 0 where
-  pub work : Work
-  pub held : List (List ℕ)
-
-abbrev pub holder_work_of : Private → HolderWork
-holder_work_of me = record { work = work_of me; held = me.held }
-
-abbrev pub put_holdings : HolderWork → Private → Private
-put_holdings w me = put_all w.work me.slots w.held me
-
-pub record HolderWorked : Type 0 where
-  pub work : HolderWork
-  pub outcome : Outcome
-
--- A WAY OF PLANNING, AND THREE OF FINISHING
+-- A WAY OF PLANNING, AND ONE OF FINISHING IN A FORM
 abbrev pub plans_by : (Private → SeenLent → Working) → Private → SeenLent → Planning
 plans_by way me s = as_planned me s (way me s)
 
-abbrev pub finishes_by : (Access → Answer → Private → SeenLent → Worked) → Access → Answer → Private → SeenLent → Finishing
-finishes_by way x a me s = finished (lent_after (way x a me s).work s) (ended me (way x a me s))
+abbrev pub FinishingIn : Type 0 → Type 0
+FinishingIn W = Access → Answer → Private → SeenLent → WorkedIn W
 
-abbrev pub files_finish_by : (Access → Answer → Private → SeenLent → FileWorked) → Access → Answer → Private → SeenLent → Finishing
-files_finish_by way x a me s = finished (lent_after (way x a me s).work.work s) (record { me = put_files (way x a me s).work me; outcome = (way x a me s).outcome })
+abbrev pub finishes_in : {W : Type 0} → Form W → FinishingIn W → Access → Answer → Private → SeenLent → Finishing
+finishes_in form way x a me s =
+    finished (record s { globals = globals_after (form.globals (way x a me s).work) s.globals }) (record { me = form.put (way x a me s).work me; outcome = (way x a me s).outcome })
 
-abbrev pub holders_finish_by : (Access → Answer → Private → SeenLent → HolderWorked) → Access → Answer → Private → SeenLent → Finishing
-holders_finish_by way x a me s = finished s (record { me = put_holdings (way x a me s).work me; outcome = (way x a me s).outcome })
+abbrev pub finishes_by : FinishingIn Work → Access → Answer → Private → SeenLent → Finishing
+finishes_by way x a me s = finishes_in plain way x a me s
 
--- WHAT THEY STILL HAVE TO SHOW. What is planned leads to the home of the place and marks no other, and asks at the own terminal alone;
--- what finishes leads to that home; an answer that delays changes nothing; and the `@` variables are changed where a receiver among them
--- was reached, and nowhere else.
+-- WHAT THEY STILL HAVE TO SHOW. What is planned leads to the home of the place and marks no home but those that were named before, and
+-- asks at the own terminal alone; what finishes leads to the home of the place; an answer that delays changes nothing; and the `@`
+-- variables are changed where a receiver among them was reached, and nowhere else.
 abbrev pub PlansEachWithin : (Private → SeenLent → Working) → Type 0
-PlansEachWithin way = (among : ℕ → Bool) (me : Private) (s : SeenLent) → PlaceIn among me.place → PlannedIn among (planned_of (way me s))
+PlansEachWithin way = (among : ℕ → Bool) (me : Private) (s : SeenLent) → IsWithin among me → PlannedIn among (planned_of (way me s))
 
 abbrev pub PlansEachAtTerminal : (Private → SeenLent → Working) → Type 0
 PlansEachAtTerminal way = (me : Private) (s : SeenLent) → PlannedAt me.term (planned_of (way me s))
 
-abbrev pub LeadsWithin : (Access → Answer → Private → SeenLent → Outcome) → Type 0
-LeadsWithin leads = (among : ℕ → Bool) (x : Access) (a : Answer) (me : Private) (s : SeenLent) → PlaceIn among me.place → OutcomeIn among (leads x a me s)
+abbrev pub LeadsWithin : {W : Type 0} → FinishingIn W → Type 0
+LeadsWithin way = (among : ℕ → Bool) (x : Access) (a : Answer) (me : Private) (s : SeenLent) → PlaceIn among me.place → OutcomeIn among (way x a me s).outcome
 
-abbrev pub ChangesNothing : {W : Type 0} → (Private → W) → (Access → Answer → Private → SeenLent → W) → Type 0
-ChangesNothing {W} of_it work = (x : Access) (a : Answer) (me : Private) (s : SeenLent) → delays a ≡ true → work x a me s ≡ of_it me
+abbrev pub ChangesNothing : {W : Type 0} → Form W → FinishingIn W → Type 0
+ChangesNothing form way = (x : Access) (a : Answer) (me : Private) (s : SeenLent) → delays a ≡ true → (way x a me s).work ≡ form.unchanged me
 
 -- what it tells of the `@` variables, where it tells anything
 abbrev pub told_of_globals : Working → Option Globals
@@ -206,8 +221,8 @@ told_of_globals (Plans p) = None
 abbrev pub PlansEachReach : (Private → SeenLent → Working) → Type 0
 PlansEachReach way = (me : Private) (s : SeenLent) → MayBecome s.globals (globals_after (told_of_globals (way me s)) s.globals)
 
-abbrev pub EachReaches : (Access → Answer → Private → SeenLent → Work) → Type 0
-EachReaches work = (x : Access) (a : Answer) (me : Private) (s : SeenLent) → MayBecome s.globals (globals_after (work x a me s).globals s.globals)
+abbrev pub EachReaches : {W : Type 0} → Form W → FinishingIn W → Type 0
+EachReaches form way = (x : Access) (a : Answer) (me : Private) (s : SeenLent) → MayBecome s.globals (globals_after (form.globals (way x a me s).work) s.globals)
 
 -- SO IT HOLDS OF EACH, BY ITS FORM; and what each leaves of the open files and of the devices that are held
 abbrev pub PlansArePutBack : Type 0
@@ -217,18 +232,25 @@ PlansArePutBack =
     × (PlansEachWithin way → PlansWithin (plans_by way)) × (PlansEachAtTerminal way → PlansAtTerminal (plans_by way))
     × PlansKeepFiles (plans_by way) × PlansKeepHeld (plans_by way) × (PlansEachReach way → PlansReach (plans_by way))
 
--- whichever of the three it is, by what it changes, where it leads, and how it finishes
-abbrev pub IsPutBack : {W : Type 0} → (Private → W) → (W → Work) → (Access → Answer → Private → SeenLent → W) → (Access → Answer → Private → SeenLent → Outcome) → (Access → Answer → Private → SeenLent → Finishing) → Type 0
-IsPutBack of_it work_in work leads finish =
-    FinishesInPlace finish × FinishesKeepNone finish × FinishesAtTerminal finish × FinishesToShow finish
-    × (LeadsWithin leads → FinishesWithin finish) × (ChangesNothing of_it work → FinishesUnchanged finish)
-    × (ChangesNothing of_it work → EachReaches (λ x a me s. work_in (work x a me s)) → FinishesReach finish)
+-- whichever form it is
+abbrev pub IsPutBack : {W : Type 0} → Form W → Type 0
+IsPutBack {W} form =
+    (way : FinishingIn W)
+    → FinishesInPlace (finishes_in form way) × FinishesAtTerminal (finishes_in form way) × FinishesToShow (finishes_in form way)
+    × (ChangesNothing form way → FinishesUnchanged (finishes_in form way)) × (ChangesNothing form way → EachReaches form way → FinishesReach (finishes_in form way))
+
+-- one that changes no frame and no place that is kept
+abbrev pub IsLeftInFrames : {W : Type 0} → Form W → Type 0
+IsLeftInFrames {W} form = (way : FinishingIn W) → FinishesKeepNone (finishes_in form way) × (LeadsWithin way → FinishesWithin (finishes_in form way))
+
+abbrev pub IsLeftItsFiles : {W : Type 0} → Form W → Type 0
+IsLeftItsFiles {W} form = (way : FinishingIn W) → FinishesKeepFiles (finishes_in form way)
+
+abbrev pub IsLeftItsDevices : {W : Type 0} → Form W → Type 0
+IsLeftItsDevices {W} form = (way : FinishingIn W) → FinishesKeepHeld (finishes_in form way)
 
 abbrev pub FinishesArePutBack : Type 0
 FinishesArePutBack =
-    ((way : Access → Answer → Private → SeenLent → Worked)
-    → IsPutBack work_of (λ w. w) (λ x a me s. (way x a me s).work) (λ x a me s. (way x a me s).outcome) (finishes_by way) × FinishesKeepFiles (finishes_by way) × FinishesKeepHeld (finishes_by way))
-    × ((way : Access → Answer → Private → SeenLent → FileWorked)
-    → IsPutBack file_work_of (λ w. w.work) (λ x a me s. (way x a me s).work) (λ x a me s. (way x a me s).outcome) (files_finish_by way) × FinishesKeepHeld (files_finish_by way))
-    × ((way : Access → Answer → Private → SeenLent → HolderWorked)
-    → IsPutBack holder_work_of (λ w. w.work) (λ x a me s. (way x a me s).work) (λ x a me s. (way x a me s).outcome) (holders_finish_by way) × FinishesKeepFiles (holders_finish_by way))
+    (IsPutBack plain × IsLeftInFrames plain × IsLeftItsFiles plain × IsLeftItsDevices plain)
+    × (IsPutBack on_files × IsLeftInFrames on_files × IsLeftItsDevices on_files)
+    × (IsPutBack on_devices × IsLeftInFrames on_devices × IsLeftItsFiles on_devices)

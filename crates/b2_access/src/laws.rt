@@ -11,6 +11,7 @@ ghost use Rattle.b2_access.specs.Leading.{AnswersLeadToHolders, AnswersLeadToWho
 ghost use Rattle.b2_access.specs.Loans.{LoansEndWell};
 ghost use Rattle.b2_access.specs.Serving.{StopsUnchanged, serves, itself};
 ghost use Rattle.b2_access.specs.Sharing.{IsLocal, KeepsListed};
+ghost use Rattle.b2_access.specs.Steering.{SteeringIsPutBack};
 ghost use Rattle.b2_access.specs.Touching.{MayWantMemory};
 ghost use Rattle.b2_access.specs.Working.{FinishesArePutBack, PlansArePutBack};
 
@@ -34,6 +35,12 @@ pub fn law_plans_are_put_back()
 /// one that takes or frees devices the files that are open, and every other both.
 pub fn law_finishes_are_put_back()
     ensures { FinishesArePutBack }
+{}
+
+/// A statement of control changes frames and the place that is kept as it finishes, and for the rest leaves what the others do, and the
+/// devices that are held.
+pub fn law_control_is_put_back()
+    ensures { SteeringIsPutBack }
 {}
 
 /// What an access is answered and writes depends on what it touches alone, and all else stays.

@@ -209,7 +209,7 @@ programs_finish devices x a me s t may is again none own w = program_well me w x
 -- and it leaves immediate lines their own
 module _ (part : ℕ) where
   abbrev ProgramOwn : Private → Steered → Type 0
-  ProgramOwn me e = HasOwnLine part (put_control e.control me) × LeadsOwn part e.outcome
+  ProgramOwn me e = HasOwnLine part (put_control e.work me) × LeadsOwn part e.outcome
 
   started_own : (n : Option ℕ) (me : Private) → HasOwnLine part me → ProgramOwn me (started n me)
   started_own None me h = (record { part = h.part; place = h.place; kept = tt; frames = tt }, tt)

@@ -152,7 +152,7 @@ module _ (s : Context) (h : LooksAtNumbers s) where
 
 -- frames
 framed : (f : Frame) (goes : Outcome) (me : Private) → PrivateHolds me → SteeredHolds (with_frame f goes me)
-framed f goes me h = either SteeredHolds (nat_lt (length me.stack) most_frames) (record { control = record (control_of me) { stack = f ∷ me.stack }; outcome = goes }) _ h h
+framed f goes me h = either SteeredHolds (nat_lt (length me.stack) most_frames) (record { work = record (control_of me) { stack = f ∷ me.stack }; outcome = goes }) _ h h
 
 -- loops
 made_holds : (code : Option ℕ) (l : Loop) (body : Place) (me : Private) → PrivateHolds me → SteeredHolds (made_loop code l body me)
@@ -206,7 +206,7 @@ forgets_hold true p me h = either SteeredHolds (may_forget_all p me) _ _ (h.0, t
 
 into_holds : (entered : Option ℕ) (q : Place) (args : List Value) (back : Option Place) (me : Private) → All IsAnyNumber args → PrivateHolds me → SteeredHolds (calls_into entered q args back me)
 into_holds entered q args back me are h =
-    either SteeredHolds (has_room me.stack) (record { control = record (control_of me) { work = record (work_of me) { args = Some args }; stack = Call back entered ∷ me.stack }; outcome = outcome.Jump q }) _ (h.0, are) h
+    either SteeredHolds (has_room me.stack) (record { work = record (control_of me) { work = record (work_of me) { args = Some args }; stack = Call back entered ∷ me.stack }; outcome = outcome.Jump q }) _ (h.0, are) h
 
 mark_holds : (to : Option Place) (args : List Value) (back : Option Place) (me : Private) → All IsAnyNumber args → PrivateHolds me → SteeredHolds (calls_mark to args back me)
 mark_holds None args back me are h = h

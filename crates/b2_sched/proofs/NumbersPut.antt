@@ -33,7 +33,7 @@ planned_holds me s (Plans p) h g k = (h, g)
 
 -- what a statement that steers has left of a partition, where it leaves the `@` variables
 abbrev pub SteeredHolds : Steered → Type 0
-SteeredHolds e = HoldsNumbers e.control.work.vars × ArgsHold e.control.work.args
+SteeredHolds e = HoldsNumbers e.work.work.vars × ArgsHold e.work.work.args
 
 -- what a statement works in
 pub works_in : (me : Private) (s : SeenLent) → PrivateHolds me → GlobalsHold s.globals → WorkHolds (work_in (setting_of me) s.home me.vars s.globals)

@@ -75,7 +75,7 @@ module _ (part : ℕ) where
   Left kept frames = PlaceOwn part kept × FramesOwn part frames
 
   EndedIn : Steered → Type 0
-  EndedIn e = Left e.control.kept e.control.stack × LeadsOwn part e.outcome
+  EndedIn e = Left e.work.kept e.work.stack × LeadsOwn part e.outcome
 
   -- all of it where nothing was changed
   left : (me : Private) → Within me → Left me.kept me.stack
@@ -100,7 +100,7 @@ module _ (part : ℕ) where
   framed : (f : Frame) (o : Outcome) (me : Private) → Within me → FrameOwn part f → LeadsOwn part o → EndedIn (with_frame f o me)
   unfolding EndedIn
   framed f o me w h k =
-      either EndedIn (nat_lt (length me.stack) most_frames) (record { control = record (control_of me) { stack = f ∷ me.stack }; outcome = o }) _ ((w.kept, (h, w.frames)), k) (left me w, tt)
+      either EndedIn (nat_lt (length me.stack) most_frames) (record { work = record (control_of me) { stack = f ∷ me.stack }; outcome = o }) _ ((w.kept, (h, w.frames)), k) (left me w, tt)
 
   -- the next unit, or a fault
   next_in : (o : Option ℕ) → LeadsOwn part (goes_or outcome.Next o)
@@ -297,7 +297,7 @@ module _ (part : ℕ) where
   called_into : (entered : Option ℕ) (q : Place) (args : List Value) (back : Option Place) (me : Private) → Within me → Own q → PlaceOwn part back → EndedIn (calls_into entered q args back me)
   unfolding EndedIn
   called_into entered q args back me w h k =
-      either EndedIn (has_room me.stack) (record { control = record (control_of me) { work = record (work_of me) { args = Some args }; stack = Call back entered ∷ me.stack }; outcome = outcome.Jump q }) _
+      either EndedIn (has_room me.stack) (record { work = record (control_of me) { work = record (work_of me) { args = Some args }; stack = Call back entered ∷ me.stack }; outcome = outcome.Jump q }) _
       ((w.kept, (k, w.frames)), h) (left me w, tt)
 
   mark_called : (to : Option Place) (args : List Value) (back : Option Place) (me : Private) → Within me → PlaceOwn part to → PlaceOwn part back → EndedIn (calls_mark to args back me)
@@ -369,7 +369,7 @@ module _ (part : ℕ) where
   PlanningIn : Planning → Type 0
   PlanningIn p = HasOwnLine part p.me × PlannedOwn part p.planned
 
-  put_in : (me : Private) (e : Steered) → Within me → Left e.control.kept e.control.stack → Within (put_control e.control me)
+  put_in : (me : Private) (e : Steered) → Within me → Left e.work.kept e.work.stack → Within (put_control e.work me)
   put_in me e w h = record { part = w.part; place = w.place; kept = h.0; frames = h.1 }
 
   done_in : (s : SeenLent) (me : Private) (e : Steered) → Within me → EndedIn e → PlanningIn (done s (steered me e))

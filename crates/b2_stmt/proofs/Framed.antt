@@ -12,7 +12,7 @@ use Rattle.b2_stmt.specs.Frames.{with_frame}
 
 room_so : (b c : Bool) (f : Frame) (goes : Outcome) (me : Private) → b ≡ c
     → ◌≡◌ {A = Ended} (if b then record { me = record me { stack = f ∷ me.stack }; outcome = goes } else record { me = me; outcome = outcome.Failed A04_TOO_DEEP })
-    (steered me (if c then record { control = record (control_of me) { stack = f ∷ me.stack }; outcome = goes } else unsteered me (outcome.Failed A04_TOO_DEEP)))
+    (steered me (if c then record { work = record (control_of me) { stack = f ∷ me.stack }; outcome = goes } else unsteered me (outcome.Failed A04_TOO_DEEP)))
 room_so true true f goes me is = refl
 room_so true false f goes me is = cc
 room_so false true f goes me is = cc

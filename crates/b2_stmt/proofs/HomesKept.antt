@@ -1,12 +1,11 @@
 -- A statement names no partition as a home but its own and those that were named before.
 use Rattle.std.proofs.Common.{◌≡◌, ◌∙◌, ◌||◌, ℕ, ◌==◌, ◌&&◌, not, refl, sym, ap, subst, nat_lt, Bool, true, false, List, [], ◌∷◌, length, Option, Some, None, is_some, Result, Ok, Err, if◌then◌else◌}
 use Rattle.std.specs.Prelude.{unwrap_or, ◌+◌}
-use Rattle.std.specs.Option.{option_map, option_and_then}
+use Rattle.std.specs.Option.{option_map}
 use Rattle.b2_atom.specs.Tree.{Trees}
 use Rattle.b2_atom.specs.Tree.Trees.{Done, Put, In}
 use Rattle.b2_atom.specs.declared.rows.TheConstants as row
 use Rattle.b2_rows.specs.Following.{past_colon, unit_or_next}
-use Rattle.b2_rows.specs.declared.following.Goal.{Goal}
 use Rattle.b2_rows.specs.declared.following.Goal.TheVariants as goal
 use Rattle.b2_text.specs.Program.{Lines, line_at, number_after}
 use Rattle.b2_text.specs.Spots.{first_opening, is_mark, or_else}
@@ -30,7 +29,7 @@ use Rattle.b2_expr.specs.Answers.{Answer as NumberAnswer}
 use Rattle.b2_expr.specs.Named.{number_there}
 use Rattle.b2_expr.specs.Scope.{Context}
 use Rattle.b2_access.specs.Lending.{SeenLent}
-use Rattle.b2_access.specs.Places.{goal_place, line_after, line_start}
+use Rattle.b2_access.specs.Places.{line_start}
 use Rattle.b2_access.specs.declared.accesses.Access.{Access}
 use Rattle.b2_access.specs.declared.accesses.Access.TheVariants as access
 use Rattle.b2_access.specs.declared.accesses.Answer.{Answer}
@@ -49,20 +48,21 @@ use Rattle.b2_stmt.specs.Choices.{calls_a_line, choice_in}
 use Rattle.b2_stmt.specs.Clearing.{asked_access, clearing_ends, edit_finishes}
 use Rattle.b2_stmt.specs.Course.{continues, runs, runs_from, runs_where}
 use Rattle.b2_stmt.specs.Frames.{with_frame}
-use Rattle.b2_access.specs.Going.{to_found, to_goal, to_place, where_there}
+use Rattle.b2_access.specs.Going.{to_place}
 use Rattle.b2_access.specs.Homes.{AnswerIn, FinishesWithin, FrameIn, FramesIn, HomesIn, IsWithin, OutcomeIn, PartIn, PlaceIn, PlannedIn, PlansWithin}
 use Rattle.b2_stmt.specs.Loops.{loop_begins, loop_element, loop_counts, goes_round, is_over, loop_in, made_loop, next_value, nexts, tested, without_loop}
 use Rattle.b2_access.specs.Courses.{Here, here}
 use Rattle.b2_access.specs.Placed.{Statement}
 use Rattle.b2_stmt.specs.Plan.{acts, acts_unless, around, asked_at, asked_by, by_access, does, ends_at, finish, is_refused, plan, plans_asked, stops}
-use Rattle.b2_access.specs.Planning.{Planning, done, goes_or}
+use Rattle.b2_access.specs.Planning.{Planning, done}
 use Rattle.b2_access.specs.Views.{ClearCame, AllCleared, LinesErased, TextLocked, ClearLater, clear_came}
 use Rattle.b2_access.proofs.Choice.{either}
-use Rattle.b2_access.proofs.Homes.{marks_none}
+use Rattle.b2_access.proofs.Homes.{found_in, goal_in, goes_in, lined, marks_none, next_or_fails, placed}
 use Rattle.b2_access.specs.Working.{work_of}
-use Rattle.b2_access.specs.Steering.{Steered, control_of, put_control, steered}
+use Rattle.b2_access.specs.Steering.{Steered, control_of, steered}
 use Rattle.b2_access.proofs.Courses.{each_course}
 use Rattle.b2_access.proofs.Tables.{each_row}
+use Rattle.b2_access.proofs.Working.{control_in}
 use Rattle.b2_stmt.proofs.Erased.{each_erased}
 use Rattle.b2_stmt.specs.declared.asked.Asked.{Asked}
 use Rattle.b2_stmt.specs.declared.asked.Asked.TheVariants as asked
@@ -77,7 +77,7 @@ module _ (among : ℕ → Bool) where
   Left kept frames = PlaceIn among kept × FramesIn among frames
 
   EndedIn : Steered → Type 0
-  EndedIn e = Left e.control.kept e.control.stack × OutcomeIn among e.outcome
+  EndedIn e = Left e.work.kept e.work.stack × OutcomeIn among e.outcome
 
   -- all of it where nothing was changed
   left : (me : Private) → Within me → Left me.kept me.stack
@@ -102,46 +102,7 @@ module _ (among : ℕ → Bool) where
   framed : (f : Frame) (o : Outcome) (me : Private) → Within me → FrameIn among f → OutcomeIn among o → EndedIn (with_frame f o me)
   unfolding EndedIn
   framed f o me w h k =
-      either EndedIn (nat_lt (length me.stack) most_frames) (record { control = record (control_of me) { stack = f ∷ me.stack }; outcome = o }) _ ((w.kept, (h, w.frames)), k) (left me w, tt)
-
-  -- the next unit, or a fault
-  next_in : (o : Option ℕ) → OutcomeIn among (goes_or outcome.Next o)
-  next_in None = tt
-  next_in (Some code) = tt
-
-  -- where a goal leads
-  placed : (p : Option Place) → PlaceIn among p → OutcomeIn among (to_place p)
-  placed None h = tt
-  placed (Some p) h = h
-
-  lined : (line : Option (List ℕ)) (p : Place) → among p.home ≡ true → OutcomeIn among (where_there line p)
-  lined None p h = tt
-  lined (Some line) p h = h
-
-  after_by : (n : Option ℕ) (p : Place) → among p.home ≡ true → PlaceIn among (option_map (line_start p) n)
-  after_by None p h = tt
-  after_by (Some n) p h = h
-
-  after_line : (lines : Lines) (p : Place) → among p.home ≡ true → PlaceIn among (line_after lines p)
-  after_line lines p h = by_line p.line
-    where
-      by_line : (l : Option ℕ) → PlaceIn among (option_and_then (λ (n : ℕ). option_map (line_start p) (number_after (Some n) lines)) l)
-      by_line None = tt
-      by_line (Some n) = after_by (number_after (Some n) lines) p h
-
-  goal_in : (lines : Lines) (p : Place) (g : Goal) → among p.home ≡ true → PlaceIn among (goal_place lines p g)
-  goal_in lines p (goal.Unit k) h = h
-  goal_in lines p (goal.Line n) h = h
-  goal_in lines p goal.NextLine h = after_line lines p h
-
-  goes_in : (lines : Lines) (p : Place) (g : Goal) → among p.home ≡ true → OutcomeIn among (to_goal lines p g)
-  goes_in lines p (goal.Unit k) h = h
-  goes_in lines p (goal.Line n) h = lined (line_at n lines) (line_start p n) h
-  goes_in lines p goal.NextLine h = placed (line_after lines p) (after_line lines p h)
-
-  found_in : (lines : Lines) (p : Place) (r : Result Goal ℕ) → among p.home ≡ true → OutcomeIn among (to_found lines p r)
-  found_in lines p (Ok g) h = goes_in lines p g h
-  found_in lines p (Err code) h = tt
+      either EndedIn (nat_lt (length me.stack) most_frames) (record { work = record (control_of me) { stack = f ∷ me.stack }; outcome = o }) _ ((w.kept, (h, w.frames)), k) (left me w, tt)
 
   passed_in : (t : Trees) → OutcomeIn among (passed_function t)
   passed_in Done = tt
@@ -163,13 +124,13 @@ module _ (among : ℕ → Bool) where
   still_in r t h s lines k =
       let F : Leads → Type 0 = λ leads. OutcomeIn among (leads t h s lines) in
       each_row F still_rows left_out r (
-        found_in lines h.place (if_goal s h.place.unit h.units t) k,
+        found_in among lines h.place (if_goal s h.place.unit h.units t) k,
         (
-          found_in lines h.place (goto_goal t) k,
+          found_in among lines h.place (goto_goal t) k,
           (
-            goes_in lines h.place (past_colon h.place.unit h.units) k,
+            goes_in among lines h.place (past_colon h.place.unit h.units) k,
             (
-              goes_in lines h.place goal.NextLine k,
+              goes_in among lines h.place goal.NextLine k,
               (tt, (tt, (tt, (tt, (passed_in t, (tt, (tt, tt))))))),
             ),
           ),
@@ -184,7 +145,7 @@ module _ (among : ℕ → Bool) where
   chosen_in : (goto : Bool) (n : Option ℕ) (h : Here) (lines : Lines) → among h.place.home ≡ true → PlaceIn among (place_after h lines) → AskedIn (line_chosen goto n h lines)
   unfolding AskedIn
   chosen_in true None h lines k after = tt
-  chosen_in true (Some n) h lines k after = lined (line_at n lines) (line_start h.place n) k
+  chosen_in true (Some n) h lines k after = lined among (line_at n lines) (line_start h.place n) k
   chosen_in false None h lines k after = tt
   chosen_in false (Some n) h lines k after = after
 
@@ -209,7 +170,7 @@ module _ (among : ℕ → Bool) where
   pub asked_in : (r : ℕ) (t : Trees) (h : Here) (s : Context) (lines : Lines) → among h.place.home ≡ true → AskedIn (asked_of r t h s lines)
   unfolding AskedIn
   asked_in r t h s lines k =
-      let after : PlaceIn among (place_after h lines) = goal_in lines h.place (unit_or_next (h.place.unit + 1) h.units) k in
+      let after : PlaceIn among (place_after h lines) = goal_in among lines h.place (unit_or_next (h.place.unit + 1) h.units) k in
       let F : Asks → Type 0 = λ asks. AskedIn (asks t h s lines) in
       each_row F asking_rows asks_nothing r (
         loop_asked (loop_in s t) (body_place h lines) (body_by (place_after h lines) _ after k),
@@ -299,7 +260,7 @@ module _ (among : ℕ → Bool) where
   called_into : (entered : Option ℕ) (q : Place) (args : List Value) (back : Option Place) (me : Private) → Within me → PartIn among entered → among q.home ≡ true → PlaceIn among back → EndedIn (calls_into entered q args back me)
   unfolding EndedIn
   called_into entered q args back me w g h k =
-      either EndedIn (has_room me.stack) (record { control = record (control_of me) { work = record (work_of me) { args = Some args }; stack = Call back entered ∷ me.stack }; outcome = outcome.Jump q }) _
+      either EndedIn (has_room me.stack) (record { work = record (control_of me) { work = record (work_of me) { args = Some args }; stack = Call back entered ∷ me.stack }; outcome = outcome.Jump q }) _
       ((w.kept, ((k, g), w.frames)), h) (left me w, tt)
 
   mark_called : (to : Option Place) (args : List Value) (back : Option Place) (me : Private) → Within me → PlaceIn among to → PlaceIn among back → EndedIn (calls_mark to args back me)
@@ -310,7 +271,7 @@ module _ (among : ℕ → Bool) where
   args_in : (o : Option (List Value)) (r : WorkLeft) (me : Private) → Within me → EndedIn (ends_taken o r me)
   unfolding EndedIn
   args_in None r me w = (left me w, tt)
-  args_in (Some xs) r me w = ((w.kept, w.frames), next_in r.code)
+  args_in (Some xs) r me w = ((w.kept, w.frames), next_or_fails among r.code)
 
   back_in : (how : Option Place → Outcome) (fs : List Frame) (me : Private) → ((b : Option Place) → PlaceIn among b → OutcomeIn among (how b)) → Within me → FramesIn among fs → EndedIn (back_from how fs me)
   unfolding EndedIn
@@ -356,7 +317,7 @@ module _ (among : ℕ → Bool) where
   carried_in (asked.Begin l body) p me own home h w k = begins_in l body me w k
   carried_in (asked.Next v) p me own home h w k = nexts_in v me w
   carried_in (asked.Call n back) p me own home h w k = called_in (line_at n home) (line_start p n) back me w h k
-  carried_in asked.Return p me own home h w k = leaves_in to_place me placed w
+  carried_in asked.Return p me own home h w k = leaves_in to_place me (placed among) w
   carried_in (asked.Forget all) p me own home h w k = forgets_in all p me w
   carried_in (asked.Stop shown after) p me own home h w k =
       ((kept_in (is_some p.line) after me.kept k w.kept, w.frames), tt)
@@ -403,12 +364,9 @@ module _ (among : ℕ → Bool) where
   PlanningIn : Planning → Type 0
   PlanningIn p = IsWithin among p.me × PlannedIn among p.planned
 
-  put_in : (me : Private) (e : Steered) → Within me → Left e.control.kept e.control.stack → Within (put_control e.control me)
-  put_in me e w h = record { part = w.part; place = w.place; kept = h.0; frames = h.1 }
-
   done_in : (s : SeenLent) (me : Private) (e : Steered) → Within me → EndedIn e → PlanningIn (done s (steered me e))
   unfolding EndedIn PlanningIn
-  done_in s me e w h = (put_in me e w h.0, h.1)
+  done_in s me e w h = (control_in among e.work me w h.0, h.1)
 
   access_in : (o : Option Access) (s : SeenLent) (me : Private) (e : Steered) → Within me → EndedIn e → AccessIn o → PlanningIn (by_access o s me e)
   unfolding PlanningIn AccessIn
@@ -476,7 +434,7 @@ module _ (among : ℕ → Bool) where
   lent_in (access.Enter name mark) (answer.Entered g spot) p me s leads is w = enters_in g spot (asked_at me s) me w leads (asked_there me s w)
   lent_in (access.Enter name mark) answer.NoPart p me s leads is w = (left me w, tt)
   lent_in (access.Enter name mark) (answer.Refused code) p me s leads is w = (left me w, tt)
-  lent_in (access.Leave home) answer.Done p me s leads is w = leaves_in to_place me placed w
+  lent_in (access.Leave home) answer.Done p me s leads is w = leaves_in to_place me (placed among) w
   lent_in (access.Drop homes) answer.Done p me s leads is w = carried_in (asked_at me s) p me s.own.lines s.home.lines (stands_in p me is w) w (asked_there me s w)
   lent_in x a p me s leads is w = edits_in x a me w
 
@@ -488,7 +446,7 @@ module _ (among : ℕ → Bool) where
   unfolding EndedIn
   finishes_in x a me s leads w =
       let h = ends_in me.place x a me s refl leads w in
-      (put_in me (ends_at me.place x a me s) w h.0, h.1)
+      (control_in among (ends_at me.place x a me s).work me w h.0, h.1)
 
 pub plans_within : PlansWithin plan
 unfolding PlanningIn

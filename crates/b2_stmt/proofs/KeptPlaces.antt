@@ -17,10 +17,10 @@ use Rattle.b2_flow.specs.declared.frame.Var2.{Var2}
 use Rattle.b2_receiver.specs.Assigning.{assigned_number}
 use Rattle.b2_expr.specs.Answers.{Answer as NumberAnswer}
 use Rattle.b2_expr.specs.Named.{number_there}
-use Rattle.b2_access.specs.Keeping.{FinishesInPlace, FinishesKeepNone, PlansInPlace, PlansKeepNone}
+use Rattle.b2_access.specs.Keeping.{FinishesKeepNone, PlansInPlace, PlansKeepNone}
 use Rattle.b2_access.specs.Lending.{SeenLent}
-use Rattle.b2_access.specs.OwnTerminal.{AskedAt, FinishesAtTerminal, PlannedAt, PlansAtTerminal}
-use Rattle.b2_access.specs.Pending.{FinishesToShow, KeepsOrShows, PlansToShow}
+use Rattle.b2_access.specs.OwnTerminal.{AskedAt, PlannedAt, PlansAtTerminal}
+use Rattle.b2_access.specs.Pending.{KeepsOrShows, PlansToShow}
 use Rattle.b2_access.specs.Places.{line_start}
 use Rattle.b2_access.specs.Going.{to_place}
 use Rattle.b2_access.specs.Courses.{Here, here}
@@ -51,7 +51,7 @@ use Rattle.b2_stmt.specs.Parts.{part_came}
 use Rattle.b2_expr.specs.Workspace.{WorkLeft}
 use Rattle.b2_stmt.proofs.EachPlan.{MayAsk, each_end, each_plan}
 use Rattle.b2_stmt.proofs.PartsCame.{each_part}
-use Rattle.b2_stmt.specs.Plan.{acts, acts_unless, asked_at, asked_by, by_access, does, ends_at, finish, is_refused, plan, plans_asked, stops}
+use Rattle.b2_stmt.specs.Plan.{acts, acts_unless, asked_at, asked_by, by_access, does, finish, is_refused, plan, plans_asked, stops}
 use Rattle.b2_stmt.specs.declared.asked.Asked.{Asked}
 use Rattle.b2_stmt.specs.declared.asked.Asked.TheVariants as asked
 use Rattle.b2_stmt.specs.declared.loops.Loop.{Loop}
@@ -61,11 +61,11 @@ abbrev KeepsNoPlace : Private → Type 0
 KeepsNoPlace me = me.kept ≡ None
 
 KeepsNothing : Steered → Type 0
-KeepsNothing e = (e.control.kept ≡ None) ⊎ (e.outcome ≡ outcome.Ready)
+KeepsNothing e = (e.work.kept ≡ None) ⊎ (e.outcome ≡ outcome.Ready)
 
 framed : (f : Frame) (o : Outcome) (me : Private) → KeepsNoPlace me → KeepsNothing (with_frame f o me)
 unfolding KeepsNothing
-framed f o me h = either KeepsNothing (nat_lt (length me.stack) most_frames) (record { control = record (control_of me) { stack = f ∷ me.stack }; outcome = o }) _ (inl h) (inl h)
+framed f o me h = either KeepsNothing (nat_lt (length me.stack) most_frames) (record { work = record (control_of me) { stack = f ∷ me.stack }; outcome = o }) _ (inl h) (inl h)
 
 -- loops
 made : (o : Option ℕ) (l : Loop) (body : Place) (me : Private) → KeepsNoPlace me → KeepsNothing (made_loop o l body me)
@@ -106,7 +106,7 @@ called (Some line) q back me h = framed (Call back None) (outcome.Jump q) me h
 called_into : (entered : Option ℕ) (q : Place) (args : List Value) (back : Option Place) (me : Private) → KeepsNoPlace me → KeepsNothing (calls_into entered q args back me)
 unfolding KeepsNothing
 called_into entered q args back me h =
-    either KeepsNothing (has_room me.stack) (record { control = record (control_of me) { work = record (work_of me) { args = Some args }; stack = Call back entered ∷ me.stack }; outcome = outcome.Jump q }) _ (inl h) (inl h)
+    either KeepsNothing (has_room me.stack) (record { work = record (control_of me) { work = record (work_of me) { args = Some args }; stack = Call back entered ∷ me.stack }; outcome = outcome.Jump q }) _ (inl h) (inl h)
 
 mark_called : (to : Option Place) (args : List Value) (back : Option Place) (me : Private) → KeepsNoPlace me → KeepsNothing (calls_mark to args back me)
 unfolding KeepsNothing
@@ -254,15 +254,6 @@ pub plans_at_terminal : PlansAtTerminal plan
 unfolding AtTerminal
 plans_at_terminal me s = each_plan me s (AtTerminal me) (λ a may. (refl, asks_here me.term a may)) (λ l e. (refl, tt))
 
-pub finishes_in_place : FinishesInPlace finish
-finishes_in_place x a me s = refl
-
-pub finishes_at_terminal : FinishesAtTerminal finish
-finishes_at_terminal x a me s = refl
-
 -- and what waits to be shown waited before, or is for the terminal
 pub plans_to_show : PlansToShow plan
-plans_to_show me s = each_plan me s (λ (p : Planning). KeepsOrShows me.pending p.me.pending) (λ a may. inl refl) (λ l e. keeps_or_shows e.control.work.shows me.pending)
-
-pub finishes_to_show : FinishesToShow finish
-finishes_to_show x a me s = keeps_or_shows (ends_at me.place x a me s).control.work.shows me.pending
+plans_to_show me s = each_plan me s (λ (p : Planning). KeepsOrShows me.pending p.me.pending) (λ a may. inl refl) (λ l e. keeps_or_shows e.work.work.shows me.pending)

@@ -1,16 +1,13 @@
 -- Where a statement is led that is done in passing.
-use Rattle.std.proofs.Common.{◌≡◌, ◌∙◌, ℕ, ◌+◌, refl, sym, ap, Option, Some, None, option_map, unwrap_or}
-use Rattle.std.specs.Option.{option_and_then}
+use Rattle.std.proofs.Common.{◌≡◌, ◌∙◌, ℕ, sym, ap, Option, Some, None, option_map, unwrap_or}
 use Rattle.b2_flow.specs.declared.frame.Place.{Place}
-use Rattle.b2_rows.specs.Following.{tree_units, unit_or_next}
-use Rattle.b2_rows.specs.declared.following.Goal.{Goal}
 use Rattle.b2_rows.specs.declared.following.Goal.TheVariants as goal
-use Rattle.b2_text.specs.Program.{Lines, number_after}
 use Rattle.b2_access.specs.Going.{to_goal, to_place}
 use Rattle.b2_access.specs.Passing.{lead_of, led_by, place_following, place_led}
-use Rattle.b2_access.specs.Places.{goal_place, line_start}
+use Rattle.b2_access.specs.Places.{goal_place}
 use Rattle.b2_access.specs.declared.placed.Found.{Found}
 use Rattle.b2_access.specs.declared.planned.Outcome.TheVariants as outcome
+use Rattle.b2_access.proofs.Led.{following_led, goal_led}
 use Rattle.b2_stmt.specs.Passing.{IsPlaceLed, LeadsBy}
 
 -- a place that a lead was made of
@@ -19,27 +16,6 @@ led_place p None l is h = cc
 led_place p (Some n) l is h =
     ap (λ (line : Option ℕ). record { home = p.home; line = line; unit = p.unit }) is
     ∙ ap (λ (o : Option (ℕ × ℕ)). place_led p.home (unwrap_or o l)) h
-
--- it is at the home of the statement
-pub place_of_lead : (home : ℕ) (o : Option Place) (l : ℕ × ℕ) → ((p : Place) → o ≡ Some p → p.home ≡ home) → lead_of o ≡ Some l → o ≡ Some (place_led home l)
-place_of_lead home None l at_home h = cc
-place_of_lead home (Some p) l at_home h = ap Some (led_place p p.line l refl h ∙ ap (λ (x : ℕ). place_led x l) (at_home p refl))
-
-after_home : (q : Place) (n : Option ℕ) (p : Place) → option_map (line_start q) n ≡ Some p → p.home ≡ q.home
-after_home q None p h = cc
-after_home q (Some n) p h = sym (ap (λ (o : Option Place). (unwrap_or o p).home) h)
-
-next_home : (lines : Lines) (q : Place) (line : Option ℕ) (p : Place) → option_and_then (λ (n : ℕ). option_map (line_start q) (number_after (Some n) lines)) line ≡ Some p → p.home ≡ q.home
-next_home lines q None p h = cc
-next_home lines q (Some n) p h = after_home q (number_after (Some n) lines) p h
-
-goal_home : (lines : Lines) (q : Place) (g : Goal) (p : Place) → goal_place lines q g ≡ Some p → p.home ≡ q.home
-goal_home lines q (goal.Unit k) p h = sym (ap (λ (o : Option Place). (unwrap_or o p).home) h)
-goal_home lines q (goal.Line n) p h = sym (ap (λ (o : Option Place). (unwrap_or o p).home) h)
-goal_home lines q goal.NextLine p h = next_home lines q q.line p h
-
-pub goal_led : (lines : Lines) (q : Place) (g : Goal) (l : ℕ × ℕ) → lead_of (goal_place lines q g) ≡ Some l → goal_place lines q g ≡ Some (place_led q.home l)
-goal_led lines q g l h = place_of_lead q.home (goal_place lines q g) l (goal_home lines q g) h
 
 -- a goal on the line, or the next line
 to_place_led : (f : Found) (o : Option Place) (l : Option (ℕ × ℕ)) → ((x : ℕ × ℕ) → lead_of o ≡ Some x → o ≡ Some (place_led f.place.home x)) → l ≡ lead_of o → LeadsBy l f (to_place o)
@@ -53,9 +29,6 @@ pub next_line_led : (f : Found) (l : Option (ℕ × ℕ)) → l ≡ lead_of (goa
 next_line_led f l h = to_place_led f (goal_place f.home.now.lines f.place goal.NextLine) l (goal_led f.home.now.lines f.place goal.NextLine) h
 
 -- the place that follows
-pub following_led : (f : Found) (x : ℕ × ℕ) → lead_of (place_following f) ≡ Some x → place_following f ≡ Some (place_led f.place.home x)
-following_led f x h = goal_led f.home.now.lines f.place (unit_or_next (f.place.unit + 1) (tree_units f.line.now)) x h
-
 next_by : (f : Found) (l : Option (ℕ × ℕ)) → l ≡ lead_of (place_following f) → LeadsBy l f outcome.Next
 next_by f None h = tt
 next_by f (Some x) h = following_led f x (sym h)

@@ -1,34 +1,15 @@
--- What statements of control leave alone, whatever they are: one record of what HomesKept, KeptPlaces, Waits and Reached have.
+-- What statements of control leave alone, whatever they are: what they plan, by HomesKept, KeptPlaces, Waits and Reached; and how they
+-- finish, by the form of what they change and the first three of these.
 use Rattle.b2_access.specs.LeftAlone.{LeaveTheRest}
-use Rattle.b2_stmt.specs.Plan.{finish, plan}
+use Rattle.b2_access.proofs.LeftAlone.{joined, steering_leaves}
+use Rattle.b2_stmt.specs.Plan.{ends_at, finish, plan}
 use Rattle.b2_stmt.proofs.HomesKept.{finishes_within, plans_within}
-use Rattle.b2_stmt.proofs.KeptPlaces.{
-  finishes_at_terminal,
-  finishes_in_place,
-  finishes_keep_none,
-  finishes_to_show,
-  plans_at_terminal,
-  plans_in_place,
-  plans_keep_none,
-  plans_to_show,
-}
-use Rattle.b2_stmt.proofs.Reached.{finishes_reach, plans_reach}
-use Rattle.b2_stmt.proofs.Waits.{finishes_unchanged, plans_before_changes}
+use Rattle.b2_stmt.proofs.KeptPlaces.{finishes_keep_none, plans_at_terminal, plans_in_place, plans_keep_none, plans_to_show}
+use Rattle.b2_stmt.proofs.Reached.{plans_reach}
+use Rattle.b2_stmt.proofs.Waits.{after_place, plans_before_changes}
 
 pub leave_the_rest : LeaveTheRest plan finish
-leave_the_rest = record {
-  plans_within = plans_within;
-  finishes_within = finishes_within;
-  plans_in_place = plans_in_place;
-  finishes_in_place = finishes_in_place;
-  plans_keep_none = plans_keep_none;
-  finishes_keep_none = finishes_keep_none;
-  plans_at_terminal = plans_at_terminal;
-  finishes_at_terminal = finishes_at_terminal;
-  plans_to_show = plans_to_show;
-  finishes_to_show = finishes_to_show;
-  plans_before_changes = plans_before_changes;
-  finishes_unchanged = finishes_unchanged;
-  plans_reach = plans_reach;
-  finishes_reach = finishes_reach;
-}
+leave_the_rest =
+    joined plan finish
+    (record { within = plans_within; in_place = plans_in_place; keep_none = plans_keep_none; at_terminal = plans_at_terminal; to_show = plans_to_show; before_changes = plans_before_changes; reach = plans_reach })
+    (steering_leaves (λ x a me s. ends_at me.place x a me s) finishes_within finishes_keep_none after_place)

@@ -49,7 +49,7 @@ called_is t ok = ap number_called (stands_of row.GOSUB_MARKED call_items t call_
 
 -- the call's frame, and no room for it
 room_so : (b c : Bool) (entered : Option ℕ) (q : Place) (args : List Value) (back : Option Place) (me : Private) → b ≡ c
-    → steered me (if c then record { control = record (control_of me) { work = record (work_of me) { args = Some args }; stack = Call back entered ∷ me.stack }; outcome = outcome.Jump q } else unsteered me (outcome.Failed A04_TOO_DEEP))
+    → steered me (if c then record { work = record (control_of me) { work = record (work_of me) { args = Some args }; stack = Call back entered ∷ me.stack }; outcome = outcome.Jump q } else unsteered me (outcome.Failed A04_TOO_DEEP))
     ≡ (if b then record { me = record me { stack = Call back entered ∷ me.stack; args = Some args }; outcome = outcome.Jump q } else record { me = me; outcome = outcome.Failed A04_TOO_DEEP })
 room_so true true entered q args back me is = refl
 room_so true false entered q args back me is = cc

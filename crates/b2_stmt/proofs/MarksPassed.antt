@@ -59,7 +59,7 @@ use Rattle.b2_stmt.specs.Marked.{args_taken, calls_into, calls_mark, ends_taken,
 use Rattle.b2_stmt.specs.Arguments.{past_number}
 use Rattle.b2_stmt.specs.Passing.{IsMarkLed, Steers, TakesOrNot, seen_passing}
 use Rattle.b2_expr.specs.Kinds.{suits}
-use Rattle.b2_stmt.proofs.Led.{following_led}
+use Rattle.b2_access.proofs.Led.{following_led}
 use Rattle.b2_stmt.proofs.MarkRows.{number_read, kind_is, parameters_are, parameters_first}
 use Rattle.b2_stmt.proofs.Steered.{seen_done, steers_by}
 
@@ -78,7 +78,7 @@ enters_none f me to n answer args back is leads there =
     ∙ ap (λ (o : Option Place). asks_to_enter n o me) (found_at_home f me to n leads there)
 
 abbrev called : Private → Place → List Value → Place → Steered
-called me q args back = record { control = record (control_of me) { work = record (work_of me) { args = Some args }; stack = Call (Some back) None ∷ me.stack }; outcome = outcome.Jump q }
+called me q args back = record { work = record (control_of me) { work = record (work_of me) { args = Some args }; stack = Call (Some back) None ∷ me.stack }; outcome = outcome.Jump q }
 
 pub call_steers : (f : Found) (me after : Private) (on to : Lead) (n : ℕ) (answer : Result (List Value) ℕ) (args : List Value) → answer ≡ Ok args → lead_seen on ≡ lead_of (place_following f) → is_done on ≡ true
     → IsMarkLed (lead_seen to) n f → is_done to ≡ true → has_room me.stack ≡ true

@@ -19,7 +19,7 @@ use Rattle.b2_access.specs.Lending.{SeenLent}
 use Rattle.b2_access.specs.Partition.{setting_of}
 use Rattle.b2_access.specs.Placed.{Statement}
 use Rattle.b2_access.specs.Planning.{Planning}
-use Rattle.b2_access.specs.Reaching.{FinishesReach, PlansReach, ReachedUnlessAsks}
+use Rattle.b2_access.specs.Reaching.{PlansReach, ReachedUnlessAsks}
 use Rattle.b2_access.specs.Steering.{Steered}
 use Rattle.b2_access.specs.declared.accesses.Access.{Access}
 use Rattle.b2_access.specs.declared.private.Private.{Private}
@@ -29,7 +29,7 @@ use Rattle.b2_stmt.specs.Asked.{carried, is_still}
 use Rattle.b2_stmt.specs.Borrowing.{asks_of_others}
 use Rattle.b2_stmt.specs.Clearing.{asked_access}
 use Rattle.b2_stmt.specs.Marked.{args_taken, ends_with_args, parameters_of, take_each, takes_args, takes_value, takes_values, value_to, values_fit}
-use Rattle.b2_stmt.specs.Plan.{acts, acts_unless, asked_by, by_access, does, finish, is_refused, plan, plans_asked, stops}
+use Rattle.b2_stmt.specs.Plan.{acts, acts_unless, asked_by, by_access, does, is_refused, plan, plans_asked, stops}
 
 value_to_reaches : (to : Result Receiver ℕ) (x : Value) → Reaches (value_to to x)
 value_to_reaches (Ok to) x = λ w. either (λ (r : WorkLeft). MayBecome w.globals r.work.globals) (suits (is_alpha_receiver to) x) (given_value to x w) _ (given_value_reaches to x w) (stay w.globals)
@@ -68,6 +68,3 @@ pub plans_reach : PlansReach plan
 plans_reach me s =
     let F : Planning → Type 0 = λ p. ReachedUnlessAsks s.globals p.globals p.planned in
     each_course is_refused (stops me s) (does me s) me s F (stay s.globals) (stay s.globals) (λ p is u. by_asked (asked_access u.row u.tree me.declared (homes_entered me.stack)) u (here p me s) me s)
-
-pub finishes_reach : FinishesReach finish
-finishes_reach x a me s = (stay s.globals, λ h. refl)

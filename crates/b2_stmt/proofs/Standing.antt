@@ -128,7 +128,7 @@ module _ (p : ℕ) (base : List Frame) (place : Option Place) (stands : PlaceSta
   Good kept fs = (PlaceStands p fs kept × FramesStand p fs) × Same fs base
 
   EndsWell : Steered → Type 0
-  EndsWell e = Good e.control.kept e.control.stack × LeadsStanding p e.control.stack place e.outcome
+  EndsWell e = Good e.work.kept e.work.stack × LeadsStanding p e.work.stack place e.outcome
 
   placed : (fs : List Frame) → Same fs base → PlaceStands p fs place
   placed fs same = still_stands p fs base same place stands
@@ -146,7 +146,7 @@ module _ (p : ℕ) (base : List Frame) (place : Option Place) (stands : PlaceSta
   framed : (f : Frame) (o : Outcome) (x : Private) → Good x.kept x.stack → FramesStand p (f ∷ x.stack) → ((g : ℕ) → entered_in g (f ∷ x.stack) ≡ entered_in g x.stack) → LeadsStanding p (f ∷ x.stack) place o → EndsWell (with_frame f o x)
   unfolding EndsWell Good
   framed f o x w over same leads =
-      either EndsWell (nat_lt (length x.stack) most_frames) (record { control = record (control_of x) { stack = f ∷ x.stack }; outcome = o }) _
+      either EndsWell (nat_lt (length x.stack) most_frames) (record { work = record (control_of x) { stack = f ∷ x.stack }; outcome = o }) _
       (((still_stands p (f ∷ x.stack) x.stack same x.kept w.0.0, over), λ g. same g ∙ w.1 g), leads) (w, placed x.stack w.1)
 
   -- loops
@@ -214,7 +214,7 @@ module _ (p : ℕ) (base : List Frame) (place : Option Place) (stands : PlaceSta
   unfolding EndsWell Good
   mark_well None args back x w h k = failed x (code_of_none x.global) w
   mark_well (Some q) args back x w h k =
-      either EndsWell (has_room x.stack) (record { control = record (control_of x) { work = record (work_of x) { args = Some args }; stack = Call back None ∷ x.stack }; outcome = outcome.Jump q }) _
+      either EndsWell (has_room x.stack) (record { work = record (control_of x) { work = record (work_of x) { args = Some args }; stack = Call back None ∷ x.stack }; outcome = outcome.Jump q }) _
       (((still_stands p (Call back None ∷ x.stack) x.stack (λ g. refl) x.kept w.0.0, (still_stands p x.stack base w.1 back k, w.0.1)), w.1), still_open p x.stack base w.1 q.home h) (failed x A04_TOO_DEEP w)
 
   -- the nearest call, where it entered no text
@@ -433,17 +433,17 @@ none_last (Call back entered ∷ fs) none = cc
 
 module _ (me : Private) (w : Stands me) where
   Ends : Access → Answer → Steered → Type 0
-  Ends x a e = EndsStanding me (put_control e.control me) e.outcome × ((g : ℕ) → 1 ≤ g → g ≤ 16 → entered_in g e.control.stack ≡ entered_after x a g (entered_in g me.stack))
+  Ends x a e = EndsStanding me (put_control e.work me) e.outcome × ((g : ℕ) → 1 ≤ g → g ≤ 16 → entered_in g e.work.stack ≡ entered_after x a g (entered_in g me.stack))
 
   own_alone : is_open me.part [] me.part ≡ true
   own_alone = ap (λ (b : Bool). b || nat_lt 0 0) (same_number me.part)
 
   -- nothing was changed of the frames and of what is kept
-  unchanged : (x : Access) (a : Answer) (e : Steered) → e.control.stack ≡ me.stack → e.control.kept ≡ me.kept → LeadsStanding me.part me.stack me.place e.outcome → ((g k : ℕ) → k ≡ entered_after x a g k) → Ends x a e
+  unchanged : (x : Access) (a : Answer) (e : Steered) → e.work.stack ≡ me.stack → e.work.kept ≡ me.kept → LeadsStanding me.part me.stack me.place e.outcome → ((g k : ℕ) → k ≡ entered_after x a g k) → Ends x a e
   unfolding Ends
   unchanged x a e stack kept leads after = (
     record {
-      kept = subst (λ (fs : List Frame). PlaceStands me.part fs e.control.kept) (sym stack) (subst (PlaceStands me.part me.stack) (sym kept) w.kept);
+      kept = subst (λ (fs : List Frame). PlaceStands me.part fs e.work.kept) (sym stack) (subst (PlaceStands me.part me.stack) (sym kept) w.kept);
       frames = subst (FramesStand me.part) (sym stack) w.frames;
       leads = subst (λ (fs : List Frame). LeadsStanding me.part fs me.place e.outcome) (sym stack) leads;
     },
@@ -451,12 +451,12 @@ module _ (me : Private) (w : Stands me) where
   )
 
   -- no frame is left, and nothing is kept
-  all_given : (x : Access) (a : Answer) (e : Steered) (homes : ℕ) → homes ≡ homes_entered me.stack → e.control.stack ≡ [] → e.control.kept ≡ None → LeadsStanding me.part [] me.place e.outcome
+  all_given : (x : Access) (a : Answer) (e : Steered) (homes : ℕ) → homes ≡ homes_entered me.stack → e.work.stack ≡ [] → e.work.kept ≡ None → LeadsStanding me.part [] me.place e.outcome
       → ((g k : ℕ) → (if is_marked g homes then 0 else k) ≡ entered_after x a g k) → Ends x a e
   unfolding Ends
   all_given x a e homes is stack kept leads after = (
     record {
-      kept = subst (PlaceStands me.part e.control.stack) (sym kept) tt;
+      kept = subst (PlaceStands me.part e.work.stack) (sym kept) tt;
       frames = subst (FramesStand me.part) (sym stack) tt;
       leads = subst (λ (fs : List Frame). LeadsStanding me.part fs me.place e.outcome) (sym stack) leads;
     },
@@ -492,7 +492,7 @@ module _ (me : Private) (w : Stands me) where
       → Ends (access.Enter name mark) (answer.Entered h spot) (calls_into (Some h) q args back me)
   unfolding Ends
   called_there h q args back name mark spot home room stands =
-      let e : Steered = record { control = record (control_of me) { work = record (work_of me) { args = Some args }; stack = Call back (Some h) ∷ me.stack }; outcome = outcome.Jump q } in
+      let e : Steered = record { work = record (control_of me) { work = record (work_of me) { args = Some args }; stack = Call back (Some h) ∷ me.stack }; outcome = outcome.Jump q } in
       subst (λ (b : Bool). Ends (access.Enter name mark) (answer.Entered h spot) (if b then e else unsteered me (outcome.Failed A04_TOO_DEEP))) (sym room) (
         record {
           kept = still_placed me.part back (Some h) me.stack me.kept w.kept;
@@ -572,7 +572,7 @@ module _ (me : Private) (w : Stands me) where
 
   forgets_there : (homes : ℕ) (q : Place) → me.place ≡ Some q → may_forget_all q me ≡ true → homes ≡ homes_entered me.stack → Ends (access.Drop homes) answer.Done (forgets_all q me)
   forgets_there homes q at may is =
-      let e : Steered = record { control = control_of (without_frames me); outcome = outcome.Next } in
+      let e : Steered = record { work = control_of (without_frames me); outcome = outcome.Next } in
       subst (λ (b : Bool). Ends (access.Drop homes) answer.Done (if b then e else unsteered me (outcome.Failed P41_NO_CALL))) (sym may)
       (all_given (access.Drop homes) answer.Done e homes is refl refl (subst (PlaceStands me.part []) (sym at) (at_own q may)) (λ g k. refl))
 

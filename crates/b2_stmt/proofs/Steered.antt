@@ -25,7 +25,7 @@ use Rattle.b2_stmt.specs.Calls.{goes_back}
 use Rattle.b2_stmt.specs.Loops.{loop_begins, loop_element, made_loop, without_loop}
 use Rattle.b2_stmt.specs.Passing.{BeginsOrNot, LeadsBack, LeadsBy, Steers}
 use Rattle.b2_stmt.specs.declared.loops.Loop.{Loop}
-use Rattle.b2_stmt.proofs.Led.{following_led}
+use Rattle.b2_access.proofs.Led.{following_led}
 use Rattle.b2_stmt.proofs.Tops.{goes_back_to}
 
 -- what a lead says that is known
@@ -44,7 +44,7 @@ back_passes f me after to leads there same =
     let q = place_led f.place.home (to.line, to.unit) in
     let top : slice_get me.stack 0 ≡ Some (Call (Some q) None) = subst (λ (l : Option (ℕ × ℕ)). LeadsBack l f.place.home (slice_get me.stack 0)) seen leads in
     subst (λ (l : Option (ℕ × ℕ)). Steers l f me after (goes_back me)) (sym seen)
-    (steers_by f me after (to.line, to.unit) (record { control = record (control_of me) { stack = without_top_call me.stack }; outcome = outcome.Jump q }) (goes_back me)
+    (steers_by f me after (to.line, to.unit) (record { work = record (control_of me) { stack = without_top_call me.stack }; outcome = outcome.Jump q }) (goes_back me)
     (goes_back_to me q top) (sym same) refl)
 
 -- without an old loop there is room where there was
@@ -82,7 +82,7 @@ begun l body me after none room same =
     let a = assigned_number (loop_element l.var) l.from me.vars in
     let made = record me { vars = a.vars; stack = without_loop l.var me.stack } in
     ap (λ (code : Option ℕ). steered me (made_loop code l body (record me { vars = a.vars }))) none
-    ∙ ap (λ (b : Bool). steered me (if b then record { control = record (control_of made) { stack = For l.var l.limit l.step body ∷ without_loop l.var me.stack }; outcome = outcome.Next } else unsteered made (outcome.Failed A04_TOO_DEEP))) (room_there (length (without_loop l.var me.stack)) room)
+    ∙ ap (λ (b : Bool). steered me (if b then record { work = record (control_of made) { stack = For l.var l.limit l.step body ∷ without_loop l.var me.stack }; outcome = outcome.Next } else unsteered made (outcome.Failed A04_TOO_DEEP))) (room_there (length (without_loop l.var me.stack)) room)
     ∙ ap (λ (m : Private). ended_next m) (sym same)
 
 pub begin_passes : (f : Found) (me after : Private) (on : Lead) (l : Loop) (written : Result Loop ℕ) → written ≡ Ok l → lead_seen on ≡ lead_of (place_following f) → is_done on ≡ true

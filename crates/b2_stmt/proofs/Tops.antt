@@ -33,15 +33,15 @@ entered_text (Some (For v limit step body)) = None
 entered_text (Some (Call back entered)) = entered
 
 back_by : (me : Private) (s : List Frame) (q : Place) → slice_get s 0 ≡ Some (Call (Some q) None)
-    → (if has_call s then back_from to_place (from_call s) me else unsteered me (outcome.Failed P41_NO_CALL)) ≡ record { control = record (control_of me) { stack = without_top_call s }; outcome = outcome.Jump q }
+    → (if has_call s then back_from to_place (from_call s) me else unsteered me (outcome.Failed P41_NO_CALL)) ≡ record { work = record (control_of me) { stack = without_top_call s }; outcome = outcome.Jump q }
 unfolding back_place
 back_by me [] q is = cc
 back_by me (For v limit step body ∷ below) q is = cc
 back_by me (Call back entered ∷ below) q is =
-    ap (λ (o : Option Place). record { control = record (control_of me) { stack = below }; outcome = to_place o }) (ap back_place is)
+    ap (λ (o : Option Place). record { work = record (control_of me) { stack = below }; outcome = to_place o }) (ap back_place is)
 
 pub goes_back_to : (me : Private) (q : Place) → slice_get me.stack 0 ≡ Some (Call (Some q) None)
-    → goes_back me ≡ record { control = record (control_of me) { stack = without_top_call me.stack }; outcome = outcome.Jump q }
+    → goes_back me ≡ record { work = record (control_of me) { stack = without_top_call me.stack }; outcome = outcome.Jump q }
 goes_back_to me q is = back_by me me.stack q is
 
 entered_by : (s : List Frame) (q : Place) → slice_get s 0 ≡ Some (Call (Some q) None) → entered_last s ≡ None

@@ -29,7 +29,7 @@ line_called t = 0
 abbrev pub back_from : (Option Place → Outcome) → List Frame → Private → Steered
 back_from how [] me = unsteered me (outcome.Failed P41_NO_CALL)
 back_from how (For v limit step body ∷ below) me = unsteered me (outcome.Failed P41_NO_CALL)
-back_from how (Call back entered ∷ below) me = record { control = record (control_of me) { stack = below }; outcome = how back }
+back_from how (Call back entered ∷ below) me = record { work = record (control_of me) { stack = below }; outcome = how back }
 
 abbrev pub leaves_call : (Option Place → Outcome) → Private → Steered
 leaves_call how me = if has_call me.stack then back_from how (from_call me.stack) me else unsteered me (outcome.Failed P41_NO_CALL)
@@ -46,7 +46,7 @@ abbrev pub may_forget_all : Place → Private → Bool
 may_forget_all p me = has_call me.stack && (p.home == me.part)
 
 abbrev pub forgets_all : Place → Private → Steered
-forgets_all p me = if may_forget_all p me then record { control = control_of (without_frames me); outcome = outcome.Next } else unsteered me (outcome.Failed P41_NO_CALL)
+forgets_all p me = if may_forget_all p me then record { work = control_of (without_frames me); outcome = outcome.Next } else unsteered me (outcome.Failed P41_NO_CALL)
 
 abbrev pub has_all : Trees → Bool
 has_all (Put word (Put clear (In n all end))) = n == 1

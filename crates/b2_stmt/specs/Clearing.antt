@@ -54,8 +54,8 @@ all_closed c = record c { closes = true }
 
 -- how a statement finishes that clears text: the frames go with the lines; A08 where another stands inside it; else the step is repeated
 abbrev pub clearing_ends : ClearCame → Private → Steered
-clearing_ends AllCleared me = record { control = all_closed (ready_after (cleared me)); outcome = outcome.Ready }
-clearing_ends LinesErased me = record { control = control_of (without_frames me); outcome = outcome.Ready }
+clearing_ends AllCleared me = record { work = all_closed (ready_after (cleared me)); outcome = outcome.Ready }
+clearing_ends LinesErased me = record { work = control_of (without_frames me); outcome = outcome.Ready }
 clearing_ends TextLocked me = unsteered me (outcome.Failed A08_TEXT_BORROWED)
 clearing_ends ClearLater me = unsteered me outcome.Repeat
 

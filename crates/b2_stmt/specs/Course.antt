@@ -23,7 +23,7 @@ line_or_none t = None
 
 -- SELECT ROUND and SELECT NO ROUND
 abbrev pub selects : Mode → Private → Steered
-selects mode me = record { control = record (control_of me) { work = record (work_of me) { mode = mode } }; outcome = outcome.Next }
+selects mode me = record { work = record (control_of me) { work = record (work_of me) { mode = mode } }; outcome = outcome.Next }
 
 -- STOP is shown, and a blank and a text where one is written
 abbrev pub stop_text : Option (List ℕ) → List ℕ
@@ -40,7 +40,7 @@ kept_after p after kept = if is_some p.line then after else kept
 
 abbrev pub stops_program : List ℕ → Place → Option Place → Private → Steered
 stops_program shown p after me = record {
-  control = record (control_of me) { work = record (work_of me) { shows = Some shown }; kept = kept_after p after me.kept };
+  work = record (control_of me) { work = record (work_of me) { shows = Some shown }; kept = kept_after p after me.kept };
   outcome = outcome.Ready;
 }
 
@@ -56,8 +56,8 @@ abbrev pub own_line : ℕ → Private → Place
 own_line n me = record { home = me.part; line = Some n; unit = 0 }
 
 abbrev pub runs_from : Option ℕ → Private → Steered
-runs_from None me = record { control = begun_anew me; outcome = outcome.Ready }
-runs_from (Some n) me = record { control = begun_anew me; outcome = outcome.Jump (own_line n me) }
+runs_from None me = record { work = begun_anew me; outcome = outcome.Ready }
+runs_from (Some n) me = record { work = begun_anew me; outcome = outcome.Jump (own_line n me) }
 
 -- RUN with a line: P36 comes before anything else
 abbrev pub runs_where : Option (List ℕ) → ℕ → Private → Steered

@@ -11,5 +11,5 @@ use Rattle.b2_access.specs.Steering.{Steered, control_of, unsteered}
 -- a frame on top; A04 where there is no room for it
 abbrev pub with_frame : Frame → Outcome → Private → Steered
 with_frame f goes me =
-    if nat_lt (length me.stack) most_frames then record { control = record (control_of me) { stack = f ∷ me.stack }; outcome = goes }
+    if nat_lt (length me.stack) most_frames then record { work = record (control_of me) { stack = f ∷ me.stack }; outcome = goes }
     else unsteered me (outcome.Failed A04_TOO_DEEP)

@@ -77,7 +77,7 @@ is_over x limit step = if step.neg then not (is_below limit x) else not (is_belo
 -- the variable has its next value, and then it is tested
 abbrev pub tested : Option ℕ → Bool → Place → Private → Steered
 tested (Some code) over body me = unsteered me (outcome.Failed code)
-tested None over body me = if over then record { control = record (control_of me) { stack = without_top_loop me.stack }; outcome = outcome.Next } else unsteered me (outcome.Jump body)
+tested None over body me = if over then record { work = record (control_of me) { stack = without_top_loop me.stack }; outcome = outcome.Next } else unsteered me (outcome.Jump body)
 
 abbrev pub tested_by : Assigned → Bool → Place → Private → Steered
 tested_by a over body me = tested a.code over body (record me { vars = a.vars })

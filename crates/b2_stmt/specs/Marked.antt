@@ -47,7 +47,7 @@ mark_place n p part own home = or_else (mark_in p.home n home) (mark_in part n o
 -- a call of it, which leads back to another place, passes values, and may have entered a text; A04 where there is no room for a frame
 abbrev pub calls_into : Option ℕ → Place → List Value → Option Place → Private → Steered
 calls_into entered q args back me =
-    if has_room me.stack then record { control = record (control_of me) { work = record (work_of me) { args = Some args }; stack = Call back entered ∷ me.stack }; outcome = outcome.Jump q }
+    if has_room me.stack then record { work = record (control_of me) { work = record (work_of me) { args = Some args }; stack = Call back entered ∷ me.stack }; outcome = outcome.Jump q }
     else unsteered me (outcome.Failed A04_TOO_DEEP)
 
 -- where it stands in neither text: P38 where no partition is selected; else its text is entered, and A04 where there is no room for a frame
@@ -102,7 +102,7 @@ takes_values ts xs w = if values_fit ts xs then take_each takes_value ts xs w el
 
 -- the values are used up, also where a receiver has a code
 abbrev pub used_up : WorkLeft → Private → Steered
-used_up r me = record { control = record (control_of me) { work = record (work_of me) { vars = r.work.own; args = None } }; outcome = goes_or outcome.Next r.code }
+used_up r me = record { work = record (control_of me) { work = record (work_of me) { vars = r.work.own; args = None } }; outcome = goes_or outcome.Next r.code }
 
 -- DEFFN': where no call waits for it, nothing
 abbrev pub args_taken : Option (List Value) → Trees → WorkState → WorkLeft

@@ -63,10 +63,10 @@ part_came x a = NoPartAsked
 
 -- how a statement finishes by that, and else as it would
 abbrev pub declares : List ℕ → Private → Steered
-declares name me = record { control = record (control_of me) { declared = Some name }; outcome = outcome.Next }
+declares name me = record { work = record (control_of me) { declared = Some name }; outcome = outcome.Next }
 
 abbrev pub selects_part : List ℕ → Private → Steered
-selects_part name me = record { control = record (control_of me) { work = record (work_of me) { global = Some name } }; outcome = outcome.Next }
+selects_part name me = record { work = record (control_of me) { work = record (work_of me) { global = Some name } }; outcome = outcome.Next }
 
 abbrev pub part_ends : PartCame → Steered → Private → Steered
 part_ends (NameDeclared name) e me = declares name me

@@ -3,11 +3,11 @@ use Rattle.std.proofs.Common.{ℕ, ◌==◌, Bool, List, Option, Some, None, sub
 use Rattle.b2_flow.specs.declared.frame.Place.{Place}
 use Rattle.b2_text.specs.Program.{Lines, line_at}
 use Rattle.b2_atom.specs.declared.rows.TheConstants as row
-use Rattle.b2_access.specs.Going.{where_there}
-use Rattle.b2_access.specs.Homes.{FinishesWithin, OutcomeIn, PlaceIn, PlannedIn, PlansWithin}
+use Rattle.b2_access.specs.Homes.{OutcomeIn, PlaceIn, PlannedIn}
 use Rattle.b2_access.specs.Lending.{SeenLent}
 use Rattle.b2_access.specs.Places.{line_start}
 use Rattle.b2_access.specs.Views.{TakingCame, DevicesTaken, DeviceBusy, TakingLater, devices_freed, taking_came}
+use Rattle.b2_access.specs.Working.{LeadsWithin, PlansEachWithin}
 use Rattle.b2_access.specs.declared.accesses.Access.{Access}
 use Rattle.b2_access.specs.declared.accesses.Answer.{Answer}
 use Rattle.b2_access.specs.declared.devices.Device.{Device}
@@ -15,21 +15,17 @@ use Rattle.b2_access.specs.declared.planned.Outcome.{Outcome}
 use Rattle.b2_access.specs.declared.private.Private.{Private}
 use Rattle.b2_access.proofs.Choice.{either}
 use Rattle.b2_access.proofs.Courses.{each_course}
-use Rattle.b2_access.proofs.Working as form
+use Rattle.b2_access.proofs.Homes.{lined}
 use Rattle.b2_drive.proofs.Asked.{marks_no_home}
 use Rattle.b2_stmt_device.specs.Freeing.{goes_freed}
-use Rattle.b2_stmt_device.specs.Plan.{ends, finish, goes, is_refused, plan, repeats, works}
+use Rattle.b2_stmt_device.specs.Plan.{ends, goes, is_refused, repeats, works}
 use Rattle.b2_stmt_device.specs.Taking.{goes_taken, goes_where_busy, line_if_busy}
 use Rattle.b2_stmt_device.proofs.Planned.{each_planned}
 
 module _ (among : ℕ → Bool) where
-  there_in : (line : Option (List ℕ)) (p : Place) (n : ℕ) → PlaceIn among (Some p) → OutcomeIn among (where_there line (line_start p n))
-  there_in None p n k = tt
-  there_in (Some line) p n k = k
-
   busy_in : (line : Option ℕ) (lines : Lines) (p : Place) → PlaceIn among (Some p) → OutcomeIn among (goes_where_busy line lines p)
   busy_in None lines p k = tt
-  busy_in (Some n) lines p k = there_in (line_at n lines) p n k
+  busy_in (Some n) lines p k = lined among (line_at n lines) (line_start p n) k
 
   taking_in : (c : TakingCame) (line : Option ℕ) (lines : Lines) (p : Place) → PlaceIn among (Some p) → OutcomeIn among (goes_taken c line lines p)
   taking_in (DevicesTaken addrs) line lines p k = tt
@@ -47,10 +43,9 @@ module _ (among : ℕ → Bool) where
       (λ p is u. either F (u.row == row.OPEN) _ _ (taking_in (taking_came x a) (line_if_busy u.tree) s.home.lines p (subst (λ (o : Option Place). PlaceIn among o) is k))
       (either F (u.row == row.CLOSE) _ _ (freeing_in (devices_freed x a)) tt))
 
-pub plans_within : (devices : List Device) → PlansWithin (plan devices)
-plans_within devices =
-    form.plans_within (works devices)
-    (λ among me s k. each_planned devices me s (PlannedIn among) tt tt (λ code. tt) (λ a fits. marks_no_home devices me.part among a fits))
+pub plans_within : (devices : List Device) → PlansEachWithin (works devices)
+plans_within devices among me s k =
+    each_planned devices me s (PlannedIn among) tt tt (λ code. tt) (λ a fits. marks_no_home devices me.part among a fits)
 
-pub finishes_within : FinishesWithin finish
-finishes_within = form.holders_finish_within ends (λ among x a me s k. place_in among x a me s k)
+pub leads_within : LeadsWithin ends
+leads_within among x a me s k = place_in among x a me s k

@@ -1,12 +1,11 @@
 -- What the rows of these statements say at their bytes: ListRows, OpenRows, CloseRows and SelectRows. Planned has what holds of each statement as it
--- plans and as it finishes; from there follow the laws of LeftAlone, Listed and Legal, by way of HomesKept, KeptPlaces and Waits; and HeldOnce.
+-- plans and as it finishes; from there follow the laws of LeftAlone, Listed and Legal, by way of HomesKept, Waits and Reached; and HeldOnce.
 pub mod ListRows
 pub mod OpenRows
 pub mod CloseRows
 pub mod SelectRows
 pub mod Planned
 pub mod HomesKept
-pub mod KeptPlaces
 pub mod Waits
 pub mod Reached
 pub mod HeldLists

@@ -7,7 +7,7 @@ use Rattle.b2_access.specs.Lending.{SeenLent}
 use Rattle.b2_access.specs.Placed.{Statement}
 use Rattle.b2_access.specs.Planning.{Finishing, Planning}
 use Rattle.b2_access.specs.Views.{devices_freed, taking_came}
-use Rattle.b2_access.specs.Working.{Ends, HolderWorked, Plans, Working, holder_work_of, holders_finish_by, plans_by, stops}
+use Rattle.b2_access.specs.Working.{Ends, HeldDevices, Plans, Wider, WorkedIn, Working, finishes_in, on_devices, plans_by, stops, work_of}
 use Rattle.b2_access.specs.declared.accesses.Access.{Access}
 use Rattle.b2_access.specs.declared.accesses.Answer.{Answer}
 use Rattle.b2_access.specs.declared.devices.Device.{Device}
@@ -60,11 +60,11 @@ repeats o = outcome.Repeat
 
 -- how the statement at a partition's place finishes: what is held then is by the access and its answer alone, and where the step goes on
 -- by the statement too
-abbrev pub ends : Access → Answer → Private → SeenLent → HolderWorked
-ends x a me s = record { work = record (holder_work_of me) { held = held_after x a me.held }; outcome = course is_refused repeats (goes x a s) me.place me s }
+abbrev pub ends : Access → Answer → Private → SeenLent → WorkedIn (Wider HeldDevices)
+ends x a me s = record { work = record { work = work_of me; more = held_after x a me.held }; outcome = course is_refused repeats (goes x a s) me.place me s }
 
 abbrev pub finish : Access → Answer → Private → SeenLent → Finishing
-finish x a me s = holders_finish_by ends x a me s
+finish x a me s = finishes_in on_devices ends x a me s
 
 -- the rows that this crate builds
 abbrev pub is_built : ℕ → Bool

@@ -2,37 +2,31 @@
 use Rattle.std.proofs.Common.{ℕ, Bool, List, Option, Some, None}
 use Rattle.b2_atom.specs.Tree.{Trees}
 use Rattle.b2_access.specs.Disks.{FourNumbers}
-use Rattle.b2_access.specs.Homes.{FinishesWithin, OutcomeIn, PlannedIn, PlansWithin}
+use Rattle.b2_access.specs.Homes.{OutcomeIn, PlannedIn}
 use Rattle.b2_access.specs.Lending.{SeenLent}
-use Rattle.b2_access.specs.Planning.{goes_or}
 use Rattle.b2_access.specs.Views.{ChangeCame, DiskChanged, ChangeRefused, ChangeLater, change_came, limits_told, listing_told}
-use Rattle.b2_access.specs.Working.{Worked}
+use Rattle.b2_access.specs.Working.{LeadsWithin, PlansEachWithin, Worked}
 use Rattle.b2_access.specs.declared.accesses.Access.{Access}
 use Rattle.b2_access.specs.declared.accesses.Answer.{Answer}
 use Rattle.b2_access.specs.declared.devices.Device.{Device}
-use Rattle.b2_access.specs.declared.planned.Outcome.TheVariants as outcome
 use Rattle.b2_access.specs.declared.private.Private.{Private}
 use Rattle.b2_access.proofs.Courses.{each_course}
-use Rattle.b2_access.proofs.Working as form
+use Rattle.b2_access.proofs.Homes.{next_or_fails}
 use Rattle.b2_drive.specs.Asking.{change_ends}
 use Rattle.b2_drive.proofs.Asked.{marks_no_home}
 use Rattle.b2_stmt_disk.specs.Limits.{limits_end}
 use Rattle.b2_stmt_disk.specs.Listing.{listing_ends}
-use Rattle.b2_stmt_disk.specs.Plan.{ends, finish, finishes, is_refused, plan, repeats, works}
+use Rattle.b2_stmt_disk.specs.Plan.{ends, finishes, is_refused, repeats, works}
 use Rattle.b2_stmt_disk.proofs.Planned.{each_ended, each_planned}
 
 module _ (among : ℕ → Bool) where
   Leads : Worked → Type 0
   Leads w = OutcomeIn among w.outcome
 
-  code_in : (o : Option ℕ) → OutcomeIn among (goes_or outcome.Next o)
-  code_in None = tt
-  code_in (Some code) = tt
-
   limits_in : (o : Option FourNumbers) (t : Trees) (me : Private) (s : SeenLent) → Leads (limits_end o t me s)
   unfolding Leads
   limits_in None t me s = tt
-  limits_in (Some n) t me s = code_in _
+  limits_in (Some n) t me s = next_or_fails among _
 
   change_in : (c : ChangeCame) → OutcomeIn among (change_ends c)
   change_in DiskChanged = tt
@@ -50,11 +44,10 @@ module _ (among : ℕ → Bool) where
       each_course is_refused (repeats me) (finishes x a me s) me s Leads tt tt
       (λ p is u. each_ended Leads x a me s (λ t. limits_in (limits_told x a) t me s) (change_in (change_came x a)) (listing_in (listing_told x a) me) tt u)
 
-pub plans_within : (devices : List Device) → PlansWithin (plan devices)
-plans_within devices =
-    form.plans_within (works devices)
-    (λ among me s k. each_planned devices me s (PlannedIn among) tt tt (λ code. tt) (λ a fits stays. marks_no_home devices me.part among a fits))
+pub plans_within : (devices : List Device) → PlansEachWithin (works devices)
+plans_within devices among me s k =
+    each_planned devices me s (PlannedIn among) tt tt (λ code. tt) (λ a fits stays. marks_no_home devices me.part among a fits)
 
-pub finishes_within : FinishesWithin finish
+pub leads_within : LeadsWithin ends
 unfolding Leads
-finishes_within = form.finishes_within ends (λ among x a me s k. place_in among x a me s)
+leads_within among x a me s k = place_in among x a me s

@@ -1,12 +1,11 @@
 -- What the rows of these statements say at their bytes: LimitsRows, ScratchRows, ListRows and MoveRows. Planned has what holds of each statement as it plans and as it finishes; from there follow the laws of
--- LeftAlone, Listed and Legal, by way of HomesKept, KeptPlaces, Waits and Reached.
+-- LeftAlone, Listed and Legal, by way of HomesKept, Waits and Reached.
 pub mod LimitsRows
 pub mod ScratchRows
 pub mod ListRows
 pub mod MoveRows
 pub mod Planned
 pub mod HomesKept
-pub mod KeptPlaces
 pub mod Waits
 pub mod Reached
 pub mod LeftAlone

@@ -13,21 +13,18 @@ use Rattle.b2_access.specs.Disks.{FourNumbers}
 use Rattle.b2_access.specs.Lending.{SeenLent}
 use Rattle.b2_access.specs.Partition.{setting_of}
 use Rattle.b2_access.specs.Planning.{done, finished}
-use Rattle.b2_access.specs.Reaching.{FinishesReach, PlansReach}
 use Rattle.b2_access.specs.Views.{limits_told, listing_told}
-use Rattle.b2_access.specs.Working.{Ends, Worked, Working, as_planned, ended, globals_after, lent_after, stops, told_of_globals}
+use Rattle.b2_access.specs.Working.{EachReaches, Ends, PlansEachReach, Worked, Working, as_planned, ended, globals_after, lent_after, plain, stops, told_of_globals}
 use Rattle.b2_access.specs.declared.devices.Device.{Device}
 use Rattle.b2_access.specs.declared.private.Private.{Private}
 use Rattle.b2_access.proofs.Choice.{either}
 use Rattle.b2_access.proofs.Courses.{each_course}
-use Rattle.b2_access.proofs.Working as form
 use Rattle.b2_drive.specs.Drives.{drives_of, selects}
 use Rattle.b2_stmt_disk.specs.Limits.{after_name, gives_each, gives_file, gives_limits, gives_operands, is_absent, limits_end, numbers_of, receivers_in, whole_number}
 use Rattle.b2_stmt_disk.specs.Listing.{listing_ends}
-use Rattle.b2_stmt_disk.specs.Plan.{does, ends, finish, finishes, is_refused, plan, repeats, works}
+use Rattle.b2_stmt_disk.specs.Plan.{does, ends, finishes, is_refused, repeats, works}
 use Rattle.b2_stmt_disk.specs.Selecting.{selected}
 use Rattle.b2_stmt_disk.proofs.Planned.{each_ended}
-use Rattle.b2_stmt_disk.proofs.Waits.{after_place}
 
 -- SELECT DISK and LIST DC tell nothing of them
 pub selected_plans : (r : Result (List ℕ) ℕ) (me : Private) (s : SeenLent) → as_planned me s (Ends (selected r me)) ≡ done s (ended me (selected r me))
@@ -80,16 +77,13 @@ limits_tell : (o : Option FourNumbers) (t : Trees) (me : Private) (s : SeenLent)
 limits_tell None t me s = stay s.globals
 limits_tell (Some n) t me s = limits_reach n t (work_in (setting_of me) s.home me.vars s.globals)
 
-pub plans_reach : (devices : List Device) → PlansReach (plan devices)
-plans_reach devices =
-    form.plans_reach (works devices) (λ me s.
+pub plans_reach : (devices : List Device) → PlansEachReach (works devices)
+plans_reach devices me s =
     let F : Working → Type 0 = λ k. MayBecome s.globals (globals_after (told_of_globals k) s.globals) in
     each_course is_refused stops (does devices me s) me s F (stay s.globals) (stay s.globals) (λ p is u.
-    either F (u.row == row.SELECT_DISK) _ _ (selected_stays (selects (drives_of devices me) u.tree) me s.globals) (stay s.globals)))
+    either F (u.row == row.SELECT_DISK) _ _ (selected_stays (selects (drives_of devices me) u.tree) me s.globals) (stay s.globals))
 
-pub finishes_reach : FinishesReach finish
-finishes_reach =
-    form.finishes_reach ends (λ x a me s h. after_place x a me s h)
-    (λ x a me s.
+pub finishes_reach : EachReaches plain ends
+finishes_reach x a me s =
     each_course is_refused (repeats me) (finishes x a me s) me s (Tells s.globals) (stay s.globals) (stay s.globals) (λ p is u.
-    each_ended (Tells s.globals) x a me s (λ t. limits_tell (limits_told x a) t me s) (stay s.globals) (listing_stays (listing_told x a) me s.globals) (stay s.globals) u))
+    each_ended (Tells s.globals) x a me s (λ t. limits_tell (limits_told x a) t me s) (stay s.globals) (listing_stays (listing_told x a) me s.globals) (stay s.globals) u)

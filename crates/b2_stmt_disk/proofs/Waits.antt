@@ -4,22 +4,16 @@ use Rattle.b2_access.specs.AnswerKinds.{delays}
 use Rattle.b2_access.specs.Disks.{FourNumbers}
 use Rattle.b2_access.specs.Lending.{SeenLent}
 use Rattle.b2_access.specs.Placed.{Statement}
-use Rattle.b2_access.specs.Waiting.{FinishesUnchanged, PlansBeforeChanges}
 use Rattle.b2_access.specs.Working.{Worked, work_of}
 use Rattle.b2_access.specs.declared.accesses.Access.{Access}
 use Rattle.b2_access.specs.declared.accesses.Answer.{Answer}
-use Rattle.b2_access.specs.declared.devices.Device.{Device}
 use Rattle.b2_access.specs.declared.private.Private.{Private}
 use Rattle.b2_access.proofs.Courses.{each_course}
 use Rattle.b2_access.proofs.Delays.{limits_delayed, listing_delayed}
-use Rattle.b2_access.proofs.Working as form
 use Rattle.b2_stmt_disk.specs.Limits.{limits_end}
 use Rattle.b2_stmt_disk.specs.Listing.{listing_ends}
-use Rattle.b2_stmt_disk.specs.Plan.{ended_of, ends, finish, finishes, is_refused, plan, repeats, works}
+use Rattle.b2_stmt_disk.specs.Plan.{ended_of, ends, finishes, is_refused, repeats}
 use Rattle.b2_stmt_disk.proofs.Planned.{each_ended}
-
-pub plans_before_changes : (devices : List Device) → PlansBeforeChanges (plan devices)
-plans_before_changes devices = form.plans_before_changes (works devices)
 
 after_statement : (u : Statement) (x : Access) (a : Answer) (me : Private) (s : SeenLent) → delays a ≡ true → (ended_of u x a me s).work ≡ work_of me
 after_statement u x a me s h =
@@ -33,6 +27,3 @@ pub after_place : (x : Access) (a : Answer) (me : Private) (s : SeenLent) → de
 after_place x a me s h =
     let F : Worked → Type 0 = λ w. w.work ≡ work_of me in
     each_course is_refused (repeats me) (finishes x a me s) me s F refl refl (λ p is u. after_statement u x a me s h)
-
-pub finishes_unchanged : FinishesUnchanged finish
-finishes_unchanged = form.finishes_unchanged ends (λ x a me s h. after_place x a me s h)

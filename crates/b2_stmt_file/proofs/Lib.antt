@@ -1,6 +1,6 @@
 -- What the rows of these statements say at their bytes: SlotRows of the slot that they share, and OpenRows, SaveRows, LoadRows and
 -- SkipRows. Planned has what holds of each statement as it plans and as it finishes; from there follow the laws of LeftAlone,
--- Listed and Legal, by way of HomesKept, KeptPlaces, Waits and Reached. Tests has what tests of numbers say.
+-- Listed and Legal, by way of HomesKept, Waits and Reached. Tests has what tests of numbers say.
 pub mod Tests
 pub mod SlotRows
 pub mod SkipRows
@@ -20,7 +20,6 @@ pub mod NumbersGiven
 pub mod NumbersOfExpressions
 pub mod SavedNumbers
 pub mod HomesKept
-pub mod KeptPlaces
 pub mod Waits
 pub mod Reached
 pub mod OpenFiles

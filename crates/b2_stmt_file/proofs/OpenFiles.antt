@@ -68,7 +68,7 @@ module _ (devices : List Device) (who : ℕ) where
 
 module _ (devices : List Device) (x : Access) (a : Answer) (me : Private) (s : SeenLent) (listed : ReachesListed devices me.part x) (fits : AnswerFits x a) (open_now : HasOpenFiles devices me) where
   Leaves : FileWorked → Type 0
-  Leaves w = AreOpenFor devices me.part w.work.slots
+  Leaves w = AreOpenFor devices me.part w.work.more
 
   ends_open : (n : ℕ) (c : Came) → IsOpenCame devices me.part c → Leaves (file_ends n c me)
   unfolding Leaves
@@ -88,13 +88,13 @@ module _ (devices : List Device) (x : Access) (a : Answer) (me : Private) (s : S
   statement_open : (u : Statement) → Leaves (ended_of u x a me s)
   unfolding Leaves
   statement_open u =
-      each_ended (λ w. AreOpenFor devices me.part w.work.slots) x a me s (λ t. ends_open (save.slot_of t) (save.came_of x a t) (came_open t)) (λ t. load_open t)
+      each_ended (λ w. AreOpenFor devices me.part w.work.more) x a me s (λ t. ends_open (save.slot_of t) (save.came_of x a t) (came_open t)) (λ t. load_open t)
       (λ t. ends_open _ (by_place (place_came x a)) (place_open devices me.part x a listed fits)) open_now u
 
-  after_place : AreOpenFor devices me.part (ends x a me s).work.slots
+  after_place : AreOpenFor devices me.part (ends x a me s).work.more
   unfolding Leaves
   after_place =
-      let F : FileWorked → Type 0 = λ w. AreOpenFor devices me.part w.work.slots in
+      let F : FileWorked → Type 0 = λ w. AreOpenFor devices me.part w.work.more in
       each_course is_refused (repeats me) (finishes x a me s) me s F open_now open_now (λ p is u. statement_open u)
 
 pub plans_keep_open_files : PlansKeepOpenFiles plan

@@ -27,7 +27,7 @@ use Rattle.b2_access.specs.Partition.{setting_of}
 use Rattle.b2_access.specs.Placed.{Statement}
 use Rattle.b2_access.specs.Touching.{IsLegal, IsName, is_short}
 use Rattle.b2_access.specs.Views.{place_came}
-use Rattle.b2_access.specs.Working.{FileWorked, Working, leaves_files, planned_of, stops}
+use Rattle.b2_access.specs.Working.{FileWorked, Working, leaves_in, on_files, planned_of, stops}
 use Rattle.b2_access.specs.declared.accesses.Access.{Access}
 use Rattle.b2_access.specs.declared.accesses.Access.TheVariants as access
 use Rattle.b2_access.specs.declared.accesses.Answer.{Answer}
@@ -241,7 +241,7 @@ each_planned devices me s F ready leads failed asks = each_saving_planned device
 
 -- and of how a statement finishes
 pub each_ended : (F : FileWorked → Type 0) (x : Access) (a : Answer) (me : Private) (s : SeenLent) → ((t : Trees) → F (saving_ends x a t me)) → ((t : Trees) → F (loading_ends x a t me s))
-    → ((t : Trees) → F (file_ends (slot_skipped t) (by_place (place_came x a)) me)) → F (leaves_files me outcome.Repeat) → (u : Statement) → F (ended_of u x a me s)
+    → ((t : Trees) → F (file_ends (slot_skipped t) (by_place (place_came x a)) me)) → F (leaves_in on_files me outcome.Repeat) → (u : Statement) → F (ended_of u x a me s)
 each_ended F x a me s saves loads skips repeats u =
     either F (u.row == row.DATASAVE) _ _ (saves u.tree)
     (either F (u.row == row.DATALOAD) _ _ (loads u.tree)

@@ -3,7 +3,7 @@ use Rattle.std.specs.Prelude.{ℕ, Bool, true, false, List, [], Option}
 use Rattle.b2_base.specs.declared.files.Slot.{Slot}
 use Rattle.b2_dec.specs.declared.values.Value.{Value}
 use Rattle.b2_access.specs.Views.{FileOpened, LoadingCame, LoadingLater, LoadingRefused, RecordsEnded, ValuesLoaded, OpeningCame, OpeningLater, OpeningRefused, PlaceCame, PlaceLater, PlaceMoved, PlaceRefused, moved_to}
-use Rattle.b2_access.specs.Working.{FileWorked, file_work_of}
+use Rattle.b2_access.specs.Working.{FileWorked, work_of}
 use Rattle.b2_access.specs.declared.accesses.Answer.{Answer}
 use Rattle.b2_access.specs.declared.accesses.Answer.TheVariants as answer
 use Rattle.b2_access.specs.declared.planned.Outcome.{Outcome}
@@ -62,4 +62,4 @@ end_after came.Ended at_end = true
 end_after came.Later at_end = at_end
 
 abbrev pub file_ends : ℕ → Came → Private → FileWorked
-file_ends n c me = record { work = record (file_work_of me) { slots = slots_after n c me.slots }; outcome = outcome_of c }
+file_ends n c me = record { work = record { work = work_of me; more = slots_after n c me.slots }; outcome = outcome_of c }

@@ -15,7 +15,7 @@ use Rattle.b2_access.specs.Lending.{SeenLent}
 use Rattle.b2_access.specs.Partition.{setting_of}
 use Rattle.b2_access.specs.Planning.{goes_or}
 use Rattle.b2_access.specs.Views.{loading_came, opening_came}
-use Rattle.b2_access.specs.Working.{FileWorked, leaves_files, work_of}
+use Rattle.b2_access.specs.Working.{FileWorked, leaves_in, on_files, work_of}
 use Rattle.b2_access.specs.declared.accesses.Access.{Access}
 use Rattle.b2_access.specs.declared.accesses.Access.TheVariants as access
 use Rattle.b2_access.specs.declared.accesses.Answer.{Answer}
@@ -64,7 +64,7 @@ globals_told c g = None
 -- where one then fails.
 abbrev pub loaded : ℕ → Came → WorkLeft → Private → FileWorked
 loaded n c r me = record {
-  work = record { work = record (work_of me) { vars = r.work.own; at_end = end_after c me.at_end; globals = globals_told c r.work.globals }; slots = slots_after n c me.slots };
+  work = record { work = record (work_of me) { vars = r.work.own; at_end = end_after c me.at_end; globals = globals_told c r.work.globals }; more = slots_after n c me.slots };
   outcome = goes_or (outcome_of c) r.code;
 }
 
@@ -74,4 +74,4 @@ load_ends c values operands me s = loaded (slot_loaded operands) c (takes_by c v
 abbrev pub loading_ends : Access → Answer → Trees → Private → SeenLent → FileWorked
 loading_ends x a (Put word (Put dc (In k operands end))) me s =
     if k == 1 then file_ends (slot_opened operands) (by_opening (opening_came x a)) me else load_ends (by_loading (loading_came x a)) (values_in (loading_came x a)) operands me s
-loading_ends x a t me s = leaves_files me outcome.Repeat
+loading_ends x a t me s = leaves_in on_files me outcome.Repeat

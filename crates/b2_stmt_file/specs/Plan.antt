@@ -14,7 +14,7 @@ use Rattle.b2_access.specs.Partition.{setting_of}
 use Rattle.b2_access.specs.Placed.{Statement}
 use Rattle.b2_access.specs.Planning.{Finishing, Planning}
 use Rattle.b2_access.specs.Views.{place_came}
-use Rattle.b2_access.specs.Working.{FileWorked, Plans, Working, files_finish_by, leaves_files, plans_by, stops}
+use Rattle.b2_access.specs.Working.{FileWorked, Plans, Working, finishes_in, leaves_in, on_files, plans_by, stops}
 use Rattle.b2_access.specs.declared.accesses.Access.{Access}
 use Rattle.b2_access.specs.declared.accesses.Answer.{Answer}
 use Rattle.b2_access.specs.declared.devices.Device.{Device}
@@ -91,21 +91,21 @@ ended_of u x a me s =
     if u.row == row.DATASAVE then saving_ends x a u.tree me
     else (if u.row == row.DATALOAD then loading_ends x a u.tree me s
     else (if u.row == row.DSKIP || u.row == row.DBACKSPACE then file_ends (slot_skipped u.tree) (by_place (place_came x a)) me
-    else leaves_files me outcome.Repeat))
+    else leaves_in on_files me outcome.Repeat))
 
 abbrev pub finishes : Access → Answer → Private → SeenLent → Statement → Here → FileWorked
 finishes x a me s u h = ended_of u x a me s
 
 -- elsewhere the step is repeated
 abbrev pub repeats : Private → Outcome → FileWorked
-repeats me o = leaves_files me outcome.Repeat
+repeats me o = leaves_in on_files me outcome.Repeat
 
 -- how the statement at a partition's place finishes
 abbrev pub ends : Access → Answer → Private → SeenLent → FileWorked
 ends x a me s = course is_refused (repeats me) (finishes x a me s) me.place me s
 
 abbrev pub finish : Access → Answer → Private → SeenLent → Finishing
-finish x a me s = files_finish_by ends x a me s
+finish x a me s = finishes_in on_files ends x a me s
 
 -- the rows that this crate builds
 abbrev pub is_built : ℕ → Bool

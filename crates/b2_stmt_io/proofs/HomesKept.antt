@@ -6,52 +6,40 @@ use Rattle.b2_flow.specs.declared.frame.Place.{Place}
 use Rattle.b2_text.specs.Program.{Lines, line_at}
 use Rattle.b2_vars.specs.Tables.{VarsState}
 use Rattle.b2_vars.specs.Assigned.{Changed}
-use Rattle.b2_access.specs.Going.{where_there}
-use Rattle.b2_access.specs.Homes.{FinishesWithin, OutcomeIn, PlaceIn, PlannedIn, PlansWithin}
+use Rattle.b2_access.specs.Homes.{OutcomeIn, PlaceIn, PlannedIn}
 use Rattle.b2_access.specs.Lending.{SeenLent}
 use Rattle.b2_access.specs.Marks.{typed_by_mark}
 use Rattle.b2_access.specs.Placed.{Statement}
 use Rattle.b2_access.specs.Places.{line_start}
-use Rattle.b2_access.specs.Planning.{goes_or}
 use Rattle.b2_access.specs.Views.{KeyCame, ByteTyped, KeyPressed, NoKey, KeyLater, LineCame, PromptShown, LineEntered, LineLeft, LineLater, column_printed, column_shown, key_came, line_came}
-use Rattle.b2_access.specs.Working.{Worked}
+use Rattle.b2_access.specs.Working.{LeadsWithin, PlansEachWithin, Worked}
 use Rattle.b2_access.specs.declared.accesses.Access.{Access}
 use Rattle.b2_access.specs.declared.accesses.Access.TheVariants as access
 use Rattle.b2_access.specs.declared.accesses.Answer.{Answer}
 use Rattle.b2_access.specs.declared.devices.Device.{Device}
 use Rattle.b2_access.specs.declared.planned.Outcome.{Outcome}
-use Rattle.b2_access.specs.declared.planned.Outcome.TheVariants as outcome
 use Rattle.b2_access.specs.declared.private.Private.{Private}
 use Rattle.b2_access.proofs.Choice.{either}
 use Rattle.b2_access.proofs.Courses.{each_course}
-use Rattle.b2_access.proofs.Homes.{marks_none}
+use Rattle.b2_access.proofs.Homes.{goes_or_in, lined, marks_none, next_or_fails}
 use Rattle.b2_access.proofs.OwnTerminal.{at_terminal_marks_none}
 use Rattle.b2_access.proofs.Shown.{shown_or_printed_leads}
-use Rattle.b2_access.proofs.Working as form
 use Rattle.b2_stmt_io.specs.Keys.{first_named, key_byte, key_goes, key_leads, key_taken_by, lines_of, other_named, waits, with_key}
 use Rattle.b2_stmt_io.specs.LineReading.{line_answered_by, types}
-use Rattle.b2_stmt_io.specs.Plan.{ended_of, ends, finish, finishes, is_refused, plan, repeats, works}
+use Rattle.b2_stmt_io.specs.Plan.{ended_of, ends, finishes, is_refused, repeats, works}
 use Rattle.b2_stmt_io.proofs.Planned.{each_ended, each_planned}
 
 module _ (among : ℕ → Bool) where
   Leads : Worked → Type 0
   Leads w = OutcomeIn among w.outcome
 
-  code_in : (goes : Outcome) (o : Option ℕ) → OutcomeIn among goes → OutcomeIn among (goes_or goes o)
-  code_in goes None k = k
-  code_in goes (Some code) k = tt
-
   -- KEYIN
-  there_in : (o : Option (List ℕ)) (p : Place) → among p.home ≡ true → OutcomeIn among (where_there o p)
-  there_in None p k = tt
-  there_in (Some line) p k = k
-
   leads_in : (special : Bool) (lines : Lines) (p : Place) (t : Trees) → among p.home ≡ true → OutcomeIn among (key_leads special lines p t)
   leads_in special lines p Done k = tt
   leads_in special lines p (Put w t) k = tt
   leads_in special lines p (In n named end) k =
       let line = if special then other_named named else first_named named in
-      either (OutcomeIn among) (n == 1) _ _ (there_in (line_at line lines) (line_start p line) k) tt
+      either (OutcomeIn among) (n == 1) _ _ (lined among (line_at line lines) (line_start p line) k) tt
 
   waits_in : (t : Trees) → OutcomeIn among (waits t)
   waits_in Done = tt
@@ -67,7 +55,7 @@ module _ (among : ℕ → Bool) where
   with_key_in : (key : Option ℕ) (goes : Outcome) (t : Trees) (me : Private) (s : SeenLent) → OutcomeIn among goes → Leads (with_key key goes t me s)
   unfolding Leads
   with_key_in None goes t me s k = k
-  with_key_in (Some key) goes t me s k = code_in goes _ k
+  with_key_in (Some key) goes t me s k = goes_or_in among goes _ k
 
   keyed_in : (k : KeyCame) (p : Place) (t : Trees) (me : Private) (s : SeenLent) → among p.home ≡ true → Leads (key_taken_by k p t me s)
   keyed_in c p t me s k = with_key_in (key_byte c) (key_goes c s.home.lines p t) t me s (goes_in c s.home.lines p t k)
@@ -81,7 +69,7 @@ module _ (among : ℕ → Bool) where
   line_in : (takes : List ℕ → VarsState → Changed) (l : LineCame) (own : Lines) (me : Private) → Leads (line_answered_by takes l own me)
   unfolding Leads
   line_in takes (PromptShown column) own me = tt
-  line_in takes (LineEntered line) own me = code_in outcome.Next _ tt
+  line_in takes (LineEntered line) own me = next_or_fails among _
   line_in takes (LineLeft n) own me = types_in (typed_by_mark n own) me
   line_in takes LineLater own me = tt
 
@@ -97,12 +85,11 @@ module _ (among : ℕ → Bool) where
   place_in x a me s k =
       each_course is_refused (repeats me) (finishes x a me s) me s Leads tt tt (λ p is u. statement_in u p x a me s (subst (λ (o : Option Place). PlaceIn among o) is k))
 
-pub plans_within : (devices : List Device) → PlansWithin (plan devices)
-plans_within devices =
-    form.plans_within (works devices)
-    (λ among me s k. each_planned devices me s (PlannedIn among) tt tt (λ code. tt)
-    (λ a is. at_terminal_marks_none among me.term a is) (λ addr bytes after is. marks_none among (access.PrintTo addr bytes after) refl))
+pub plans_within : (devices : List Device) → PlansEachWithin (works devices)
+plans_within devices among me s k =
+    each_planned devices me s (PlannedIn among) tt tt (λ code. tt)
+    (λ a is. at_terminal_marks_none among me.term a is) (λ addr bytes after is. marks_none among (access.PrintTo addr bytes after) refl)
 
-pub finishes_within : FinishesWithin finish
+pub leads_within : LeadsWithin ends
 unfolding Leads
-finishes_within = form.finishes_within ends (λ among x a me s k. place_in among x a me s k)
+leads_within among x a me s k = place_in among x a me s k

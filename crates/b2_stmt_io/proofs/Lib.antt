@@ -12,7 +12,6 @@ pub mod PrintRows
 pub mod UsingRows
 pub mod Planned
 pub mod HomesKept
-pub mod KeptPlaces
 pub mod Waits
 pub mod Reached
 pub mod LeftAlone

@@ -21,11 +21,10 @@ use Rattle.b2_receiver.proofs.Reached.{bytes_at_reaches, number_at_reaches}
 use Rattle.b2_access.specs.Lending.{SeenLent}
 use Rattle.b2_access.specs.Partition.{setting_of}
 use Rattle.b2_access.specs.Placed.{Statement}
-use Rattle.b2_access.specs.Reaching.{FinishesReach, PlansReach}
 use Rattle.b2_access.specs.Showing.{shown_or_printed}
 use Rattle.b2_access.specs.Marks.{typed_by_mark}
 use Rattle.b2_access.specs.Views.{LineCame, PromptShown, LineEntered, LineLeft, LineLater, key_came, line_came}
-use Rattle.b2_access.specs.Working.{Worked, Working, globals_after, stops, told_of_globals}
+use Rattle.b2_access.specs.Working.{EachReaches, PlansEachReach, Worked, Working, globals_after, plain, stops, told_of_globals}
 use Rattle.b2_access.specs.declared.accesses.Access.{Access}
 use Rattle.b2_access.specs.declared.accesses.Answer.{Answer}
 use Rattle.b2_access.specs.declared.devices.Device.{Device}
@@ -33,16 +32,14 @@ use Rattle.b2_access.specs.declared.planned.Outcome.{Outcome}
 use Rattle.b2_access.specs.declared.private.Private.{Private}
 use Rattle.b2_access.proofs.Choice.{either}
 use Rattle.b2_access.proofs.Courses.{each_course}
-use Rattle.b2_access.proofs.Working as form
 use Rattle.b2_stmt_io.specs.Converting.{converts, converts_bytes, converts_number, image_from, number_from}
 use Rattle.b2_stmt_io.specs.Inputs.{take_parts, takes_part, takes_parts, takes_some, takes_typed}
 use Rattle.b2_stmt_io.specs.Keys.{assigns_key, key_byte, key_goes, with_key}
 use Rattle.b2_stmt_io.specs.LineReading.{after_prompt, line_answered_by, receiver_of, takes_line as takes_whole, types}
-use Rattle.b2_stmt_io.specs.Plan.{does, ended_of, ends, finish, finish_printing, finishes, is_refused, plan, printing_ends, repeats, takes_line, works}
+use Rattle.b2_stmt_io.specs.Plan.{does, ended_of, ends, finishes, is_refused, printing_ends, repeats, takes_line, works}
 use Rattle.b2_stmt_io.specs.TypedText.{typed_number, typed_parts}
 use Rattle.b2_stmt_io.proofs.Entered.{shown_tells_nothing}
 use Rattle.b2_stmt_io.proofs.Planned.{each_ended}
-use Rattle.b2_stmt_io.proofs.Waits.{after_place, after_printing}
 
 -- CONVERT
 number_from_reaches : (x : TextAnswer) (receiver : Trees) → Reaches (number_from x receiver)
@@ -86,12 +83,11 @@ converts_reach (Put word Done) w = stay w.globals
 converts_reach (Put word (Put v t)) w = stay w.globals
 converts_reach (Put word (In n t end)) w = either (λ (r : WorkLeft). MayBecome w.globals r.work.globals) (n == 1) (converts_bytes t w) (converts_number t w) (bytes_converted t w) (number_converted t w)
 
-pub plans_reach : (devices : List Device) → PlansReach (plan devices)
-plans_reach devices =
-    form.plans_reach (works devices) (λ me s.
+pub plans_reach : (devices : List Device) → PlansEachReach (works devices)
+plans_reach devices me s =
     let F : Working → Type 0 = λ k. MayBecome s.globals (globals_after (told_of_globals k) s.globals) in
     each_course is_refused stops (does devices me s) me s F (stay s.globals) (stay s.globals) (λ p is u.
-    either F (u.row == row.CONVERT) _ _ (converts_reach u.tree (work_in (setting_of me) s.home me.vars s.globals)) (stay s.globals)))
+    either F (u.row == row.CONVERT) _ _ (converts_reach u.tree (work_in (setting_of me) s.home me.vars s.globals)) (stay s.globals))
 
 -- INPUT and LINPUT
 some_reaches : (part : List ℕ) (t : Trees) → Reaches (takes_some part t)
@@ -150,10 +146,8 @@ statement_reaches u p x a me s =
     each_ended (Tells s.globals) x a me s (shown_stays x a me s.globals) (stay s.globals) (stay s.globals) u p
     (key_reaches (key_byte (key_came x a)) (key_goes (key_came x a) s.home.lines p u.tree) u.tree me s) (λ r. line_reaches r u.tree p x a me s)
 
-pub finishes_reach : FinishesReach finish
-finishes_reach =
-    form.finishes_reach ends (λ x a me s h. after_place x a me s h)
-    (λ x a me s. each_course is_refused (repeats me) (finishes x a me s) me s (Tells s.globals) (stay s.globals) (stay s.globals) (λ p is u. statement_reaches u p x a me s))
+pub finishes_reach : EachReaches plain ends
+finishes_reach x a me s = each_course is_refused (repeats me) (finishes x a me s) me s (Tells s.globals) (stay s.globals) (stay s.globals) (λ p is u. statement_reaches u p x a me s)
 
-pub printing_reaches : FinishesReach finish_printing
-printing_reaches = form.finishes_reach printing_ends (λ x a me s h. after_printing x a me h) (λ x a me s. shown_stays x a me s.globals)
+pub printing_reaches : EachReaches plain printing_ends
+printing_reaches x a me s = shown_stays x a me s.globals

@@ -9,24 +9,18 @@ use Rattle.b2_access.specs.AnswerKinds.{delays}
 use Rattle.b2_access.specs.Lending.{SeenLent}
 use Rattle.b2_access.specs.Placed.{Statement}
 use Rattle.b2_access.specs.Showing.{shown_or_printed}
-use Rattle.b2_access.specs.Waiting.{FinishesUnchanged, PlansBeforeChanges}
 use Rattle.b2_access.specs.Working.{Worked, work_of}
 use Rattle.b2_access.specs.declared.accesses.Access.{Access}
 use Rattle.b2_access.specs.declared.accesses.Answer.{Answer}
-use Rattle.b2_access.specs.declared.devices.Device.{Device}
 use Rattle.b2_access.specs.declared.private.Private.{Private}
 use Rattle.b2_access.specs.Views.{KeyCame, LineCame}
 use Rattle.b2_access.proofs.Courses.{each_course}
 use Rattle.b2_access.proofs.Delays.{key_delayed, line_delayed}
 use Rattle.b2_access.proofs.Shown.{after_shown_or_printed}
-use Rattle.b2_access.proofs.Working as form
 use Rattle.b2_stmt_io.specs.Keys.{key_taken, key_taken_by}
 use Rattle.b2_stmt_io.specs.LineReading.{line_answered, line_answered_by}
 use Rattle.b2_stmt_io.proofs.Planned.{each_ended}
-use Rattle.b2_stmt_io.specs.Plan.{ended_of, ends, finish, finishes, is_refused, plan, repeats, works}
-
-pub plans_before_changes : (devices : List Device) → PlansBeforeChanges (plan devices)
-plans_before_changes devices = form.plans_before_changes (works devices)
+use Rattle.b2_stmt_io.specs.Plan.{ended_of, ends, finishes, is_refused, repeats}
 
 after_key : (x : Access) (a : Answer) (p : Place) (t : Trees) (me : Private) (s : SeenLent) → delays a ≡ true → (key_taken x a p t me s).work ≡ work_of me
 after_key x a p t me s h = elim (key_delayed x a h) [
@@ -48,6 +42,3 @@ after_place x a me s h =
 
 pub after_printing : (x : Access) (a : Answer) (me : Private) → delays a ≡ true → (shown_or_printed x a me).work ≡ work_of me
 after_printing x a me h = after_shown_or_printed x a me h
-
-pub finishes_unchanged : FinishesUnchanged finish
-finishes_unchanged = form.finishes_unchanged ends (λ x a me s h. after_place x a me s h)

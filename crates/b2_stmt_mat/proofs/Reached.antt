@@ -4,27 +4,21 @@ use Rattle.b2_atom.specs.Tree.{Trees}
 use Rattle.b2_base.specs.declared.codes.TheConstants.{X76_LOCATOR_OR_FIELD}
 use Rattle.b2_matalpha.specs.Moves.{moved_places}
 use Rattle.b2_vars.specs.Calls.{redim_code, with_change}
-use Rattle.b2_vars.specs.Globals.{MayBecome}
 use Rattle.b2_vars.specs.Tables.{VarsState}
 use Rattle.b2_vars.specs.Variables.{reshaped}
 use Rattle.b2_vars.specs.declared.name.Var.{Var}
 use Rattle.b2_expr.specs.Answers.{TextAnswer}
 use Rattle.b2_expr.specs.Value.{context_of}
-use Rattle.b2_expr.specs.Workspace.{ChangesWhereReached, Reaches, counts_as_reached, surroundings_of, work_in}
+use Rattle.b2_expr.specs.Workspace.{ChangesWhereReached, Reaches, counts_as_reached, surroundings_of}
 use Rattle.b2_expr.proofs.Reached.{among_reaches, stay}
 use Rattle.b2_receiver.specs.Assigning.{unless_refused}
 use Rattle.b2_receiver.proofs.Reached.{given_bytes_reaches}
-use Rattle.b2_access.specs.Partition.{setting_of}
-use Rattle.b2_access.specs.Reaching.{FinishesReach, PlansReach}
-use Rattle.b2_access.specs.Working.{Working, globals_after, stops, told_of_globals}
-use Rattle.b2_access.proofs.Courses.{each_course}
 use Rattle.b2_access.proofs.Tables.{each_row}
-use Rattle.b2_access.proofs.Working as form
 use Rattle.b2_stmt_mat.specs.Arrays.{Families, all_bytes, families, named_bytes, shape_in}
 use Rattle.b2_stmt_mat.specs.ByteArrays.{all_or_refused, copied, copies_found, copy_in, move_code, move_in, moved, moved_by, moves_found, refusal_of, sort_in, sorted, sorted_bytes, sorts_found}
 use Rattle.b2_stmt_mat.specs.Formulas.{assignment_in}
 use Rattle.b2_stmt_mat.specs.Matrices.{Made, assigns_found, made_of, made_or_refused, matrix_assigned}
-use Rattle.b2_stmt_mat.specs.Plan.{Changes, changes, changing_rows, does, ends, finish, is_refused, left_out, plan, works}
+use Rattle.b2_stmt_mat.specs.Plan.{Changes, changes, changing_rows, left_out}
 use Rattle.b2_stmt_mat.specs.Redimensioning.{redimensioned, redimensioned_in, redimensions_found}
 use Rattle.b2_stmt_mat.specs.Searching.{found, given_found, search_in, searches_found}
 use Rattle.b2_stmt_mat.specs.declared.byte_arrays.ArrayCopy.{ArrayCopy}
@@ -100,7 +94,7 @@ searches_reach (Err code) w = stay w.globals
 abbrev EachReaches : Changes → Type 0
 EachReaches change = (t : Trees) → Reaches (change t)
 
-change_reaches : (r : ℕ) → EachReaches (changes r)
+pub change_reaches : (r : ℕ) → EachReaches (changes r)
 change_reaches r =
     each_row EachReaches changing_rows left_out r (
       (λ t w. assigns_reach (assignment_in (context_of w) t) w),
@@ -115,12 +109,3 @@ change_reaches r =
         ),
       ),
     ) (λ t w. stay w.globals)
-
-pub plans_reach : PlansReach plan
-plans_reach =
-    form.plans_reach works (λ me s.
-    let F : Working → Type 0 = λ k. MayBecome s.globals (globals_after (told_of_globals k) s.globals) in
-    each_course is_refused stops (does me s) me s F (stay s.globals) (stay s.globals) (λ p is u. change_reaches u.row u.tree (work_in (setting_of me) s.home me.vars s.globals)))
-
-pub finishes_reach : FinishesReach finish
-finishes_reach = form.finishes_reach ends (λ x a me s h. refl) (λ x a me s. stay s.globals)

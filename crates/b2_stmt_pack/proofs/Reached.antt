@@ -14,7 +14,7 @@ use Rattle.b2_pack.specs.Unpacking.{fields_in, numbers_by_rows}
 use Rattle.b2_expr.specs.Answers.{TextAnswer}
 use Rattle.b2_expr.specs.Kinds.{suits}
 use Rattle.b2_expr.specs.Value.{context_of}
-use Rattle.b2_expr.specs.Workspace.{ChangesWhereReached, Reaches, WorkLeft, WorkState, counts_as_reached, refused, surroundings_of, unchanged, work_in}
+use Rattle.b2_expr.specs.Workspace.{ChangesWhereReached, Reaches, WorkLeft, WorkState, counts_as_reached, refused, surroundings_of, unchanged}
 use Rattle.b2_expr.proofs.Reached.{among_reaches, stay, then_reaches}
 use Rattle.b2_receiver.specs.Assigning.{buffer_code, is_alpha_receiver, is_global_buffer, unless_refused, with_changed}
 use Rattle.b2_receiver.specs.Receivers.{any_receiver}
@@ -22,18 +22,13 @@ use Rattle.b2_receiver.specs.Receiving.{given_value}
 use Rattle.b2_receiver.specs.declared.receiver.Buffer.{Buffer}
 use Rattle.b2_receiver.specs.declared.receiver.Receiver.{Receiver}
 use Rattle.b2_receiver.proofs.Reached.{given_value_reaches, number_at_reaches}
-use Rattle.b2_access.specs.Partition.{setting_of}
-use Rattle.b2_access.specs.Reaching.{FinishesReach, PlansReach}
-use Rattle.b2_access.specs.Working.{Working, globals_after, stops, told_of_globals}
 use Rattle.b2_access.proofs.Choice.{either}
-use Rattle.b2_access.proofs.Courses.{each_course}
 use Rattle.b2_access.proofs.Tables.{each_row}
-use Rattle.b2_access.proofs.Working as form
 use Rattle.b2_stmt_pack.specs.Buffers.{packed_by, packs_to, read_from, room_code, room_in, where_none}
 use Rattle.b2_stmt_pack.specs.Fields as fields
 use Rattle.b2_stmt_pack.specs.Lists.{all_taken, each_of, each_takes, kind_of, number_of, takes_number, takes_value, value_of, value_to}
 use Rattle.b2_stmt_pack.specs.Numbers as numbers
-use Rattle.b2_stmt_pack.specs.Plan.{Changes, changes, changing_rows, does, ends, finish, is_refused, left_out, plan, works}
+use Rattle.b2_stmt_pack.specs.Plan.{Changes, changes, changing_rows, left_out}
 
 -- packing changes nothing with a code
 twice_refused : (o p : Option ℕ) (old after : VarsState) → counts_as_reached (unless_refused o old (unless_refused p old (record { vars = after; code = None }))).code ≡ false
@@ -106,7 +101,7 @@ fields_unpack (Err code) of items w = stay w.globals
 abbrev EachReaches : Changes → Type 0
 EachReaches change = (t : Trees) → Reaches (change t)
 
-change_reaches : (r : ℕ) → EachReaches (changes r)
+pub change_reaches : (r : ℕ) → EachReaches (changes r)
 change_reaches r =
     each_row EachReaches changing_rows left_out r (
       (λ t w. numbers_packs t w),
@@ -118,12 +113,3 @@ change_reaches r =
         ),
       ),
     ) (λ t w. stay w.globals)
-
-pub plans_reach : PlansReach plan
-plans_reach =
-    form.plans_reach works (λ me s.
-    let F : Working → Type 0 = λ k. MayBecome s.globals (globals_after (told_of_globals k) s.globals) in
-    each_course is_refused stops (does me s) me s F (stay s.globals) (stay s.globals) (λ p is u. change_reaches u.row u.tree (work_in (setting_of me) s.home me.vars s.globals)))
-
-pub finishes_reach : FinishesReach finish
-finishes_reach = form.finishes_reach ends (λ x a me s h. refl) (λ x a me s. stay s.globals)

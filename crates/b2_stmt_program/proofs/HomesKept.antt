@@ -5,20 +5,21 @@ use Rattle.b2_flow.specs.declared.frame.Frame.{Frame}
 use Rattle.b2_flow.specs.declared.frame.Place.{Place}
 use Rattle.b2_text.specs.Program.{Lines, number_after}
 use Rattle.b2_access.specs.Borrowers.{homes_entered, homes_marked, is_inside}
-use Rattle.b2_access.specs.Homes.{FinishesWithin, FramesIn, HomesIn, IsWithin, OutcomeIn, PlaceIn, PlannedIn, PlansWithin, homes_of}
+use Rattle.b2_access.specs.Homes.{FinishesWithin, FramesIn, HomesIn, IsWithin, OutcomeIn, PlaceIn, PlannedIn, homes_of}
 use Rattle.b2_access.specs.Lending.{SeenLent}
-use Rattle.b2_access.specs.Steering.{Steered, put_control}
+use Rattle.b2_access.specs.Steering.{Steered}
 use Rattle.b2_access.specs.Views.{ChangeCame, DiskChanged, ChangeRefused, ChangeLater, ProgramCame, ProgramLoaded, ProgramLocked, ProgramRefused, ProgramLater, change_came, program_came}
+use Rattle.b2_access.specs.Working.{PlansEachWithin}
 use Rattle.b2_access.specs.declared.accesses.Access.{Access}
 use Rattle.b2_access.specs.declared.accesses.Answer.{Answer}
 use Rattle.b2_access.specs.declared.devices.Device.{Device}
 use Rattle.b2_access.specs.declared.private.Private.{Private}
 use Rattle.b2_access.proofs.EnteredHomes.{entered_within}
 use Rattle.b2_access.proofs.Homes.{marks_none}
-use Rattle.b2_access.proofs.Working as form
+use Rattle.b2_access.proofs.Working.{control_in}
 use Rattle.b2_drive.specs.Asking.{change_ends}
 use Rattle.b2_stmt_program.specs.Loading.{loaded, loading_ends, replacing, started}
-use Rattle.b2_stmt_program.specs.Plan.{ended_by, ends, finish, plan, works}
+use Rattle.b2_stmt_program.specs.Plan.{ended_by, ends, finish, works}
 use Rattle.b2_stmt_program.proofs.Planned.{FitsHere, each_planned}
 
 -- no home, or those whose texts were entered
@@ -29,11 +30,8 @@ fitting devices among me a w fits = by (FitsHere.homes fits)
     by (inl none) = marks_none among a none
     by (inr some) = λ h is. entered_within among me.stack w.frames h (sym (ap (is_inside h) some) ∙ is)
 
-pub plans_within : (devices : List Device) → PlansWithin (plan devices)
-plans_within devices among me s w = (
-  form.after_plan (IsWithin among) me s (works devices me s) (λ x. form.within among me x me.slots me.held w),
-  form.as_it_comes (PlannedIn among) me s (works devices me s) (each_planned devices me s (PlannedIn among) tt (λ code. tt) (λ a fits stays. fitting devices among me a w fits)),
-)
+pub plans_within : (devices : List Device) → PlansEachWithin (works devices)
+plans_within devices among me s w = each_planned devices me s (PlannedIn among) tt (λ code. tt) (λ a fits stays. fitting devices among me a w fits)
 
 module _ (among : ℕ → Bool) where
   -- what a statement leaves names only these
@@ -41,7 +39,7 @@ module _ (among : ℕ → Bool) where
   Left kept frames = PlaceIn among kept × FramesIn among frames
 
   EndedIn : Steered → Type 0
-  EndedIn e = Left e.control.kept e.control.stack × OutcomeIn among e.outcome
+  EndedIn e = Left e.work.kept e.work.stack × OutcomeIn among e.outcome
 
   started_in : (n : Option ℕ) (me : Private) → IsWithin among me → EndedIn (started n me)
   unfolding EndedIn
@@ -70,12 +68,9 @@ module _ (among : ℕ → Bool) where
   ended_in (Some replace) x a own me w = loading_in (program_came x a) replace own me w
   ended_in None x a own me w = ((w.kept, w.frames), change_in (change_came x a))
 
-  put_in : (me : Private) (e : Steered) → IsWithin among me → Left e.control.kept e.control.stack → IsWithin among (put_control e.control me)
-  put_in me e w h = record { part = w.part; place = w.place; kept = h.0; frames = h.1 }
-
   finished_in : (x : Access) (a : Answer) (me : Private) (s : SeenLent) → IsWithin among me → IsWithin among (finish x a me s).me × OutcomeIn among (finish x a me s).outcome
   unfolding EndedIn
-  finished_in x a me s w = let h = ended_in (replacing x) x a s.own.lines me w in (put_in me (ends x a s.own.lines me) w h.0, h.1)
+  finished_in x a me s w = let h = ended_in (replacing x) x a s.own.lines me w in (control_in among (ends x a s.own.lines me).work me w h.0, h.1)
 
 pub finishes_within : FinishesWithin finish
 finishes_within among x a me s leads w = finished_in among x a me s w

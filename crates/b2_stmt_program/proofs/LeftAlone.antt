@@ -1,33 +1,19 @@
--- What statements on programs on disks leave alone, whatever they are: one record of what HomesKept, KeptPlaces, Waits and Reached have.
+-- What statements on programs on disks leave alone, whatever they are: by their form, and by what they name and where they lead (HomesKept), where
+-- they ask, what they keep (KeptPlaces), the `@` variables (Reached), and that what waits changes nothing (Waits).
+use Rattle.b2_access.specs.OwnTerminal.{PlannedAt}
+use Rattle.b2_access.proofs.LeftAlone.{joined, plans_leave, steering_leaves}
+use Rattle.b2_access.proofs.OwnTerminal.{names_none}
 use Rattle.b2_stmt_program.specs.Laws.{StatementsLeaveTheRest}
+use Rattle.b2_stmt_program.specs.Plan.{ends, finish, plan, works}
 use Rattle.b2_stmt_program.proofs.HomesKept.{finishes_within, plans_within}
-use Rattle.b2_stmt_program.proofs.KeptPlaces.{
-  finishes_at_terminal,
-  finishes_in_place,
-  finishes_keep_none,
-  finishes_to_show,
-  plans_at_terminal,
-  plans_in_place,
-  plans_keep_none,
-  plans_to_show,
-}
-use Rattle.b2_stmt_program.proofs.Reached.{finishes_reach, plans_reach}
-use Rattle.b2_stmt_program.proofs.Waits.{finishes_unchanged, plans_before_changes}
+use Rattle.b2_stmt_program.proofs.KeptPlaces.{finishes_keep_none}
+use Rattle.b2_stmt_program.proofs.Planned.{FitsHere, each_planned}
+use Rattle.b2_stmt_program.proofs.Reached.{plans_reach}
+use Rattle.b2_stmt_program.proofs.Waits.{after_place}
 
 pub leave_the_rest : StatementsLeaveTheRest
-leave_the_rest devices = record {
-  plans_within = plans_within devices;
-  finishes_within = finishes_within;
-  plans_in_place = plans_in_place devices;
-  finishes_in_place = finishes_in_place;
-  plans_keep_none = plans_keep_none devices;
-  finishes_keep_none = finishes_keep_none;
-  plans_at_terminal = plans_at_terminal devices;
-  finishes_at_terminal = finishes_at_terminal;
-  plans_to_show = plans_to_show devices;
-  finishes_to_show = finishes_to_show;
-  plans_before_changes = plans_before_changes devices;
-  finishes_unchanged = finishes_unchanged;
-  plans_reach = plans_reach devices;
-  finishes_reach = finishes_reach;
-}
+leave_the_rest devices =
+    joined (plan devices) finish
+    (plans_leave (works devices) (plans_within devices)
+    (λ me s. each_planned devices me s (PlannedAt me.term) tt (λ code. tt) (λ a fits stays. names_none me.term a (FitsHere.terminal fits))) (plans_reach devices))
+    (steering_leaves (λ x a me s. ends x a s.own.lines me) finishes_within finishes_keep_none after_place)

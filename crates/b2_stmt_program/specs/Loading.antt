@@ -37,15 +37,15 @@ replacing a = None
 
 -- merged: no loop, no call, no argument and no kept place is left, and the line that was typed goes on
 abbrev pub merged : Private → Steered
-merged me = record { control = control_of (without_frames me); outcome = outcome.Next }
+merged me = record { work = control_of (without_frames me); outcome = outcome.Next }
 
 -- replaced: the variables that aren't common and the declared name go besides, and it goes to the first line of the new text, or is ready where there is none
 abbrev pub without_old : Private → Private
 without_old me = record (without_frames me) { vars = record me.vars { table = common_only me.vars.table }; declared = None }
 
 abbrev pub started : Option ℕ → Private → Steered
-started None me = record { control = control_of (without_old me); outcome = outcome.Ready }
-started (Some n) me = record { control = control_of (without_old me); outcome = outcome.Jump (record { home = me.part; line = Some n; unit = 0 }) }
+started None me = record { work = control_of (without_old me); outcome = outcome.Ready }
+started (Some n) me = record { work = control_of (without_old me); outcome = outcome.Jump (record { home = me.part; line = Some n; unit = 0 }) }
 
 abbrev pub loaded : Bool → Lines → Private → Steered
 loaded true own me = started (number_after None own) me

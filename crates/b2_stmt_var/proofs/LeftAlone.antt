@@ -1,34 +1,12 @@
--- What statements on variables leave alone, whatever they are: one record of what HomesKept, KeptPlaces, Waits and Reached have.
+-- What statements on variables leave alone, whatever they are: each ends at once, and goes on or has a code, so all but the `@` variables it leaves
+-- by its form.
+use Rattle.b2_expr.specs.Workspace.{work_in}
 use Rattle.b2_access.specs.LeftAlone.{LeaveTheRest}
-use Rattle.b2_stmt_var.specs.Plan.{finish, plan}
-use Rattle.b2_stmt_var.proofs.HomesKept.{finishes_within, plans_within}
-use Rattle.b2_stmt_var.proofs.KeptPlaces.{
-  finishes_at_terminal,
-  finishes_in_place,
-  finishes_keep_none,
-  finishes_to_show,
-  plans_at_terminal,
-  plans_in_place,
-  plans_keep_none,
-  plans_to_show,
-}
-use Rattle.b2_stmt_var.proofs.Reached.{finishes_reach, plans_reach}
-use Rattle.b2_stmt_var.proofs.Waits.{finishes_unchanged, plans_before_changes}
+use Rattle.b2_access.specs.Partition.{setting_of}
+use Rattle.b2_access.proofs.Homes.{next_or_fails}
+use Rattle.b2_access.proofs.LeftAlone.{ends_at_once}
+use Rattle.b2_stmt_var.specs.Plan.{ended_of, finish, is_refused, plan}
+use Rattle.b2_stmt_var.proofs.Reached.{change_reaches}
 
 pub leave_the_rest : LeaveTheRest plan finish
-leave_the_rest = record {
-  plans_within = plans_within;
-  finishes_within = finishes_within;
-  plans_in_place = plans_in_place;
-  finishes_in_place = finishes_in_place;
-  plans_keep_none = plans_keep_none;
-  finishes_keep_none = finishes_keep_none;
-  plans_at_terminal = plans_at_terminal;
-  finishes_at_terminal = finishes_at_terminal;
-  plans_to_show = plans_to_show;
-  finishes_to_show = finishes_to_show;
-  plans_before_changes = plans_before_changes;
-  finishes_unchanged = finishes_unchanged;
-  plans_reach = plans_reach;
-  finishes_reach = finishes_reach;
-}
+leave_the_rest = ends_at_once is_refused ended_of (λ among u me s. next_or_fails among _) (λ u me s. change_reaches u.row s.own.lines u.tree (work_in (setting_of me) s.home me.vars s.globals) me.next_data)

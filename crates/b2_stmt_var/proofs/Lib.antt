@@ -3,8 +3,8 @@
 -- NumberRows, SideRows, DataRows, ReadRows and RestoreRows have what the rows of statements say at their bytes, one fact at a
 -- time. Assigned: receivers one after the other. BufferRows, TurnRows, LoneRows and EntryRows: the rows of INIT, of ROTATE, and
 -- of DIM and COM. LengthRows: a length is read as a sum is.
--- ReadingOrder: READ takes the literals of DATA in their order. HomesKept, KeptPlaces and Waits: what every statement leaves;
--- LeftAlone: all of it in one record. PlainAssignment: an assignment of a number to one scalar, by its bytes; OneReceiver: an
+-- ReadingOrder: READ takes the literals of DATA in their order. Reached: the `@` variables that a statement changes; LeftAlone: what
+-- every statement leaves. PlainAssignment: an assignment of a number to one scalar, by its bytes; OneReceiver: an
 -- assignment of either kind to one receiver; PassedOn: what one leaves and where it leads, done in passing.
 pub mod NumberRows
 pub mod SideRows
@@ -18,11 +18,8 @@ pub mod DataRows
 pub mod ReadRows
 pub mod RestoreRows
 pub mod ReadingOrder
-pub mod HomesKept
-pub mod KeptPlaces
-pub mod Waits
-pub mod LeftAlone
 pub mod Reached
+pub mod LeftAlone
 pub mod PlainAssignment
 pub mod OneReceiver
 pub mod PassedOn

@@ -1,50 +1,25 @@
 -- An assignment that was done in passing: it has ended as it plans, and leads to the place after it.
-use Rattle.std.proofs.Common.{◌≡◌, ◌+◌, ℕ, true, Option, Some, None, option_map, if◌then◌else◌, sym, ap, subst, ◌∙◌}
+use Rattle.std.proofs.Common.{◌≡◌, ℕ, true, Option, Some, None, if◌then◌else◌, sym, ap, subst, ◌∙◌}
 use Rattle.b2_atom.specs.declared.rows.TheConstants as row
-use Rattle.b2_flow.specs.declared.frame.Place.{Place}
-use Rattle.b2_text.specs.Program.{Lines, number_after}
 use Rattle.b2_rows.specs.Rows.{tree_at}
-use Rattle.b2_rows.specs.Following.{tree_units, unit_or_next}
-use Rattle.b2_rows.specs.declared.following.Goal.{Goal}
-use Rattle.b2_rows.specs.declared.following.Goal.TheVariants as goal
 use Rattle.b2_vars.specs.Globals.{unreached}
 use Rattle.b2_vars.specs.Tables.{VarsState}
 use Rattle.b2_expr.specs.Workspace.{WorkLeft}
 use Rattle.b2_access.specs.Found.{seen_found, statement_found}
 use Rattle.b2_access.specs.Lead.{is_done, lead_seen}
 use Rattle.b2_access.specs.Lending.{SeenLent}
-use Rattle.b2_access.specs.Passing.{Passes, lead_of, place_following, place_led}
-use Rattle.b2_access.specs.Places.{goal_place, line_start}
+use Rattle.b2_access.specs.Passing.{Passes, lead_of, place_following}
 use Rattle.b2_access.specs.Planning.{Planning}
 use Rattle.b2_access.specs.Working.{Ends, Worked, as_planned, work_of}
 use Rattle.b2_access.specs.declared.passing.Lead.{Lead}
 use Rattle.b2_access.specs.declared.placed.Found.{Found}
 use Rattle.b2_access.specs.declared.planned.Outcome.TheVariants as outcome
 use Rattle.b2_access.specs.declared.private.Private.{Private}
+use Rattle.b2_access.proofs.Led.{following_led}
 use Rattle.b2_stmt_var.specs.Assignments.{assigns}
 use Rattle.b2_stmt_var.specs.InPassing.{assigned, own_work}
 use Rattle.b2_stmt_var.specs.Left.{variables_left, with_left}
 use Rattle.b2_stmt_var.specs.Plan.{ended_of}
-
--- THE PLACE of a line and a unit to which a goal leads is at home
-unit_led : (home : ℕ) (line : Option ℕ) (k : ℕ) (l : ℕ × ℕ) → option_map (λ n. (n, k)) line ≡ Some l
-    → ◌≡◌ {A = Option Place} (Some (record { home = home; line = line; unit = k })) (Some (place_led home l))
-unit_led home None k l h = cc
-unit_led home (Some n) k l h = ap (option_map (place_led home)) h
-
-line_led : (p : Place) (line : Option ℕ) (l : ℕ × ℕ) → lead_of (option_map (line_start p) line) ≡ Some l → option_map (line_start p) line ≡ Some (place_led p.home l)
-line_led p None l h = cc
-line_led p (Some n) l h = ap (option_map (place_led p.home)) h
-
-next_led : (lines : Lines) (home : ℕ) (line : Option ℕ) (unit : ℕ) (l : ℕ × ℕ) → lead_of (goal_place lines (record { home = home; line = line; unit = unit }) goal.NextLine) ≡ Some l
-    → goal_place lines (record { home = home; line = line; unit = unit }) goal.NextLine ≡ Some (place_led home l)
-next_led lines home None unit l h = cc
-next_led lines home (Some n) unit l h = line_led (record { home = home; line = Some n; unit = unit }) (number_after (Some n) lines) l h
-
-goal_led : (lines : Lines) (p : Place) (g : Goal) (l : ℕ × ℕ) → lead_of (goal_place lines p g) ≡ Some l → goal_place lines p g ≡ Some (place_led p.home l)
-goal_led lines p (goal.Unit k) l h = unit_led p.home p.line k l h
-goal_led lines p (goal.Line n) l h = ap (option_map (place_led p.home)) h
-goal_led lines p goal.NextLine l h = next_led lines p.home p.line p.unit l h
 
 -- WHAT IT LEAVES of a partition
 abbrev seen : Found → SeenLent
@@ -73,7 +48,7 @@ passed f me after lead is_row done leads rest is =
     let ends : ended_of (statement_found f) me (seen f) ≡ ended_with me after.vars = ended_is f me after.vars is_row is in
     subst (λ (o : Option (ℕ × ℕ)). Passes o f me after (planned_there f me)) (sym there)
     (subst (λ (w : Worked). Passes (Some (lead.line, lead.unit)) f me after (as_planned me (seen f) (Ends w))) (sym ends)
-    (sym rest, goal_led f.home.now.lines f.place (unit_or_next (f.place.unit + 1) (tree_units f.line.now)) (lead.line, lead.unit) (sym leads ∙ there)))
+    (sym rest, following_led f (lead.line, lead.unit) (sym leads ∙ there)))
 
 -- or it wasn't, and nothing has changed
 pub not_passed : (f : Found) (me after : Private) (lead : Lead) → lead_seen lead ≡ None → after ≡ me → Passes (lead_seen lead) f me after (planned_there f me)

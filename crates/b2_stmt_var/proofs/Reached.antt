@@ -9,7 +9,7 @@ use Rattle.b2_text.specs.declared.spots.Spot.{Spot}
 use Rattle.b2_vars.specs.Globals.{Globals, MayBecome}
 use Rattle.b2_expr.specs.Answers.{Answer}
 use Rattle.b2_expr.specs.Value.{context_of, value}
-use Rattle.b2_expr.specs.Workspace.{ChangesWhereReached, Reaches, WorkLeft, WorkState, work_in}
+use Rattle.b2_expr.specs.Workspace.{ChangesWhereReached, Reaches, WorkLeft, WorkState}
 use Rattle.b2_expr.specs.declared.operators.Level.TheVariants as level
 use Rattle.b2_expr.proofs.Reached.{after_both, among_reaches, stay, then_reaches}
 use Rattle.b2_receiver.specs.Assigning.{buffer_code, bytes_changed, is_global_buffer, with_changed}
@@ -20,20 +20,15 @@ use Rattle.b2_receiver.specs.declared.receiver.Buffer.{Buffer}
 use Rattle.b2_receiver.specs.declared.receiver.Buffer.TheVariants as buffer_kind
 use Rattle.b2_receiver.specs.declared.receiver.Receiver.{Receiver}
 use Rattle.b2_receiver.proofs.Reached.{given_value_reaches, number_at_reaches, refused_or_reached, side_at_reaches}
-use Rattle.b2_access.specs.Partition.{setting_of}
-use Rattle.b2_access.specs.Reaching.{FinishesReach, PlansReach}
-use Rattle.b2_access.specs.Working.{Working, globals_after, stops, told_of_globals}
 use Rattle.b2_access.proofs.Choice.{either}
-use Rattle.b2_access.proofs.Courses.{each_course}
 use Rattle.b2_access.proofs.Tables.{each_row}
-use Rattle.b2_access.proofs.Working as form
 use Rattle.b2_alpha.specs.Bits.{rotated}
 use Rattle.b2_stmt_var.specs.Assignments.{assign_each, assign_numbers, assign_sides, assigns, numbers_by, side_of_assignment, sides_by, sum_of_assignment}
 use Rattle.b2_stmt_var.specs.Buffers.{all_filled, buffers_of_init, byte_of_init, fills, fills_one, inits, turn_in, turns}
 use Rattle.b2_stmt_var.specs.Data.{next_literal}
 use Rattle.b2_stmt_var.specs.Dimensions.{dimensions, entries_of, entry_code, entry_in, is_com, makes, makes_found, makes_one, with_entry}
 use Rattle.b2_stmt_var.specs.Left.{Left}
-use Rattle.b2_stmt_var.specs.Plan.{Changes, changes, changing_rows, does, ends, finish, is_refused, left_out, plan, works}
+use Rattle.b2_stmt_var.specs.Plan.{Changes, changes, changing_rows, left_out}
 use Rattle.b2_stmt_var.specs.Reading.{read_each, reads_one, reads_to, receivers_of, takes_literal, takes_value, unless_read_ended, value_for}
 use Rattle.b2_stmt_var.specs.Restoring.{line_to_restore, restores, restores_where}
 use Rattle.b2_stmt_var.specs.declared.buffers.Turn.{Turn}
@@ -127,18 +122,9 @@ restores_stay (Some n) own = restores_where_stay (line_at n own) n
 abbrev EachReaches : Changes → Type 0
 EachReaches change = (own : Lines) (t : Trees) → ReachesLeft (change own t)
 
-change_reaches : (r : ℕ) → EachReaches (changes r)
+pub change_reaches : (r : ℕ) → EachReaches (changes r)
 change_reaches r =
     each_row EachReaches changing_rows left_out r (
       (λ own t w next. assigns_reach t w),
       ((λ own t w next. dimensions_reach t w), ((λ own t w next. inits_reach t w), ((λ own t w next. turns_reach (turn_in (context_of w) t) w), ((λ own t w next. read_each_reaches own (receivers_of t) w next), ((λ own t w next. restores_stay (line_to_restore t) own w next), ((λ own t w next. stay w.globals), ((λ own t w next. stay w.globals), tt))))))),
     ) (λ own t w next. stay w.globals)
-
-pub plans_reach : PlansReach plan
-plans_reach =
-    form.plans_reach works (λ me s.
-    let F : Working → Type 0 = λ k. MayBecome s.globals (globals_after (told_of_globals k) s.globals) in
-    each_course is_refused stops (does me s) me s F (stay s.globals) (stay s.globals) (λ p is u. change_reaches u.row s.own.lines u.tree (work_in (setting_of me) s.home me.vars s.globals) me.next_data))
-
-pub finishes_reach : FinishesReach finish
-finishes_reach = form.finishes_reach ends (λ x a me s h. refl) (λ x a me s. stay s.globals)
