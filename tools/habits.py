@@ -71,8 +71,6 @@ HABITS = [Habit(*row) for row in [
     ('INPUT "N";A', "S13", r"\bINPUT *\"[^\"]*\" *;", 'a comma: INPUT "N",A', 'INPUT "N",A:ERROR GOTO 10'),
     ('LINPUT "N"-A$', "S13", r"^-", 'a comma: LINPUT "N",A$; what the variable has is not offered', 'LINPUT "N",A$'),
     ("PRINTUSING 900", "S13", r"\bPRINT ?USING *\d+ *(:|$)", "values after it, or PRINT and the text of the image", 'PRINTUSING 20,5 / %## PIECES'),
-    ('PRINT AT(5,10);"X"', "S25", r"\bAT *\(", "HEX(0241252A): after 0241 the row and the column, each 32 more than it is", 'PRINT HEX(0241252A);"X"'),
-    ("PRINT BOX(3,4)", "S25", r"\bBOX *\(", "HEX(02422324): after 0242 the rows and the columns, each 32 more", "PRINT HEX(02422324)"),
     ('PRINT "A" "B"', "S25", r'\bPRINT\b[^:]*["\)] *["A-Z]', "a semicolon or a comma between two items", 'PRINT "A";"B"'),
     # Devices
     ("SELECT PRINT 215(132)", "S25", r"\bSELECT PRINT *[0-9A-F]{3} *\(", "leave the width out: a printer has 132 bytes a line, and the terminal 80", "SELECT PRINT 215"),

@@ -157,7 +157,7 @@ class Reader:
             case 'CommaOrAlpha':
                 return ahead == ',' or self.is_alpha()
             case 'PrintItem':
-                return self.is_among('TAB(', 'HEXOF(') or self.is_alpha() or self.is_numeric()
+                return self.is_among('TAB(', 'HEXOF(') or self.is_among('AT(', 'BOX(') or self.is_alpha() or self.is_numeric()
         raise ValueError(start)
 
     def is_alpha(self):

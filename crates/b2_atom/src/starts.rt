@@ -9,8 +9,8 @@ use crate::output::Stop;
 use crate::rows;
 use crate::table::FORMS;
 use crate::words::{
-    ABS_OPEN, BIN_OPEN, FN, HASH_TERM, HEX_OPEN, HEXOF_OPEN, LINE_MARK, Origin, STR_OPEN, TAB_OPEN,
-    ahead, begins_with, is_source, kept_byte, skipped,
+    ABS_OPEN, AT_OPEN, BIN_OPEN, BOX_OPEN, FN, HASH_TERM, HEX_OPEN, HEXOF_OPEN, LINE_MARK, Origin,
+    STR_OPEN, TAB_OPEN, ahead, begins_with, is_source, kept_byte, skipped,
 };
 use b2_base::codes;
 use b2_base::lexical::{at, first, is_digit, is_hex_digit, is_letter, rest_after};
@@ -94,6 +94,7 @@ fn print_item_begins(origin: Origin, text: &[u8]) -> bool
     ensures { result ≡ spec.starts_at origin Start.PrintItem text.now }
 {
     is_among(TAB_OPEN, HEXOF_OPEN, ahead(origin, text).0)
+        || is_among(AT_OPEN, BOX_OPEN, ahead(origin, text).0)
         || numeric_begins(origin, text)
         || alpha_begins(origin, text)
 }

@@ -401,7 +401,7 @@ pub const ROWS_2: [&[Item]; 64] = [
     // PRINT_ITEM
     &[Item::Either(Start::Code(words::TAB_OPEN), rows::TAB, rows::PRINT_BUT_TAB)],
     // PRINT_BUT_TAB
-    &[Item::Either(Start::Code(words::HEXOF_OPEN), rows::HEXOF, rows::OPERAND_OF_ANY_KIND)],
+    &[Item::Either(Start::Code(words::HEXOF_OPEN), rows::HEXOF, rows::PRINT_BUT_HEXOF)],
     // TAB
     &[Item::Word(words::TAB_OPEN), Item::Nest(rows::SUM), Item::Sign(b')', codes::S11_CLOSE)],
     // HEXOF
@@ -414,7 +414,7 @@ pub const ROWS_2: [&[Item]; 64] = [
 
 /// The rows from 192 on.
 #[rattlefmt::skip]
-pub const ROWS_3: [&[Item]; 59] = [
+pub const ROWS_3: [&[Item]; 65] = [
     // INPUT
     &[Item::Word(words::INPUT), Item::Maybe(Start::Code(b'"'), rows::PROMPT), Item::Part(rows::RECEIVER), Item::Many(Start::Code(b','), rows::COMMA_RECEIVER)],
     // LINPUT
@@ -535,6 +535,18 @@ pub const ROWS_3: [&[Item]; 59] = [
     &[Item::Word(words::RUN), Item::Maybe(Start::Line, rows::LINE_NUMBER)],
     // CONTINUE
     &[Item::Word(words::CONTINUE)],
+    // PRINT_BUT_HEXOF
+    &[Item::Either(Start::Code(words::AT_OPEN), rows::AT, rows::PRINT_BUT_AT)],
+    // PRINT_BUT_AT
+    &[Item::Either(Start::Code(words::BOX_OPEN), rows::BOX, rows::OPERAND_OF_ANY_KIND)],
+    // AT
+    &[Item::Word(words::AT_OPEN), Item::Nest(rows::AT_NUMBERS), Item::Sign(b')', codes::S11_CLOSE)],
+    // AT_NUMBERS
+    &[Item::Part(rows::SUM), Item::Sign(b',', codes::S13_SEPARATOR), Item::Part(rows::SUM), Item::Maybe(Start::Code(b','), rows::COMMA_NUMBER)],
+    // BOX
+    &[Item::Word(words::BOX_OPEN), Item::Nest(rows::BOX_NUMBERS), Item::Sign(b')', codes::S11_CLOSE)],
+    // BOX_NUMBERS
+    &[Item::Part(rows::SUM), Item::Sign(b',', codes::S13_SEPARATOR), Item::Part(rows::SUM)],
 ];
 
 /// The statements, by what they begin with; the first that begins is the one.

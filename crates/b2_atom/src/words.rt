@@ -227,12 +227,20 @@ pub const HASH_TERM: u8 = 0xE6;
 
 pub const ROUND: u8 = 0xE7;
 
+pub const DOLLAR_RELEASE: u8 = 0xE8;
+
+pub const TERMINAL: u8 = 0xE9;
+
+pub const AT_OPEN: u8 = 0xEA;
+
+pub const BOX_OPEN: u8 = 0xEB;
+
 /// The last word.
-pub const LAST: u8 = 0xE7;
+pub const LAST: u8 = 0xEB;
 
 /// The words in the order of their codes, and after them those that this machine leaves out.
 #[rattlefmt::skip]
-pub const WORDS: [&[u8]; 126] = [
+pub const WORDS: [&[u8]; 130] = [
     b"REM",
     b"DIM",
     b"COM",
@@ -337,6 +345,10 @@ pub const WORDS: [&[u8]; 126] = [
     b"#PART",
     b"#TERM",
     b"ROUND",
+    b"$RELEASE",
+    b"TERMINAL",
+    b"AT(",
+    b"BOX(",
     b"SIN(",
     b"COS(",
     b"TAN(",
@@ -362,7 +374,7 @@ pub const WORDS: [&[u8]; 126] = [
 ];
 
 /// How many words have a code.
-pub const CODED: usize = 104;
+pub const CODED: usize = 108;
 
 /// Whether what is read was typed.
 pub fn is_source(origin: Origin) -> bool

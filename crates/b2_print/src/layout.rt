@@ -210,27 +210,42 @@ pub fn lay_zone(width: u16, column: u16, into: &mut Vec<u8>) -> Result<u16, NoMe
     }
 }
 
-/// Appends the cursor at a place of the screen, and back there after cells are erased.
-fn lay_place(
+/// Appends the cursor at a place of the screen, where a number of cells is erased and the cursor goes back, and gives the
+/// column after it, which is that of the place. The place lies on the screen, and so do the cells that are erased.
+pub fn lay_place(
     alloc: Global,
     row: u8,
     column: u8,
     erase: u8,
     into: &mut Vec<u8>,
-) -> Result<(), NoMemory>
-    requires row { row < screen.screen_rows }
-    requires column { column < screen.screen_columns }
+) -> Result<u16, NoMemory>
+    requires on_screen { spec.is_on_screen (item.At row column erase) ≡ true }
     ensures text { OnOk result (into.new.items ≡ into.old.items ++ screen.place_text row column erase) }
+    ensures column { IfOk result (λ after. after ≡ column) }
     ensures err { OnErr result (into.new.items ≡ into.old.items) }
 {
     let place = placing_bytes(row, column);
-    let mut text = Vec::from_slice(alloc, &place)?;
-    if erase != 0 {
-        append_blanks(false, erase as u16, &mut text)?;
-        text.extend_from_slice(&place)?;
+    if erase == 0 {
+        into.extend_from_slice(&place)?;
+        return Ok(u16::from(column));
     }
+    let mut text = Vec::from_slice(alloc, &place)?;
+    append_blanks(false, u16::from(erase), &mut text)?;
+    text.extend_from_slice(&place)?;
     into.extend_from_slice(&text)?;
-    Ok(())
+    Ok(u16::from(column))
+}
+
+/// Appends a box of rows and columns with its first cell at the cursor, which stays, and gives the column after it, which is
+/// the one before. A box has 2 to 24 rows and 2 to 80 columns.
+pub fn lay_outline(rows: u8, columns: u8, column: u16, into: &mut Vec<u8>) -> Result<u16, NoMemory>
+    requires on_screen { spec.is_on_screen (item.Outline rows columns) ≡ true }
+    ensures text { OnOk result (into.new.items ≡ into.old.items ++ screen.outline_bytes rows columns) }
+    ensures column { IfOk result (λ after. after ≡ column) }
+    ensures err { OnErr result (into.new.items ≡ into.old.items) }
+{
+    into.extend_from_slice(&outline_bytes(rows, columns))?;
+    Ok(column)
 }
 
 /// Appends an item, placed at a column, and gives the column after it.
@@ -257,14 +272,8 @@ fn lay_item(
             row,
             column: own,
             erase,
-        } => {
-            lay_place(alloc, *row, *own, *erase, into)?;
-            Ok(*own as u16)
-        }
-        Item::Outline { rows, columns } => {
-            into.extend_from_slice(&outline_bytes(*rows, *columns))?;
-            Ok(column)
-        }
+        } => lay_place(alloc, *row, *own, *erase, into),
+        Item::Outline { rows, columns } => lay_outline(*rows, *columns, column, into),
     }
 }
 

@@ -33,5 +33,7 @@ pub use laws::{
     law_pieces_are_the_image, law_screen_stays_within, law_zones_end,
 };
 pub use layout::{
-    Item, are_on_screen, lay, lay_bytes, lay_hex, lay_line, lay_number, lay_tab, lay_zone,
+    Item, are_on_screen, lay, lay_bytes, lay_hex, lay_line, lay_number, lay_outline, lay_place,
+    lay_tab, lay_zone,
 };
+pub use screen::{SCREEN_COLUMNS, SCREEN_ROWS};

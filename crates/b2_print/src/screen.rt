@@ -5,10 +5,10 @@ ghost use Rattle.b2_print.specs.Screen as spec;
 use b2_base::lexical::ESCAPE;
 
 /// How many rows a screen has.
-pub(crate) const SCREEN_ROWS: u8 = 24;
+pub const SCREEN_ROWS: u8 = 24;
 
 /// How many columns a screen has.
-pub(crate) const SCREEN_COLUMNS: u8 = 80;
+pub const SCREEN_COLUMNS: u8 = 80;
 
 /// The cursor at a row and a column of the screen.
 pub(crate) fn placing_bytes(row: u8, column: u8) -> [u8; 4]

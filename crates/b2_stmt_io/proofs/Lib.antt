@@ -8,6 +8,7 @@ pub mod Entered
 pub mod Parted
 pub mod Valued
 pub mod Printed
+pub mod ScreenRows
 pub mod PrintRows
 pub mod UsingRows
 pub mod Planned

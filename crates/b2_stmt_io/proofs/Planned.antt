@@ -89,7 +89,7 @@ module _ (devices : List Device) (who : ℕ) (F : Planned → Type 0) (e : Conte
       let line = each_line prompted column (prompt_of t) in
       let Holds : Asks → Type 0 = λ asks. F (asks t e o column prompted) in
       each_row Holds asking_rows left_out r (
-        each_at o (asks_to_print t e) is (λ at. each_laid at (prints e (width_of at) (column_of at) t)),
+        each_at o (asks_to_print t e) is (λ at. each_laid at (prints (record { context = e; outlet = at }) (width_of at) (column_of at) t)),
         (
           each_at o (asks_to_print_using t e) is (λ at. each_shown at (prints_using e t)),
           (asks (access.Key e.around.term) refl, (line, (line, tt))),

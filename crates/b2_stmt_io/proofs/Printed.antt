@@ -26,13 +26,12 @@ use Rattle.b2_rows.proofs.Choices.{either_first, either_second}
 use Rattle.b2_rows.proofs.Optional.{begun_part, begun_tree, begun_rest, left_out_tree, left_out_rest, maybe_no_longer}
 use Rattle.b2_rows.proofs.Lists.{goes, ended}
 use Rattle.b2_expr.specs.Answers.{◌>>=◌}
-use Rattle.b2_expr.specs.Scope.{Context}
 use Rattle.b2_rows.proofs.RowsRead.{stands_of}
 use Rattle.b2_print.proofs.ColumnLemmas.{items-go_on}
 use Rattle.b2_print.specs.declared.layout.Item.{Item as Shown}
 use Rattle.b2_stmt_io.proofs.LeftOut.{maybe_then}
 use Rattle.b2_print.specs.Layout.{item_column, item_placed, items_column, layout}
-use Rattle.b2_stmt_io.specs.Printing.{further_in, item_at, item_in, item_of, shown_items, items_of, laid_after, newline_where, separator_in, zone_where}
+use Rattle.b2_stmt_io.specs.Printing.{Page, further_in, item_at, item_in, item_of, shown_items, items_of, laid_after, newline_where, separator_in, zone_where}
 use Rattle.b2_rows.proofs.ListEnds.{also_done}
 
 abbrev print_items : List Item
@@ -53,16 +52,16 @@ abbrev pub further_at : Text → Trees
 further_at t = list_at separators row.FURTHER_ITEM t
 
 -- the item that a text begins with, or none
-abbrev pub item_there : Context → Text → Result (Option Shown) ℕ
+abbrev pub item_there : Page → Text → Result (Option Shown) ℕ
 item_there s t = item_at s (maybe_tree start.PrintItem row.PRINT_ITEM t)
 
 pub one_part : (t : Text) → maybe_part start.PrintItem row.PRINT_ITEM t ≡ true → starts Atoms start.PrintItem t ≡ true → is_part row.PRINT_ITEM t ≡ true
 one_part t ok is = begun_part start.PrintItem row.PRINT_ITEM t ok is
 
-one_there : (s : Context) (t : Text) → starts Atoms start.PrintItem t ≡ true → item_there s t ≡ (item_of s (tree_at row.PRINT_ITEM t) >>= (λ it. Ok (Some it)))
+one_there : (s : Page) (t : Text) → starts Atoms start.PrintItem t ≡ true → item_there s t ≡ (item_of s (tree_at row.PRINT_ITEM t) >>= (λ it. Ok (Some it)))
 one_there s t is = ap (item_at s) (begun_tree start.PrintItem row.PRINT_ITEM t is)
 
-none_there : (s : Context) (t : Text) → starts Atoms start.PrintItem t ≡ false → item_there s t ≡ Ok None
+none_there : (s : Page) (t : Text) → starts Atoms start.PrintItem t ≡ false → item_there s t ≡ Ok None
 none_there s t is = ap (item_at s) (left_out_tree start.PrintItem row.PRINT_ITEM t is)
 
 pub one_rest : (t : Text) → starts Atoms start.PrintItem t ≡ true → after_item t ≡ after_part row.PRINT_ITEM t
@@ -100,36 +99,36 @@ one_code : (code : ℕ) (it : Result Shown ℕ) → it ≡ Err code → (it >>= 
 one_code code (Ok x) is = cc
 one_code code (Err c) is = cc
 
-pub one_shown : (width : ℕ) (s : Context) (t : Text) (old new : List ℕ) (column after : ℕ) → starts Atoms start.PrintItem t ≡ true
+pub one_shown : (width : ℕ) (s : Page) (t : Text) (old new : List ℕ) (column after : ℕ) → starts Atoms start.PrintItem t ≡ true
     → (item_of s (tree_at row.PRINT_ITEM t) >>= (λ x. Ok (old ++ item_placed width column x))) ≡ Ok new
     → (item_there s t >>= (λ o. Ok (old ++ layout width column (items_of o)))) ≡ Ok new
 one_shown width s t old new column after is text = ap (λ (r : Result (Option Shown) ℕ). r >>= (λ o. Ok (old ++ layout width column (items_of o)))) (one_there s t is) ∙ one_text width old new column (item_of s (tree_at row.PRINT_ITEM t)) text
 
-pub one_past : (width : ℕ) (s : Context) (t : Text) (column after : ℕ) → starts Atoms start.PrintItem t ≡ true
+pub one_past : (width : ℕ) (s : Page) (t : Text) (column after : ℕ) → starts Atoms start.PrintItem t ≡ true
     → (item_of s (tree_at row.PRINT_ITEM t) >>= (λ x. Ok (item_column width column x))) ≡ Ok after
     → (item_there s t >>= (λ o. Ok (items_column width column (items_of o)))) ≡ Ok after
 one_past width s t column after is at = ap (λ (r : Result (Option Shown) ℕ). r >>= (λ o. Ok (items_column width column (items_of o)))) (one_there s t is) ∙ one_column width column after (item_of s (tree_at row.PRINT_ITEM t)) at
 
-pub one_some : (width : ℕ) (s : Context) (t : Text) (column after : ℕ) → starts Atoms start.PrintItem t ≡ true
+pub one_some : (width : ℕ) (s : Page) (t : Text) (column after : ℕ) → starts Atoms start.PrintItem t ≡ true
     → (item_of s (tree_at row.PRINT_ITEM t) >>= (λ x. Ok (item_column width column x))) ≡ Ok after
     → (item_there s t >>= (λ o. Ok (is_some o))) ≡ Ok true
 one_some width s t column after is at = ap (λ (r : Result (Option Shown) ℕ). r >>= (λ o. Ok (is_some o))) (one_there s t is) ∙ one_is width column after (item_of s (tree_at row.PRINT_ITEM t)) at
 
-one_refused : (s : Context) (t : Text) (code : ℕ) → starts Atoms start.PrintItem t ≡ true → item_of s (tree_at row.PRINT_ITEM t) ≡ Err code → item_there s t ≡ Err code
+one_refused : (s : Page) (t : Text) (code : ℕ) → starts Atoms start.PrintItem t ≡ true → item_of s (tree_at row.PRINT_ITEM t) ≡ Err code → item_there s t ≡ Err code
 one_refused s t code is unassigned = one_there s t is ∙ one_code code (item_of s (tree_at row.PRINT_ITEM t)) unassigned
 
-pub one_fault : (s : Context) (t : Text) (f : Fault) → starts Atoms start.PrintItem t ≡ true → IsRefused (item_of s (tree_at row.PRINT_ITEM t)) f → IsRefused (item_there s t) f
+pub one_fault : (s : Page) (t : Text) (f : Fault) → starts Atoms start.PrintItem t ≡ true → IsRefused (item_of s (tree_at row.PRINT_ITEM t)) f → IsRefused (item_there s t) f
 one_fault s t (fault.Code code) is refused = one_refused s t code is refused
 one_fault s t fault.NoMemory is refused = tt
 
-pub none_shown : (width : ℕ) (s : Context) (t : Text) (old : List ℕ) (column : ℕ) → starts Atoms start.PrintItem t ≡ false
+pub none_shown : (width : ℕ) (s : Page) (t : Text) (old : List ℕ) (column : ℕ) → starts Atoms start.PrintItem t ≡ false
     → (item_there s t >>= (λ o. Ok (old ++ layout width column (items_of o)))) ≡ Ok old
 none_shown width s t old column is = ap (λ (r : Result (Option Shown) ℕ). r >>= (λ o. Ok (old ++ layout width column (items_of o)))) (none_there s t is) ∙ ap Ok (append_nil old)
 
-pub none_past : (width : ℕ) (s : Context) (t : Text) (column : ℕ) → starts Atoms start.PrintItem t ≡ false → (item_there s t >>= (λ o. Ok (items_column width column (items_of o)))) ≡ Ok column
+pub none_past : (width : ℕ) (s : Page) (t : Text) (column : ℕ) → starts Atoms start.PrintItem t ≡ false → (item_there s t >>= (λ o. Ok (items_column width column (items_of o)))) ≡ Ok column
 none_past width s t column is = ap (λ (r : Result (Option Shown) ℕ). r >>= (λ o. Ok (items_column width column (items_of o)))) (none_there s t is)
 
-pub none_some : (s : Context) (t : Text) → starts Atoms start.PrintItem t ≡ false → (item_there s t >>= (λ o. Ok (is_some o))) ≡ Ok false
+pub none_some : (s : Page) (t : Text) → starts Atoms start.PrintItem t ≡ false → (item_there s t >>= (λ o. Ok (is_some o))) ≡ Ok false
 none_some s t is = ap (λ (r : Result (Option Shown) ℕ). r >>= (λ o. Ok (is_some o))) (none_there s t is)
 
 -- the first item and the further ones, where PRINT is read
@@ -145,15 +144,15 @@ pub print_list : (t : Text) → is_part row.PRINT t ≡ true → is_list separat
 print_list t ok = (print_stands t ok).1.0
 
 -- what is shown before an item, an item or none, and what follows
-abbrev then_further : Context → Bool → List Shown → Option Shown → Trees → Result (List Shown) ℕ
+abbrev then_further : Page → Bool → List Shown → Option Shown → Trees → Result (List Shown) ℕ
 then_further s line before x more = further_in s line more >>= (λ its. Ok (before ++ (items_of x ++ its)))
 
-shows_by : (s : Context) (c : ℕ) (b : Bool) (it : Trees) (f : Text → Trees) (u t : Text)
+shows_by : (s : Page) (c : ℕ) (b : Bool) (it : Trees) (f : Text → Trees) (u t : Text)
     → shown_items s (Put (Coded c) (if b then In 1 it (also (f u) Done) else In 0 Done (also (f t) Done))) ≡ (item_at s (if b then In 1 it Done else In 0 Done Done) >>= (λ x. then_further s true [] x (f (if b then u else t))))
 shows_by s c true it f u t = ap (λ (l : Trees). item_in s 1 it >>= (λ x. then_further s true [] x l)) (also_done (f u))
 shows_by s c false it f u t = ap (λ (l : Trees). then_further s true [] None l) (also_done (f t))
 
-print_is : (s : Context) (t : Text) → is_part row.PRINT t ≡ true
+print_is : (s : Page) (t : Text) → is_part row.PRINT t ≡ true
     → shown_items s (tree_at row.PRINT t) ≡ (item_there s (drop 1 t) >>= (λ x. then_further s true [] x (further_at (after_item (drop 1 t)))))
 unfolding maybe_tree after_maybe
 print_is s t ok =
@@ -193,10 +192,10 @@ further_row = refl
 record Follows (t : Text) : Type 0 where
   pub item : maybe_part start.PrintItem row.PRINT_ITEM (drop 1 t) ≡ true
   pub list : is_list separators row.FURTHER_ITEM (after_item (drop 1 t)) ≡ true
-  pub zone : (s : Context) (line : Bool)
+  pub zone : (s : Page) (line : Bool)
       → further_in s line (further_at t) ≡ (item_there s (drop 1 t) >>= (λ x. then_further s (is_some x) (zone_where (first t == byte.comma)) x (further_at (after_item (drop 1 t)))))
 
-next_by : (s : Context) (line b : Bool) (separator it more : Trees)
+next_by : (s : Page) (line b : Bool) (separator it more : Trees)
     → further_in s line (In 1 (In 2 separator (if b then In 1 it Done else In 0 Done Done)) more) ≡ (item_at s (if b then In 1 it Done else In 0 Done Done) >>= (λ x. then_further s (is_some x) (separator_in separator) x more))
 next_by s line true separator it more = refl
 next_by s line false separator it more = refl
@@ -259,7 +258,7 @@ ok_same : {A : Type 0} (x y : A) → ◌≡◌ {A = Result A ℕ} (Ok x) (Ok y) 
 ok_same x y h = cc
 
 -- an item or none after what was shown, and what follows it
-shown_then : (width : ℕ) (s : Context) (before : List Shown) (more : Trees) (old new : List ℕ) (column after : ℕ) (is : Bool) (r : Result (Option Shown) ℕ)
+shown_then : (width : ℕ) (s : Page) (before : List Shown) (more : Trees) (old new : List ℕ) (column after : ℕ) (is : Bool) (r : Result (Option Shown) ℕ)
     → (r >>= (λ o. Ok ((old ++ layout width column before) ++ layout width (items_column width column before) (items_of o)))) ≡ Ok new
     → (r >>= (λ o. Ok (items_column width (items_column width column before) (items_of o)))) ≡ Ok after
     → (r >>= (λ o. Ok (is_some o))) ≡ Ok is
@@ -274,7 +273,7 @@ shown_then width s before more old new column after is (Ok o) text at some =
     ∙ ap (λ (n : ℕ). laid_after width new n rest) (ok_same _ _ at)
     ∙ ap (λ (b : Bool). laid_after width new after (further_in s b more)) (ok_same _ _ some)
 
-first_then : (width : ℕ) (s : Context) (more : Trees) (old new : List ℕ) (column after : ℕ) (r : Result (Option Shown) ℕ)
+first_then : (width : ℕ) (s : Page) (more : Trees) (old new : List ℕ) (column after : ℕ) (r : Result (Option Shown) ℕ)
     → (r >>= (λ o. Ok (old ++ layout width column (items_of o)))) ≡ Ok new
     → (r >>= (λ o. Ok (items_column width column (items_of o)))) ≡ Ok after
     → laid_after width old column (r >>= (λ o. then_further s true [] o more)) ≡ laid_after width new after (further_in s true more)
@@ -284,7 +283,7 @@ first_then width s more old new column after (Ok o) text at =
     ∙ ap (λ (l : List ℕ). laid_after width l (items_column width column (items_of o)) (further_in s true more)) (ok_same _ _ text)
     ∙ ap (λ (n : ℕ). laid_after width new n (further_in s true more)) (ok_same _ _ at)
 
-pub first_shown : (width : ℕ) (s : Context) (t : Text) (old new : List ℕ) (column after : ℕ) → is_part row.PRINT t ≡ true
+pub first_shown : (width : ℕ) (s : Page) (t : Text) (old new : List ℕ) (column after : ℕ) → is_part row.PRINT t ≡ true
     → (item_there s (drop 1 t) >>= (λ o. Ok (old ++ layout width column (items_of o)))) ≡ Ok new
     → (item_there s (drop 1 t) >>= (λ o. Ok (items_column width column (items_of o)))) ≡ Ok after
     → laid_after width new after (further_in s true (further_at (after_item (drop 1 t)))) ≡ laid_after width old column (shown_items s (tree_at row.PRINT t))
@@ -295,14 +294,14 @@ refused_then : (code : ℕ) (r : Result (Option Shown) ℕ) (f : Option Shown �
 refused_then code (Ok o) f is = cc
 refused_then code (Err c) f is = cc
 
-first_refused : (s : Context) (t : Text) (code : ℕ) → is_part row.PRINT t ≡ true → item_there s (drop 1 t) ≡ Err code → shown_items s (tree_at row.PRINT t) ≡ Err code
+first_refused : (s : Page) (t : Text) (code : ℕ) → is_part row.PRINT t ≡ true → item_there s (drop 1 t) ≡ Err code → shown_items s (tree_at row.PRINT t) ≡ Err code
 first_refused s t code ok is = print_is s t ok ∙ refused_then code (item_there s (drop 1 t)) (λ x. then_further s true [] x (further_at (after_item (drop 1 t)))) is
 
-pub first_fault : (s : Context) (t : Text) (f : Fault) → is_part row.PRINT t ≡ true → IsRefused (item_there s (drop 1 t)) f → IsRefused (shown_items s (tree_at row.PRINT t)) f
+pub first_fault : (s : Page) (t : Text) (f : Fault) → is_part row.PRINT t ≡ true → IsRefused (item_there s (drop 1 t)) f → IsRefused (shown_items s (tree_at row.PRINT t)) f
 first_fault s t (fault.Code code) ok refused = first_refused s t code ok refused
 first_fault s t fault.NoMemory ok refused = tt
 
-next_then : (width : ℕ) (s : Context) (line : Bool) (t : Text) (old new : List ℕ) (column after : ℕ) (is : Bool) → is_list separators row.FURTHER_ITEM t ≡ true → starts Atoms separators t ≡ true
+next_then : (width : ℕ) (s : Page) (line : Bool) (t : Text) (old new : List ℕ) (column after : ℕ) (is : Bool) → is_list separators row.FURTHER_ITEM t ≡ true → starts Atoms separators t ≡ true
     → (item_there s (drop 1 t) >>= (λ o. Ok ((old ++ layout width column (zone_where (first t == byte.comma))) ++ layout width (items_column width column (zone_where (first t == byte.comma))) (items_of o)))) ≡ Ok new
     → (item_there s (drop 1 t) >>= (λ o. Ok (items_column width (items_column width column (zone_where (first t == byte.comma))) (items_of o)))) ≡ Ok after
     → (item_there s (drop 1 t) >>= (λ o. Ok (is_some o))) ≡ Ok is
@@ -311,7 +310,7 @@ next_then width s line t old new column after is ok sep text at some =
     sym (ap (laid_after width old column) (Follows.zone (follows t ok sep) s line)
     ∙ shown_then width s (zone_where (first t == byte.comma)) (further_at (after_item (drop 1 t))) old new column after is (item_there s (drop 1 t)) text at some)
 
-pub next_shown : (width : ℕ) (s : Context) (line : Bool) (t : Text) (old between new : List ℕ) (column middle after : ℕ) (is : Bool) → is_list separators row.FURTHER_ITEM t ≡ true → starts Atoms separators t ≡ true
+pub next_shown : (width : ℕ) (s : Page) (line : Bool) (t : Text) (old between new : List ℕ) (column middle after : ℕ) (is : Bool) → is_list separators row.FURTHER_ITEM t ≡ true → starts Atoms separators t ≡ true
     → between ≡ old ++ layout width column (zone_where (first t == byte.comma)) → middle ≡ items_column width column (zone_where (first t == byte.comma))
     → (item_there s (drop 1 t) >>= (λ o. Ok (between ++ layout width middle (items_of o)))) ≡ Ok new
     → (item_there s (drop 1 t) >>= (λ o. Ok (items_column width middle (items_of o)))) ≡ Ok after
@@ -324,18 +323,18 @@ next_shown width s line t old between new column middle after is ok sep zone_tex
     (subst (λ (n : ℕ). (item_there s (drop 1 t) >>= (λ o. Ok (items_column width n (items_of o)))) ≡ Ok after) zone_at at)
     some
 
-next_refused : (width : ℕ) (s : Context) (line : Bool) (t : Text) (code : ℕ) (old : List ℕ) (column before : ℕ) (whole : Result (List Shown) ℕ) (first_text : List ℕ) → is_list separators row.FURTHER_ITEM t ≡ true → starts Atoms separators t ≡ true
+next_refused : (width : ℕ) (s : Page) (line : Bool) (t : Text) (code : ℕ) (old : List ℕ) (column before : ℕ) (whole : Result (List Shown) ℕ) (first_text : List ℕ) → is_list separators row.FURTHER_ITEM t ≡ true → starts Atoms separators t ≡ true
     → item_there s (drop 1 t) ≡ Err code → laid_after width old column (further_in s line (further_at t)) ≡ laid_after width first_text before whole → whole ≡ Err code
 next_refused width s line t code old column before whole first_text ok sep found same =
     not_laid width first_text before code whole (sym same ∙ ap (laid_after width old column) (Follows.zone (follows t ok sep) s line
     ∙ refused_then code (item_there s (drop 1 t)) (λ x. then_further s (is_some x) (zone_where (first t == byte.comma)) x (further_at (after_item (drop 1 t)))) found))
 
-pub next_fault : (width : ℕ) (s : Context) (line : Bool) (t : Text) (f : Fault) (old : List ℕ) (column before : ℕ) (whole : Result (List Shown) ℕ) (first_text : List ℕ) → is_list separators row.FURTHER_ITEM t ≡ true → starts Atoms separators t ≡ true
+pub next_fault : (width : ℕ) (s : Page) (line : Bool) (t : Text) (f : Fault) (old : List ℕ) (column before : ℕ) (whole : Result (List Shown) ℕ) (first_text : List ℕ) → is_list separators row.FURTHER_ITEM t ≡ true → starts Atoms separators t ≡ true
     → IsRefused (item_there s (drop 1 t)) f → laid_after width old column (further_in s line (further_at t)) ≡ laid_after width first_text before whole → IsRefused whole f
 next_fault width s line t (fault.Code code) old column before whole first_text ok sep refused same = next_refused width s line t code old column before whole first_text ok sep refused same
 next_fault width s line t fault.NoMemory old column before whole first_text ok sep refused same = tt
 
-pub all_shown : (width : ℕ) (s : Context) (line : Bool) (t : Text) (old new : List ℕ) (column after : ℕ) → starts Atoms separators t ≡ false
+pub all_shown : (width : ℕ) (s : Page) (line : Bool) (t : Text) (old new : List ℕ) (column after : ℕ) → starts Atoms separators t ≡ false
     → new ≡ old ++ layout width column (newline_where line) → after ≡ items_column width column (newline_where line)
     → laid_after width old column (further_in s line (further_at t)) ≡ Ok (new, after)
 all_shown width s line t old new column after is text at =

@@ -1,5 +1,5 @@
 -- Where PRINT and PRINTUSING show: at the terminal of the partition, or at the printer that it has selected.
-use Rattle.std.specs.Prelude.{ℕ, List, Result, Ok, Err, if◌then◌else◌}
+use Rattle.std.specs.Prelude.{ℕ, Bool, true, false, List, Result, Ok, Err, if◌then◌else◌}
 use Rattle.std.specs.Str.{bytes_eq}
 use Rattle.b2_base.specs.declared.codes.TheConstants.{P48_DEVICE}
 use Rattle.b2_print.specs.Columns.{column_after}
@@ -18,6 +18,10 @@ terminal_width = 80
 
 abbrev pub printer_width : ℕ
 printer_width = 132
+
+abbrev pub is_terminal : Outlet → Bool
+is_terminal (outlet.Terminal term column) = true
+is_terminal (outlet.Printer addr column) = false
 
 abbrev pub width_of : Outlet → ℕ
 width_of (outlet.Terminal term column) = terminal_width

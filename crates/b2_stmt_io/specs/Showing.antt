@@ -22,7 +22,7 @@ shows_laid o (Err code) = planned.Done (outcome.Failed code)
 
 -- the items are evaluated, and laid out on the lines of where they are shown
 abbrev pub asks_to_print : Trees → Context → Outlet → Planned
-asks_to_print t e o = shows_laid o (prints e (width_of o) (column_of o) t)
+asks_to_print t e o = shows_laid o (prints (record { context = e; outlet = o }) (width_of o) (column_of o) t)
 
 -- an image is filled as it stands, whatever the width
 abbrev pub asks_to_print_using : Trees → Context → Outlet → Planned

@@ -20,6 +20,7 @@ mod line_reading;
 mod outlets;
 mod planning;
 mod printing;
+mod screen_items;
 mod showing;
 mod typed_text;
 

@@ -23,6 +23,17 @@ pub enum Outlet {
 }
 
 impl Outlet {
+    /// Whether it is a terminal, which has a screen.
+    #[inline(always)]
+    pub fn is_terminal(&self) -> bool
+        ensures { result ≡ spec.is_terminal self.now }
+    {
+        match self {
+            Outlet::Terminal { .. } => true,
+            Outlet::Printer { .. } => false,
+        }
+    }
+
     /// How wide its lines are.
     #[inline(always)]
     pub fn width(&self) -> u16

@@ -11,13 +11,16 @@ ghost use Rattle.b2_rows.specs.Optional.{maybe_part, maybe_tree, after_maybe};
 ghost use Rattle.b2_expr.specs.Functions.{whole_between};
 ghost use Rattle.b2_expr.specs.Scope.{surroundings};
 ghost use Rattle.b2_expr.specs.Value.{in_statement};
+ghost use Rattle.b2_stmt_io.specs.Outlets.{column_of, width_of};
 ghost use Rattle.b2_stmt_io.specs.Printing as spec;
 ghost use Rattle.b2_print.specs.Layout.{item_column, item_placed, items_column, layout};
 ghost use Rattle.b2_print.specs.declared.layout.Item.TheVariants as item;
 ghost use Rattle.b2_stmt_io.specs.Printing.{ShowsItem, ShowsMaybe, alpha_item, hex_item, laid_after, newline_where, zone_where};
 
+use crate::outlets::Outlet;
+use crate::screen_items::{at_shown, box_shown};
 use b2_atom::Cursor;
-use b2_atom::words::{HEXOF_OPEN, TAB_OPEN};
+use b2_atom::words::{AT_OPEN, BOX_OPEN, HEXOF_OPEN, TAB_OPEN};
 use b2_base::lexical::{first, rest_after};
 use b2_base::{Fault, NoMemory};
 use b2_dec::Bytes;
@@ -36,7 +39,7 @@ pub struct Shown {
 
 /// An item, by the column after it.
 #[inline(always)]
-fn item_to(column: u16) -> Shown
+pub fn item_to(column: u16) -> Shown
     ensures { result ≡ record { column = column; is_item = true; refused = false } }
 {
     Shown {
@@ -59,7 +62,7 @@ fn no_item(column: u16) -> Shown
 }
 
 /// An item that is refused: the fault is told apart.
-fn refusal(why: Fault, fault: &mut Fault) -> Shown
+pub fn refusal(why: Fault, fault: &mut Fault) -> Shown
     ensures refused { result.refused ≡ true }
     ensures fault { fault.new ≡ why }
 {
@@ -198,31 +201,55 @@ fn number_shown(
     }
 }
 
+/// Shows an item of PRINT that is neither TAB nor HEXOF.
+#[tactic(auto, using(crate::proofs::PrintRows::other_at, crate::proofs::PrintRows::other_at_is, crate::proofs::PrintRows::other_at_rest, crate::proofs::PrintRows::other_box, crate::proofs::PrintRows::other_box_is, crate::proofs::PrintRows::other_box_rest, crate::proofs::PrintRows::other_alpha, crate::proofs::PrintRows::other_alpha_is, crate::proofs::PrintRows::other_alpha_rest, crate::proofs::PrintRows::other_number, crate::proofs::PrintRows::other_number_is, crate::proofs::PrintRows::other_number_rest))]
+#[inline(always)]
+fn other_shown(
+    alloc: Global,
+    e: &Env<'_>,
+    outlet: &Outlet,
+    column: u16,
+    c: &mut Cursor<'_>,
+    out: &mut Vec<u8>,
+    fault: &mut Fault,
+) -> Shown
+    requires part { is_part row.PRINT_BUT_HEXOF c.old ≡ true }
+    ensures { ShowsItem (spec.but_hexof_in (record { context = in_statement (surroundings e.now); outlet = outlet.now }) (tree_at row.PRINT_BUT_HEXOF c.old)) (after_part row.PRINT_BUT_HEXOF c.old) (width_of outlet.now) column out.old.items out.new.items c.new fault.new result }
+{
+    if is_at(AT_OPEN, c.rest()) {
+        return at_shown(alloc, e, outlet, c, out, fault);
+    }
+    if is_at(BOX_OPEN, c.rest()) {
+        return box_shown(e, outlet, column, c, out, fault);
+    }
+    if is_alpha_at(c.rest()) {
+        alpha_shown(e, outlet.width(), column, c, out, fault)
+    } else {
+        number_shown(e, outlet.width(), column, c, out, fault)
+    }
+}
+
 /// Shows an item of PRINT.
-#[tactic(auto, using(crate::proofs::PrintRows::item_tab, crate::proofs::PrintRows::item_tab_is, crate::proofs::PrintRows::item_tab_rest, crate::proofs::PrintRows::item_hex, crate::proofs::PrintRows::item_hex_is, crate::proofs::PrintRows::item_hex_rest, crate::proofs::PrintRows::item_alpha, crate::proofs::PrintRows::item_alpha_is, crate::proofs::PrintRows::item_alpha_rest, crate::proofs::PrintRows::item_number, crate::proofs::PrintRows::item_number_is, crate::proofs::PrintRows::item_number_rest))]
+#[tactic(auto, using(crate::proofs::PrintRows::item_tab, crate::proofs::PrintRows::item_tab_is, crate::proofs::PrintRows::item_tab_rest, crate::proofs::PrintRows::item_hex, crate::proofs::PrintRows::item_hex_is, crate::proofs::PrintRows::item_hex_rest, crate::proofs::PrintRows::item_other, crate::proofs::PrintRows::item_other_is, crate::proofs::PrintRows::item_other_rest))]
 fn item_shown(
     alloc: Global,
     e: &Env<'_>,
-    width: u16,
+    outlet: &Outlet,
     column: u16,
     c: &mut Cursor<'_>,
     out: &mut Vec<u8>,
     fault: &mut Fault,
 ) -> Shown
     requires part { is_part row.PRINT_ITEM c.old ≡ true }
-    ensures { ShowsItem (spec.item_of (in_statement (surroundings e.now)) (tree_at row.PRINT_ITEM c.old)) (after_part row.PRINT_ITEM c.old) width column out.old.items out.new.items c.new fault.new result }
+    ensures { ShowsItem (spec.item_of (record { context = in_statement (surroundings e.now); outlet = outlet.now }) (tree_at row.PRINT_ITEM c.old)) (after_part row.PRINT_ITEM c.old) (width_of outlet.now) column out.old.items out.new.items c.new fault.new result }
 {
     if is_at(TAB_OPEN, c.rest()) {
-        return tab_shown(e, width, column, c, out, fault);
+        return tab_shown(e, outlet.width(), column, c, out, fault);
     }
     if is_at(HEXOF_OPEN, c.rest()) {
-        return hex_shown(alloc, e, width, column, c, out, fault);
+        return hex_shown(alloc, e, outlet.width(), column, c, out, fault);
     }
-    if is_alpha_at(c.rest()) {
-        alpha_shown(e, width, column, c, out, fault)
-    } else {
-        number_shown(e, width, column, c, out, fault)
-    }
+    other_shown(alloc, e, outlet, column, c, out, fault)
 }
 
 /// Whether an item of PRINT begins at a text.
@@ -231,7 +258,10 @@ fn is_item_at(text: &[u8]) -> bool
     ensures { result ≡ starts Atoms start.PrintItem text.now }
 {
     let byte = first(text);
-    byte >= TAB_OPEN && byte <= HEXOF_OPEN || is_numeric_at(text) || is_alpha_at(text)
+    byte >= TAB_OPEN && byte <= HEXOF_OPEN
+        || byte >= AT_OPEN && byte <= BOX_OPEN
+        || is_numeric_at(text)
+        || is_alpha_at(text)
 }
 
 /// Whether a separator stands at a text.
@@ -247,53 +277,52 @@ fn is_separator_at(text: &[u8]) -> bool
 fn item_or_none(
     alloc: Global,
     e: &Env<'_>,
-    width: u16,
+    outlet: &Outlet,
     column: u16,
     c: &mut Cursor<'_>,
     out: &mut Vec<u8>,
     fault: &mut Fault,
 ) -> Shown
     requires part { maybe_part start.PrintItem row.PRINT_ITEM c.old ≡ true }
-    ensures { ShowsMaybe (spec.item_at (in_statement (surroundings e.now)) (maybe_tree start.PrintItem row.PRINT_ITEM c.old)) (after_maybe start.PrintItem row.PRINT_ITEM c.old) width column out.old.items out.new.items c.new fault.new result }
+    ensures { ShowsMaybe (spec.item_at (record { context = in_statement (surroundings e.now); outlet = outlet.now }) (maybe_tree start.PrintItem row.PRINT_ITEM c.old)) (after_maybe start.PrintItem row.PRINT_ITEM c.old) (width_of outlet.now) column out.old.items out.new.items c.new fault.new result }
 {
     if !is_item_at(c.rest()) {
         return no_item(column);
     }
-    item_shown(alloc, e, width, column, c, out, fault)
+    item_shown(alloc, e, outlet, column, c, out, fault)
 }
 
-/// Shows the items of PRINT from a column on after a text, and a newline where no separator stands last; gives the column after
-/// them.
+/// Shows the items of PRINT after a text from the column on at which its outlet is, and a newline where no separator stands last;
+/// gives the column after them.
 #[tactic(auto, using(crate::proofs::Printed::print_item, crate::proofs::Printed::print_list, crate::proofs::Printed::first_shown, crate::proofs::Printed::first_fault, crate::proofs::Printed::next_item, crate::proofs::Printed::next_list, crate::proofs::Printed::next_shorter, crate::proofs::Printed::next_shown, crate::proofs::Printed::next_fault, crate::proofs::Printed::all_shown))]
 pub fn show_items(
     alloc: Global,
     e: &Env<'_>,
-    width: u16,
-    column: u16,
+    outlet: &Outlet,
     unit: &[u8],
     out: &mut Vec<u8>,
 ) -> Result<u16, Fault>
     requires part { is_part row.PRINT unit.now ≡ true }
-    ensures { MatchResult result (λ after. laid_after width out.old.items column (spec.shown_items (in_statement (surroundings e.now)) (tree_at row.PRINT unit.now)) ≡ Ok (out.new.items, after)) (λ f. IsRefused (spec.shown_items (in_statement (surroundings e.now)) (tree_at row.PRINT unit.now)) f) }
+    ensures { MatchResult result (λ after. laid_after (width_of outlet.now) out.old.items (column_of outlet.now) (spec.shown_items (record { context = in_statement (surroundings e.now); outlet = outlet.now }) (tree_at row.PRINT unit.now)) ≡ Ok (out.new.items, after)) (λ f. IsRefused (spec.shown_items (record { context = in_statement (surroundings e.now); outlet = outlet.now }) (tree_at row.PRINT unit.now)) f) }
 {
     let mut fault = Fault::NoMemory;
     let mut c = Cursor::over(rest_after(unit, 1));
-    let start = item_or_none(alloc, e, width, column, &mut c, out, &mut fault);
+    let start = item_or_none(alloc, e, outlet, outlet.column(), &mut c, out, &mut fault);
     if start.refused {
         return Err(fault);
     }
     let mut at = start.column;
     let mut line = true;
     while is_separator_at(c.rest()) {
-        let zone = show_separator(first(c.rest()), width, at, out)?;
+        let zone = show_separator(first(c.rest()), outlet.width(), at, out)?;
         c = Cursor::over(rest_after(c.rest(), 1));
-        let next = item_or_none(alloc, e, width, zone, &mut c, out, &mut fault);
+        let next = item_or_none(alloc, e, outlet, zone, &mut c, out, &mut fault);
         if next.refused {
             return Err(fault);
         }
         at = next.column;
         line = next.is_item;
     }
-    let after = show_end(line, width, at, out)?;
+    let after = show_end(line, outlet.width(), at, out)?;
     Ok(after)
 }

@@ -29,7 +29,7 @@ pub fn ask_print(
     ensures { IfOk result (λ p. p ≡ spec.asks_to_print (tree_at row.PRINT unit.now) (in_statement (surroundings e.now)) outlet.now) }
 {
     let mut out = Vec::with_capacity(alloc, LINE)?;
-    match show_items(alloc, e, outlet.width(), outlet.column(), unit, &mut out) {
+    match show_items(alloc, e, outlet, unit, &mut out) {
         Ok(after) => Ok(Planned::Ask(outlet.show_to(ByteList::new(out), after))),
         Err(fault) => Ok(Planned::Done(failing(fault)?)),
     }

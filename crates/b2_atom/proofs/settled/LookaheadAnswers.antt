@@ -499,17 +499,23 @@ says o start.CommaOrAlpha f true ts s h k spelled = elim (or_cases (alpha f true
 ]
 says o start.CommaOrAlpha f false ts s h k spelled =
     or_none _ _ (one_code 44 (class_at o s) false (class_says ((44, 44) ∷ []) o f false ts s (and_right (alpha f false) _ h) k spelled)) (says_alpha o f false ts s (and_left _ _ h) k spelled)
-says o start.PrintItem f true ts s h k spelled = elim (or_cases (numeric f true) (alpha f true || sure ((word.TAB_OPEN, word.HEXOF_OPEN) ∷ []) f true) h) [
-  | inl g ↦ or_other _ _ (or_one _ _ (says_numeric o f true ts s g k spelled))
-  | inr g ↦ elim (or_cases (alpha f true) (sure ((word.TAB_OPEN, word.HEXOF_OPEN) ∷ []) f true) g) [
-    | inl e ↦ or_other _ _ (or_other _ _ (says_alpha o f true ts s e k spelled))
-    | inr e ↦ or_one _ _ (one_span word.TAB_OPEN word.HEXOF_OPEN (class_at o s) true (class_says ((word.TAB_OPEN, word.HEXOF_OPEN) ∷ []) o f true ts s e k spelled))
-  ]
-]
+says o start.PrintItem f true ts s h k spelled =
+    elim (or_cases (numeric f true) _ h) [
+      | inl g ↦ or_other _ _ (or_other _ _ (or_one _ _ (says_numeric o f true ts s g k spelled)))
+      | inr g ↦ elim (or_cases (alpha f true) (sure ((word.TAB_OPEN, word.HEXOF_OPEN) ∷ []) f true || sure ((word.AT_OPEN, word.BOX_OPEN) ∷ []) f true) g) [
+        | inl e ↦ or_other (is_among word.TAB_OPEN word.HEXOF_OPEN (ahead o (skipped o s)).0) _ (or_other (is_among word.AT_OPEN word.BOX_OPEN (ahead o (skipped o s)).0) _ (or_other (numeric_begins o (skipped o s)) _ (says_alpha o f true ts s e k spelled)))
+        | inr e ↦ elim (or_cases (sure ((word.TAB_OPEN, word.HEXOF_OPEN) ∷ []) f true) (sure ((word.AT_OPEN, word.BOX_OPEN) ∷ []) f true) e) [
+          | inl t ↦ or_one _ _ (one_span word.TAB_OPEN word.HEXOF_OPEN (class_at o s) true (class_says ((word.TAB_OPEN, word.HEXOF_OPEN) ∷ []) o f true ts s t k spelled))
+          | inr t ↦ or_other _ _ (or_one _ _ (one_span word.AT_OPEN word.BOX_OPEN (class_at o s) true (class_says ((word.AT_OPEN, word.BOX_OPEN) ∷ []) o f true ts s t k spelled)))
+        ]
+      ]
+    ]
 says o start.PrintItem f false ts s h k spelled =
     let rest = and_right (numeric f false) _ h in
-    or_none _ _ (one_span word.TAB_OPEN word.HEXOF_OPEN (class_at o s) false (class_says ((word.TAB_OPEN, word.HEXOF_OPEN) ∷ []) o f false ts s (and_right (alpha f false) _ rest) k spelled))
-    (or_none _ _ (says_numeric o f false ts s (and_left _ _ h) k spelled) (says_alpha o f false ts s (and_left _ _ rest) k spelled))
+    let both = and_right (alpha f false) _ rest in
+    or_none _ _ (one_span word.TAB_OPEN word.HEXOF_OPEN (class_at o s) false (class_says ((word.TAB_OPEN, word.HEXOF_OPEN) ∷ []) o f false ts s (and_left _ _ both) k spelled))
+    (or_none _ _ (one_span word.AT_OPEN word.BOX_OPEN (class_at o s) false (class_says ((word.AT_OPEN, word.BOX_OPEN) ∷ []) o f false ts s (and_right (sure ((word.TAB_OPEN, word.HEXOF_OPEN) ∷ []) f false) _ both) k spelled))
+    (or_none _ _ (says_numeric o f false ts s (and_left _ _ h) k spelled) (says_alpha o f false ts s (and_left _ _ rest) k spelled)))
 
 -- one of some lookaheads stands there, so what all of them settle is answered
 pub some_lookahead : (q : Lookahead → Bool) (fs : List Lookahead) (ts : List Token) → every q fs ≡ true → some (λ (f : Lookahead). is_ahead f ts) fs ≡ true → (f : Lookahead) × ((q f ≡ true) × (is_ahead f ts ≡ true))

@@ -148,8 +148,8 @@ surely start.Array f b = false
 surely start.AlphaInside f b = false
 surely start.CommaOrAlpha f true = alpha f true || sure ((44, 44) ∷ []) f true
 surely start.CommaOrAlpha f false = alpha f false && sure ((44, 44) ∷ []) f false
-surely start.PrintItem f true = numeric f true || (alpha f true || sure ((word.TAB_OPEN, word.HEXOF_OPEN) ∷ []) f true)
-surely start.PrintItem f false = numeric f false && (alpha f false && sure ((word.TAB_OPEN, word.HEXOF_OPEN) ∷ []) f false)
+surely start.PrintItem f true = numeric f true || (alpha f true || (sure ((word.TAB_OPEN, word.HEXOF_OPEN) ∷ []) f true || sure ((word.AT_OPEN, word.BOX_OPEN) ∷ []) f true))
+surely start.PrintItem f false = numeric f false && (alpha f false && (sure ((word.TAB_OPEN, word.HEXOF_OPEN) ∷ []) f false && sure ((word.AT_OPEN, word.BOX_OPEN) ∷ []) f false))
 
 -- what must not be asked of what follows some items: a question of them; a statement ends only at `:` and the end;
 -- or nothing may stand after them
