@@ -66,7 +66,7 @@ drills_are_of_their_boot n few =
 
 -- platters of so many sectors, where that is a number of sectors
 platters_fit : (sectors : ℕ) → is_between 16 32512 sectors ≡ true
-    → list_all is_platter (map (λ i. record { address = disk_of i; image = None; blank = Some sectors; only = Some i }) clerks) ≡ true
+    → list_all is_platter (map (λ i. record { address = disk_of i; image = None; blank = Some sectors; only = Some i; version = None }) clerks) ≡ true
 platters_fit sectors fit = rw fit refl
 
 sectors_within : (n : ℕ) → n ≤ 5000 → is_between 16 32512 (max 16 (n + 10)) ≡ true

@@ -44,7 +44,7 @@ document_quota ms =
     ]
 
 -- rows that pass
-by_check : (rows : RowsState) (b : BootState) (check : Option ℕ) → check_of_rows rows ≡ check → HasQuota rows → list_all (λ p. is_either p.image p.blank) rows.platters ≡ true
+by_check : (rows : RowsState) (b : BootState) (check : Option ℕ) → check_of_rows rows ≡ check → HasQuota rows → list_all (λ p. is_either p.image p.blank p.version) rows.platters ≡ true
     → unless_failed check (boot_from rows) ≡ Ok b → IsGood b
 by_check rows b None is quota sources h =
     let all = passed rows (terminals_by_number rows.terminals) (partitions_by_number rows.partitions) (sym is) in
@@ -52,7 +52,7 @@ by_check rows b None is quota sources h =
     subst IsGood same (good_boot rows quota sources all.0.counted all.1)
 by_check rows b (Some check) is quota sources h = cc
 
-by_rows : (found : Option RowsState) (b : BootState) → IfSome found HasQuota → IfSome found (λ rows. list_all (λ p. is_either p.image p.blank) rows.platters ≡ true) → boot_by_rows found ≡ Ok b → IsGood b
+by_rows : (found : Option RowsState) (b : BootState) → IfSome found HasQuota → IfSome found (λ rows. list_all (λ p. is_either p.image p.blank p.version) rows.platters ≡ true) → boot_by_rows found ≡ Ok b → IsGood b
 by_rows None b quota sources h = cc
 by_rows (Some rows) b quota sources h = by_check rows b (check_of_rows rows) refl quota sources h
 

@@ -1,5 +1,5 @@
 -- Each platter that a document says has an image or blank sectors in range, and not both.
-use Rattle.std.proofs.Common.{◌≡◌, ℕ, true, List, Option, Some, None, IfSome, option_map, option_and_then, codes, refl, inl, inr}
+use Rattle.std.proofs.Common.{◌≡◌, ℕ, ℤ, pos, negsuc, true, List, Option, Some, None, IfSome, option_map, option_and_then, codes, refl, inl, inr}
 use Rattle.std.specs.List.{list_all}
 use Rattle.std.proofs.lemmas.Bool.{cases_Bool}
 use Rattle.toml.specs.Data.{Data, Items, no_items, item, Members, get_member, as_str, as_integer, as_table}
@@ -9,39 +9,61 @@ use Rattle.b2_boot.specs.declared.rows.PrinterRow.{PrinterRow}
 use Rattle.b2_boot.specs.declared.rows.TerminalRow.{TerminalRow}
 use Rattle.b2_boot.specs.declared.rows.PartitionRow.{PartitionRow}
 use Rattle.b2_boot.specs.Rows.{small, is_between, all_known, sectors_of, text_of_key, only_of_key, platter_from, platter_row, terminal_said, partition_row, printer_row, rows_in, rows_at, before_rows, items_of_key, quota_of, number_of_key, rows_from, document_rows}
+use Rattle.b2_boot.specs.Rows.{is_between, is_version, most_blank, ranged, version_of_key, all_known, sectors_of, text_of_key, only_of_key, platter_from, platter_row, terminal_said, partition_row, printer_row, rows_in, rows_at, before_rows, items_of_key, quota_of, number_of_key, rows_from, document_rows}
 use Rattle.b2_boot.specs.Boots.{is_either}
 
 -- a platter of a row has one source
 abbrev HasSource : PlatterRow → Type 0
-HasSource p = is_either p.image p.blank ≡ true
+HasSource p = is_either p.image p.blank p.version ≡ true
 
 abbrev HaveSources : List PlatterRow → Type 0
-HaveSources ps = list_all (λ p. is_either p.image p.blank) ps ≡ true
+HaveSources ps = list_all (λ p. is_either p.image p.blank p.version) ps ≡ true
 
-image_source : (address : List ℕ) (only : Option ℕ) (name : Option (List ℕ)) → IfSome (option_map (λ n. record { address = address; image = Some n; blank = None; only = only }) name) HasSource
+image_source : (address : List ℕ) (only : Option ℕ) (name : Option (List ℕ)) → IfSome (option_map (λ n. record { address = address; image = Some n; blank = None; only = only; version = None }) name) HasSource
 image_source address only None = tt
 image_source address only (Some name) = refl
 
-sectors_source : (address : List ℕ) (only sectors : Option ℕ) → IfSome (option_map (λ n. record { address = address; image = None; blank = Some n; only = only }) (sectors_of sectors)) HasSource
-sectors_source address only None = tt
-sectors_source address only (Some n) =
-    elim (cases_Bool (is_between 16 32512 n)) [
+sectors_source : (address : List ℕ) (only version : Option ℕ) (sectors : Option ℤ) → is_version version ≡ true
+    → IfSome (option_map (λ n. record { address = address; image = None; blank = Some n; only = only; version = version }) (sectors_of version sectors)) HasSource
+sectors_source address only version None known = tt
+sectors_source address only version (Some (negsuc n)) known = tt
+sectors_source address only version (Some (pos n)) known =
+    elim (cases_Bool (is_between 16 (most_blank version) n)) [
+      | inl within ↦ rw within (rw (known, within) refl)
+      | inr outside ↦ rw outside tt
+    ]
+
+-- a version that is said is one
+number_version : (n : Option ℤ) → IfSome (option_map (λ v. Some v) (option_and_then (ranged 1 2) n)) (λ v. is_version v ≡ true)
+number_version None = tt
+number_version (Some (negsuc n)) = tt
+number_version (Some (pos n)) =
+    elim (cases_Bool (is_between 1 2 n)) [
       | inl within ↦ rw within within
       | inr outside ↦ rw outside tt
     ]
 
-from_source : (address : Option (List ℕ)) (only : Option (Option ℕ)) (image blank : Option Data) → IfSome (platter_from address only image blank) HasSource
-from_source (Some address) (Some only) (Some d) None = image_source address only (as_str d)
-from_source (Some address) (Some only) None (Some d) = sectors_source address only (option_map small (as_integer d))
-from_source (Some address) (Some only) (Some d) (Some e) = tt
-from_source (Some address) (Some only) None None = tt
-from_source (Some address) None image blank = tt
-from_source None only image blank = tt
+said_version : (d : Option Data) → IfSome (version_of_key d) (λ v. is_version v ≡ true)
+said_version None = refl
+said_version (Some d) = number_version (as_integer d)
+
+from_source : (address : Option (List ℕ)) (only version : Option (Option ℕ)) (image blank : Option Data) → IfSome version (λ v. is_version v ≡ true) → IfSome (platter_from address only version image blank) HasSource
+from_source (Some address) (Some only) (Some None) (Some d) None known = image_source address only (as_str d)
+from_source (Some address) (Some only) (Some (Some v)) (Some d) None known = tt
+from_source (Some address) (Some only) (Some None) None (Some d) known = sectors_source address only None (as_integer d) known
+from_source (Some address) (Some only) (Some (Some v)) None (Some d) known = sectors_source address only (Some v) (as_integer d) known
+from_source (Some address) (Some only) (Some None) (Some d) (Some e) known = tt
+from_source (Some address) (Some only) (Some (Some v)) (Some d) (Some e) known = tt
+from_source (Some address) (Some only) (Some None) None None known = tt
+from_source (Some address) (Some only) (Some (Some v)) None None known = tt
+from_source (Some address) (Some only) None image blank known = tt
+from_source (Some address) None version image blank known = tt
+from_source None only version image blank known = tt
 
 row_source : (ms : Members) → IfSome (platter_row ms) HasSource
 row_source ms =
     elim (cases_Bool (all_known section.Platter ms)) [
-      | inl known ↦ rw known (from_source (text_of_key (codes "address") ms) (only_of_key (get_member (codes "for") ms)) (get_member (codes "image") ms) (get_member (codes "blank") ms))
+      | inl known ↦ rw known (from_source (text_of_key (codes "address") ms) (only_of_key (get_member (codes "for") ms)) (version_of_key (get_member (codes "version") ms)) (get_member (codes "image") ms) (get_member (codes "blank") ms) (said_version (get_member (codes "version") ms)))
       | inr other ↦ rw other tt
     ]
 

@@ -16,7 +16,7 @@ use Rattle.b2_boot.specs.declared.boot.BootPrinter.{BootPrinter}
 use Rattle.b2_boot.specs.declared.boot_file.BootErr.{BootErr}
 use Rattle.b2_boot.specs.declared.boot_file.BootErr.TheVariants as refused
 use Rattle.toml.specs.Data.{Members}
-use Rattle.b2_boot.specs.Rows.{RowsState, document_of, document_rows, is_between, spells}
+use Rattle.b2_boot.specs.Rows.{RowsState, document_of, document_rows, is_between, is_blank, spells}
 
 -- a boot: the quota of a turn, its terminals and partitions by number, and its platters and its printers by address
 pub record BootState : Type 0 where
@@ -222,7 +222,7 @@ abbrev pub partition_of : PartitionRow → BootPartition
 partition_of r = record { number = r.number; terminal = r.terminal; text = r.text; vars = r.vars; globals = r.globals; disk = r.disk; program = program_of r.program }
 
 abbrev pub boot_platter : PlatterRow → BootPlatter
-boot_platter r = record { address = r.address; image = r.image; blank = r.blank; only = r.only }
+boot_platter r = record { address = r.address; image = r.image; blank = r.blank; only = r.only; version = r.version }
 
 abbrev pub boot_printer : PrinterRow → BootPrinter
 boot_printer r = record { address = r.address; only = r.only }
@@ -303,14 +303,14 @@ abbrev pub Ascends : ℕ → List ℕ → Type 0
 Ascends above [] = Unit {0}
 Ascends above (n ∷ ns) = (above < n) × Ascends n ns
 
--- an image or from 16 to 32,512 blank sectors, and not both
-abbrev pub is_either : Option (List ℕ) → Option ℕ → Bool
-is_either (Some name) None = true
-is_either None (Some sectors) = is_between 16 32512 sectors
-is_either image blank = false
+-- An image, or blank sectors as many as a platter of the version may have, and not both. An image says its version itself.
+abbrev pub is_either : Option (List ℕ) → Option ℕ → Option ℕ → Bool
+is_either (Some name) None None = true
+is_either None (Some sectors) version = is_blank version sectors
+is_either image blank version = false
 
 abbrev pub is_platter : BootPlatter → Bool
-is_platter p = is_platter_address p.address && (is_either p.image p.blank && may_be_named p.image)
+is_platter p = is_platter_address p.address && (is_either p.image p.blank p.version && may_be_named p.image)
 
 abbrev pub is_printer : BootPrinter → Bool
 is_printer p = is_printer_address p.address

@@ -32,7 +32,7 @@ partition_of i = record { number = i; terminal = i; text = 4; vars = 4; globals 
 
 -- it is blank, the clerk's alone, and has ten sectors more than the number, at least 16
 abbrev pub platter_of : ℕ → ℕ → BootPlatter
-platter_of n i = record { address = disk_of i; image = None; blank = Some (max 16 (n + 10)); only = Some i }
+platter_of n i = record { address = disk_of i; image = None; blank = Some (max 16 (n + 10)); only = Some i; version = None }
 
 unfoldable pub drill_boot : ℕ → BootState
 drill_boot n = record { quota = 20; terminals = map terminal_of clerks; partitions = map partition_of clerks; platters = map (platter_of n) clerks; printers = [] }

@@ -1,5 +1,5 @@
 -- What a boot file says before its checks: the rows of its tables, in the file's order.
-use Rattle.std.specs.Prelude.{ℕ, ℤ, pos, negsuc, List, [], ◌∷◌, codes, Bool, true, ◌&&◌, ◌||◌, min, nat_le, Option, Some, None, option_and_then, option_map, if◌then◌else◌}
+use Rattle.std.specs.Prelude.{ℕ, ℤ, pos, negsuc, List, [], ◌∷◌, codes, Bool, true, ◌&&◌, ◌||◌, ◌==◌, min, nat_le, Option, Some, None, option_and_then, option_map, if◌then◌else◌}
 use Rattle.std.specs.Str.{is_utf8}
 use Rattle.toml.specs.Data.{Data, Items, no_items, item, Members, no_members, member, get_member, as_str, as_integer, as_array, as_table}
 use Rattle.toml.specs.Parse.{parse_document}
@@ -46,7 +46,8 @@ is_known section.Partition key =
     spells (codes "number") key || (spells (codes "terminal") key
     || (spells (codes "text") key || (spells (codes "data") key
     || (spells (codes "globals") key || (spells (codes "disk") key || spells (codes "program") key)))))
-is_known section.Platter key = spells (codes "address") key || (spells (codes "image") key || (spells (codes "blank") key || spells (codes "for") key))
+is_known section.Platter key =
+    spells (codes "address") key || (spells (codes "image") key || (spells (codes "blank") key || (spells (codes "for") key || spells (codes "version") key)))
 is_known section.Printer key = spells (codes "address") key || spells (codes "for") key
 
 abbrev pub all_known : Section → Members → Bool
@@ -109,31 +110,58 @@ abbrev pub only_of_key : Option Data → Option (Option ℕ)
 only_of_key None = Some None
 only_of_key (Some d) = option_map (λ n. Some (small n)) (as_integer d)
 
+-- a whole number in a range, as it is written
+abbrev pub ranged : ℕ → ℕ → ℤ → Option ℕ
+ranged least most (pos n) = if is_between least most n then Some n else None
+ranged least most (negsuc n) = None
+
+-- the version of a blank platter, 1 or 2, which may be left out
+abbrev pub version_of_key : Option Data → Option (Option ℕ)
+version_of_key None = Some None
+version_of_key (Some d) = option_map (λ v. Some v) (option_and_then (ranged 1 2) (as_integer d))
+
+abbrev pub is_version : Option ℕ → Bool
+is_version None = true
+is_version (Some v) = is_between 1 2 v
+
+-- the most sectors of a blank platter of a version, which is 1 where it is left out
+abbrev pub most_blank : Option ℕ → ℕ
+most_blank None = 32512
+most_blank (Some v) = if v == 2 then 262144 else 32512
+
+-- whether there is such a version, and a blank platter of it may have so many sectors: 16 up to the most
+abbrev pub is_blank : Option ℕ → ℕ → Bool
+is_blank version sectors = is_version version && is_between 16 (most_blank version) sectors
+
+abbrev pub blank_version : Option ℕ → ℕ
+blank_version None = 1
+blank_version (Some v) = v
+
 -- a platter with an image
 abbrev pub of_image : List ℕ → Option ℕ → Data → Option PlatterRow
-of_image address only d = option_map (λ name. record { address = address; image = Some name; blank = None; only = only }) (as_str d)
+of_image address only d = option_map (λ name. record { address = address; image = Some name; blank = None; only = only; version = None }) (as_str d)
 
--- how many sectors a blank platter has: 16 to 32,512
-abbrev pub sectors_of : Option ℕ → Option ℕ
-sectors_of None = None
-sectors_of (Some sectors) = if is_between 16 32512 sectors then Some sectors else None
+-- how many sectors a blank platter has
+abbrev pub sectors_of : Option ℕ → Option ℤ → Option ℕ
+sectors_of version n = option_and_then (ranged 16 (most_blank version)) n
 
 -- a blank platter
-abbrev pub of_sectors : List ℕ → Option ℕ → Data → Option PlatterRow
-of_sectors address only d =
-    option_map (λ sectors. record { address = address; image = None; blank = Some sectors; only = only }) (sectors_of (option_map small (as_integer d)))
+abbrev pub of_sectors : List ℕ → Option ℕ → Option ℕ → Data → Option PlatterRow
+of_sectors address only version d =
+    option_map (λ sectors. record { address = address; image = None; blank = Some sectors; only = only; version = version }) (sectors_of version (as_integer d))
 
--- a platter has an image or is blank, and not both
-abbrev pub platter_from : Option (List ℕ) → Option (Option ℕ) → Option Data → Option Data → Option PlatterRow
-platter_from (Some address) (Some only) (Some d) None = of_image address only d
-platter_from (Some address) (Some only) None (Some d) = of_sectors address only d
-platter_from address only image blank = None
+-- a platter has an image, whose version is its own, or is blank, and not both
+abbrev pub platter_from : Option (List ℕ) → Option (Option ℕ) → Option (Option ℕ) → Option Data → Option Data → Option PlatterRow
+platter_from (Some address) (Some only) (Some None) (Some d) None = of_image address only d
+platter_from (Some address) (Some only) (Some version) None (Some d) = of_sectors address only version d
+platter_from address only version image blank = None
 
 -- the row of a platter
 abbrev pub platter_row : Members → Option PlatterRow
 platter_row ms =
     if all_known section.Platter ms then
-    platter_from (text_of_key (codes "address") ms) (only_of_key (get_member (codes "for") ms)) (get_member (codes "image") ms) (get_member (codes "blank") ms)
+    platter_from (text_of_key (codes "address") ms) (only_of_key (get_member (codes "for") ms)) (version_of_key (get_member (codes "version") ms))
+    (get_member (codes "image") ms) (get_member (codes "blank") ms)
     else None
 
 abbrev pub printer_from : Option (List ℕ) → Option (Option ℕ) → Option PrinterRow

@@ -67,6 +67,7 @@ fn platter_copied(platter: &BootPlatter) -> BootPlatter
         image: image_copied(&platter.image),
         blank: platter.blank,
         only: platter.only,
+        version: platter.version,
     }
 }
 

@@ -22,14 +22,15 @@ pub struct BootPartition {
     pub program: Option<Name8>,
 }
 
-/// A platter at its address: the name of its image, or how many sectors it has, blank; and the partition that alone may use it,
-/// if one is named.
+/// A platter at its address: the name of its image, or how many sectors it has, blank; the partition that alone may use it, if
+/// one is named; and the version of a blank one, 1 where none is named.
 #[derive(Drop)]
 pub struct BootPlatter {
     pub address: Addr,
     pub image: Option<FileName>,
     pub blank: Option<u32>,
     pub only: Option<Part>,
+    pub version: Option<u8>,
 }
 
 /// A printer at its address, and the partition that alone may use it, if one is named.

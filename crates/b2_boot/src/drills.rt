@@ -74,6 +74,7 @@ fn platters_of(alloc: Global, clerks: &[u8], n: u16) -> Result<Vec<BootPlatter>,
             address: disk_of(*clerk),
             image: None,
             blank: Some(u32::from(n + 10).max(16)),
+            version: None,
             only: Some(Part::known(*clerk)),
         })?;
     }

@@ -51,13 +51,15 @@ pub struct PartitionRow {
 }
 
 /// A platter as it is written: its address and the name of its image, which may be any texts, or how many sectors it has,
-/// blank; and the number of the partition that it is for, where it has one, with 65,535 in place of one outside 0 to 65,535.
+/// blank, and of which version, where one is said; and the number of the partition that it is for, where it has one, with 65,535
+/// in place of one outside 0 to 65,535.
 #[derive(Drop)]
 pub struct PlatterRow {
     pub address: ByteList,
     pub image: Option<ByteList>,
-    pub blank: Option<u16>,
+    pub blank: Option<u32>,
     pub only: Option<u16>,
+    pub version: Option<u8>,
 }
 
 /// A printer as it is written: its address, which may be any text, and the number of the partition that it is for, where it
@@ -149,6 +151,7 @@ fn is_known(section: Section, key: &[u8]) -> bool
                 || key == b"image".as_slice()
                 || key == b"blank".as_slice()
                 || key == b"for".as_slice()
+                || key == b"version".as_slice()
         }
         Section::Printer => key == b"address".as_slice() || key == b"for".as_slice(),
     }
@@ -337,33 +340,64 @@ fn of_image(
         image: Some(ByteList::from_slice(alloc, name.as_bytes())?),
         blank: None,
         only,
+        version: None,
     }))
 }
 
-/// How many sectors a blank platter has, None outside 16 to 32,512.
-fn sectors_said(value: &Value) -> Option<u16>
-    ensures { result ≡ spec.sectors_of (option_map spec.small (as_integer (view value.now))) }
+/// A whole number in a range, as it is written, and None outside it.
+fn ranged(least: u32, most: u32, n: i64) -> Option<u32>
+    ensures { result ≡ spec.ranged least most n }
 {
-    let Some(sectors) = small_if_some(value.as_integer()) else {
-        return None;
-    };
-    if sectors >= 16 && sectors <= 32512 {
-        Some(sectors)
-    } else {
-        None
+    match u32::try_from(n) {
+        Ok(n) if n >= least && n <= most => Some(n),
+        _ => None,
     }
 }
 
-/// A blank platter, None where that is no number of sectors.
+/// The same where a value is a whole number.
+fn ranged_value(least: u32, most: u32, value: &Value) -> Option<u32>
+    ensures { result ≡ option_and_then (spec.ranged least most) (as_integer (view value.now)) }
+{
+    match value.as_integer() {
+        Some(n) => ranged(least, most, n),
+        None => None,
+    }
+}
+
+/// The version of a platter, None within where none is said, and None where that is neither 1 nor 2.
+fn version_said(table: &Table) -> Option<Option<u8>>
+    ensures { result ≡ spec.version_of_key (get_member (codes "version") (table_view table.now)) }
+{
+    match value_at(table, "version") {
+        Some(value) => match ranged_value(1, 2, value) {
+            Some(version) => Some(Some(version as u8)),
+            None => None,
+        },
+        None => Some(None),
+    }
+}
+
+/// The most sectors of a blank platter of a version, which is 1 where none is said.
+fn most_blank(version: Option<u8>) -> u32
+    ensures { result ≡ spec.most_blank version }
+{
+    match version {
+        Some(2) => 262_144,
+        _ => 32_512,
+    }
+}
+
+/// A blank platter of a version, None where that is no number of its sectors.
 fn of_sectors(
     alloc: Global,
     address: &[u8],
     only: Option<u16>,
+    version: Option<u8>,
     value: &Value,
 ) -> Result<Option<PlatterRow>, NoMemory>
-    ensures { IfOk result (λ found. found ≡ spec.of_sectors address.now only (view value.now)) }
+    ensures { IfOk result (λ found. found ≡ spec.of_sectors address.now only version (view value.now)) }
 {
-    let Some(sectors) = sectors_said(value) else {
+    let Some(sectors) = ranged_value(16, most_blank(version), value) else {
         return Ok(None);
     };
     Ok(Some(PlatterRow {
@@ -371,26 +405,31 @@ fn of_sectors(
         image: None,
         blank: Some(sectors),
         only,
+        version,
     }))
 }
 
-/// A platter with an image or blank, None where it is both or neither.
+/// A platter with an image or blank, None where it is both or neither, or a version stands beside an image.
 fn platter_from(
     alloc: Global,
     address: &[u8],
     only: Option<u16>,
+    version: Option<u8>,
     image: Option<&Value>,
     blank: Option<&Value>,
 ) -> Result<Option<PlatterRow>, NoMemory>
-    ensures { IfOk result (λ found. found ≡ spec.platter_from (Some address.now) (Some only) (option_map (λ value. view value.now) image.entry) (option_map (λ value. view value.now) blank.entry)) }
+    ensures { IfOk result (λ found. found ≡ spec.platter_from (Some address.now) (Some only) (Some version) (option_map (λ value. view value.now) image.entry) (option_map (λ value. view value.now) blank.entry)) }
 {
     match image {
         Some(value) => match blank {
             Some(_) => Ok(None),
-            None => of_image(alloc, address, only, value),
+            None => match version {
+                Some(_) => Ok(None),
+                None => of_image(alloc, address, only, value),
+            },
         },
         None => match blank {
-            Some(value) => of_sectors(alloc, address, only, value),
+            Some(value) => of_sectors(alloc, address, only, version, value),
             None => Ok(None),
         },
     }
@@ -409,10 +448,14 @@ fn platter_row(alloc: Global, table: &Table) -> Result<Option<PlatterRow>, NoMem
     let Some(only) = only_said(table) else {
         return Ok(None);
     };
+    let Some(version) = version_said(table) else {
+        return Ok(None);
+    };
     platter_from(
         alloc,
         address.as_bytes(),
         only,
+        version,
         value_at(table, "image"),
         value_at(table, "blank"),
     )
