@@ -11,7 +11,7 @@ from machine import Refused, bytes_of
 SECTIONS = {"boot": "The boot file", "log": "The log", "image": "Disk images"}
 # The keys of each table of a boot file, of which those in brackets may be left out.
 KEYS = {"": "quota terminal partition [platter] [printer]", "terminal": "number front",
-        "partition": "number terminal text data globals [disk] [program]", "platter": "address [image] [blank] [for]",
+        "partition": "number terminal text data globals [disk] [program]", "platter": "address [image] [blank] [for] [version]",
         "printer": "address [for]"}
 # Which keys a check looks at.
 OF_A_CHECK = {"4": [("terminal", "number")], "5": [("partition", "number")], "7": [("partition", "terminal")], "8": [("terminal", "front")],
@@ -97,7 +97,7 @@ def first_odd_key(rows, _check):
             return place, f"no key is called {key}"
         else:
             missing.discard(key)
-            if is_of_another_kind(key, value):
+            if is_of_another_kind(key, value) or key == "blank" and not in_range(value, 16, most_sectors(rows, opened[0])):
                 return place, f"{key} is of another kind or out of its range"
     return None
 
@@ -105,8 +105,14 @@ def first_odd_key(rows, _check):
 def is_of_another_kind(key, value):
     if key in ("address", "image", "disk", "program"):
         return value.isdigit() and key != "address"
-    return not re.fullmatch(r"-?\d+", value) or key == "quota" and not 1 <= int(value) <= 1000 or \
-        key == "blank" and not 16 <= int(value) <= 32512
+    return not re.fullmatch(r"-?\d+", value) or key == "quota" and not 1 <= int(value) <= 1000 or key == "version" and value not in ("1", "2")
+
+
+def most_sectors(rows, header):
+    """The most sectors of a blank disk in the table that begins on a line, by its version."""
+    later = [place for place, _, key, _ in rows if key is None and place > header]
+    keys = [(key, value) for place, _, key, value in rows if place > header and (not later or place < later[0])]
+    return 262_144 if ("version", "2") in keys else 32_512
 
 
 def first_odd_value(rows, check):

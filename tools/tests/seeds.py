@@ -195,7 +195,7 @@ class Maker:
         table['terminal'] = [{'number': place, 'front': self.one(part for part in parts if places[part] == place)} for place in terminals]
         table['partition'] = [{'number': part, 'terminal': places[part], 'text': self.one([2, 3, 8, 24]), 'data': self.one([2, 8, 24]),
                                'globals': self.one([0, 1, 2, 8])} for part in parts]
-        table['platter'] = [{'address': address, **self.one([{'image': f'image{count}'}, {'blank': self.one([16, 17, 64, 300])}])}
+        table['platter'] = [{'address': address, **self.one([{'image': f'image{count}'}, {'blank': self.one([16, 17, 64, 300])}, {'blank': self.one([16, 64, 300]), 'version': self.one([1, 2, 2])}])}
                             for count, address in enumerate(platters)]
         table['printer'] = [{'address': address} for address in printers]
         for row in table['platter'] + table['printer']:

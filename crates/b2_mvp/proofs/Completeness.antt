@@ -67,17 +67,17 @@ expected_events : (words : List (List ℕ)) (m : Files) (c : Job) (inputs : HasI
 expected_events words m c inputs is = ap (by_command m) is ∙ expected_given m c c.source inputs.boot inputs.events inputs.given
 
 -- an image that is there
-source_there : (m : Files) (address : List ℕ) (image : Option (List ℕ)) (blank : Option ℕ) (bytes : List ℕ) → HasSource image blank (Some m) bytes → by_source m address image blank ≡ Ok bytes
-source_there m address (Some name) blank bytes h =
+source_there : (m : Files) (address : List ℕ) (image : Option (List ℕ)) (blank version : Option ℕ) (bytes : List ℕ) → HasSource image blank version (Some m) bytes → by_source m address image blank version ≡ Ok bytes
+source_there m address (Some name) blank version bytes h =
     ap (by_image_file address name) h.fetched.told ∙ within_limit (Result (List ℕ) Expected) (length bytes) image_limit _ _ h.fetched.within ∙ ap (by_check address bytes) h.sound.0
-source_there m address None (Some sectors) bytes h = ap Ok (sym h)
-source_there m address None None bytes h = absurd h
+source_there m address None (Some sectors) version bytes h = ap Ok (sym h)
+source_there m address None None version bytes h = absurd h
 
 images_there : (m : Files) (ps : List BootPlatter) (images : Images) → HaveImages (Some m) ps images → by_platters m ps ≡ Ok images
 images_there m [] [] h = refl
 images_there m [] (image ∷ images) h = absurd h
 images_there m (p ∷ ps) [] h = absurd h
-images_there m (p ∷ ps) (image ∷ images) h = λ i. one_more (source_there m p.address p.image p.blank image h.0 i) (images_there m ps images h.1 i)
+images_there m (p ∷ ps) (image ∷ images) h = λ i. one_more (source_there m p.address p.image p.blank p.version image h.0 i) (images_there m ps images h.1 i)
 
 -- some images, and what comes of those that follow
 abbrev prepend : Images → Result Images Expected → Result Images Expected
@@ -89,7 +89,7 @@ images_then : (m : Files) (before : List BootPlatter) (images : Images) (p : Boo
 images_then m [] [] p after h = refl
 images_then m [] (image ∷ images) p after h = absurd h
 images_then m (q ∷ before) [] p after h = absurd h
-images_then m (q ∷ before) (image ∷ images) p after h = λ i. one_more (source_there m q.address q.image q.blank image h.0 i) (images_then m before images p after h.1 i)
+images_then m (q ∷ before) (image ∷ images) p after h = λ i. one_more (source_there m q.address q.image q.blank q.version image h.0 i) (images_then m before images p after h.1 i)
 
 prepend_refused : (images : Images) (e : Expected) → prepend images (Err e) ≡ Err e
 prepend_refused [] e = refl
@@ -118,7 +118,7 @@ run_input m c s (TheImage p name) r =
     expected_given m c s r.0.boot r.0.events r.0.given
     ∙ ap (by_images c r.0.boot r.0.events)
     (ap (by_platters m) r.1.in_order ∙ images_then m r.1.before r.1.images p r.1.after r.1.have_images
-    ∙ ap (λ image. prepend r.1.images (one_more (by_source m p.address image p.blank) (by_platters m r.1.after))) r.1.named)
+    ∙ ap (λ image. prepend r.1.images (one_more (by_source m p.address image p.blank p.version) (by_platters m r.1.after))) r.1.named)
 
 expected_input : (words : List (List ℕ)) (m : Files) (c : Job) (input : Input) (r : IsReached c.source (Some m) input) → command_of words ≡ Some (command.Run c)
     → expected words m ≡ by_input m c c.source input r (get m (name_of c.source input))
@@ -180,10 +180,10 @@ file_fine : (address name : List ℕ) (file : Option (List ℕ)) → IsFine (by_
 file_fine address name None = inr refl
 file_fine address name (Some bytes) = within_fine (nat_le (length bytes) image_limit) name _ (check_fine address bytes (own_check bytes))
 
-source_fine : (m : Files) (address : List ℕ) (image : Option (List ℕ)) (blank : Option ℕ) → IsFine (by_source m address image blank)
-source_fine m address (Some name) blank = file_fine address name (get m name)
-source_fine m address None (Some sectors) = tt
-source_fine m address None None = tt
+source_fine : (m : Files) (address : List ℕ) (image : Option (List ℕ)) (blank version : Option ℕ) → IsFine (by_source m address image blank version)
+source_fine m address (Some name) blank version = file_fine address name (get m name)
+source_fine m address None (Some sectors) version = tt
+source_fine m address None None version = tt
 
 more_fine : (r : Result (List ℕ) Expected) (rs : Result Images Expected) → IsFine r → IsFine rs → IsFine (one_more r rs)
 more_fine (Ok image) (Ok images) h k = tt
@@ -192,7 +192,7 @@ more_fine (Err e) rs h k = h
 
 platters_fine : (m : Files) (ps : List BootPlatter) → IsFine (by_platters m ps)
 platters_fine m [] = tt
-platters_fine m (p ∷ ps) = more_fine (by_platter m p) (by_platters m ps) (source_fine m p.address p.image p.blank) (platters_fine m ps)
+platters_fine m (p ∷ ps) = more_fine (by_platter m p) (by_platters m ps) (source_fine m p.address p.image p.blank p.version) (platters_fine m ps)
 
 images_answered : (c : Job) (boot : BootState) (events : List Event) (r : Result Images Expected) → IsFine r → Answers (by_images c boot events r) status.NoMemory
 images_answered c boot events (Ok images) h = inr (inl refl)

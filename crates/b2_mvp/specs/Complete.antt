@@ -10,6 +10,7 @@ use Rattle.b2_boot.specs.Logs.{LogRead, log_of}
 use Rattle.b2_boot.specs.Logs.LogRead.{Events, Refused}
 use Rattle.b2_boot.specs.declared.boot.BootPlatter.{BootPlatter}
 use Rattle.b2_boot.specs.declared.log.Event.{Event}
+use Rattle.b2_boot.specs.Rows.{blank_version}
 use Rattle.b2_platter.specs.Checks.{own_check}
 use Rattle.b2_platter.specs.Edits.{blank_image}
 use Rattle.b2_platter.specs.Layout.{by_version}
@@ -49,13 +50,13 @@ by_image_file address name None = Err (IsMissing name)
 by_image_file address name (Some bytes) = if nat_le (length bytes) image_limit then by_check address bytes (own_check bytes) else Err (IsLong name image_limit)
 
 -- every platter of a boot has one of the two
-abbrev pub by_source : Files → List ℕ → Option (List ℕ) → Option ℕ → Result (List ℕ) Expected
-by_source files address (Some name) blank = by_image_file address name (get files name)
-by_source files address None (Some sectors) = Ok (blank_image (by_version 1) sectors)
-by_source files address None None = Ok []
+abbrev pub by_source : Files → List ℕ → Option (List ℕ) → Option ℕ → Option ℕ → Result (List ℕ) Expected
+by_source files address (Some name) blank version = by_image_file address name (get files name)
+by_source files address None (Some sectors) version = Ok (blank_image (by_version (blank_version version)) sectors)
+by_source files address None None version = Ok []
 
 abbrev pub by_platter : Files → BootPlatter → Result (List ℕ) Expected
-by_platter files p = by_source files p.address p.image p.blank
+by_platter files p = by_source files p.address p.image p.blank p.version
 
 -- the images of some platters, or what is to be answered at the first that has none
 abbrev pub one_more : Result (List ℕ) Expected → Result Images Expected → Result Images Expected

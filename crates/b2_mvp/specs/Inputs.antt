@@ -13,6 +13,7 @@ use Rattle.b2_boot.specs.declared.boot_file.BootErr.TheVariants as boot_err
 use Rattle.b2_boot.specs.declared.log.Event.{Event}
 use Rattle.b2_boot.specs.declared.log.LogErr.{LogErr}
 use Rattle.b2_boot.specs.declared.log.LogErr.TheVariants as log_err
+use Rattle.b2_boot.specs.Rows.{blank_version}
 use Rattle.b2_platter.specs.Checks.{own_check}
 use Rattle.b2_platter.specs.Edits.{blank_image}
 use Rattle.b2_platter.specs.Layout.{by_version}
@@ -64,14 +65,14 @@ pub record IsRead (name : List ℕ) (files : Option Files) (image : List ℕ) : 
   pub fetched : IsFetched files name image_limit image
   pub sound : IsSound image
 
--- what is on a platter as the machine starts: the image of a file, or blank sectors
-abbrev pub HasSource : Option (List ℕ) → Option ℕ → Option Files → List ℕ → Type 0
-HasSource (Some name) blank files image = IsRead name files image
-HasSource None (Some sectors) files image = image ≡ blank_image (by_version 1) sectors
-HasSource None None files image = ⊥
+-- what is on a platter as the machine starts: the image of a file, or blank sectors of a version
+abbrev pub HasSource : Option (List ℕ) → Option ℕ → Option ℕ → Option Files → List ℕ → Type 0
+HasSource (Some name) blank version files image = IsRead name files image
+HasSource None (Some sectors) version files image = image ≡ blank_image (by_version (blank_version version)) sectors
+HasSource None None version files image = ⊥
 
 abbrev pub HasImage : Option Files → BootPlatter → List ℕ → Type 0
-HasImage files p image = HasSource p.image p.blank files image
+HasImage files p image = HasSource p.image p.blank p.version files image
 
 abbrev pub HaveImages : Option Files → List BootPlatter → Images → Type 0
 HaveImages files platters images = AllZip (HasImage files) platters images

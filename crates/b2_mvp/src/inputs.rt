@@ -3,7 +3,7 @@ ghost use Rattle.std.specs.Prelude.{◌≡◌, ◌≤◌, IfOk, IfErr, true};
 ghost use Rattle.std.specs.List.{list_all};
 ghost use Rattle.b2_base.specs.Seen.{shelf_seen, Later};
 ghost use Rattle.b2_boot.specs.Boots.{IsGood, is_platter};
-ghost use Rattle.b2_boot.specs.Rows.{is_between};
+ghost use Rattle.b2_boot.specs.Rows.{blank_version, is_blank};
 ghost use Rattle.b2_platter.specs.Edits.{blank_image};
 ghost use Rattle.b2_platter.specs.Image.{index_of};
 ghost use Rattle.b2_platter.specs.Layout.{by_version};
@@ -189,13 +189,18 @@ fn open_image<F: Shelf>(
     }
 }
 
-/// A blank platter of so many sectors.
-fn blank_platter(alloc: Global, sectors: u32) -> Result<Platter, Status>
-    requires { is_between 16 32512 sectors ≡ true }
-    ensures ok { IfOk result (λ image. image ≡ blank_image (by_version 1) sectors) }
+/// A blank platter of so many sectors, and of a version, 1 where none is said.
+#[tactic(auto, using(crate::proofs::SoundImages::version_known, crate::proofs::SoundImages::blank_fits, crate::proofs::SoundImages::blank_known))]
+fn blank_platter(alloc: Global, sectors: u32, version: Option<u8>) -> Result<Platter, Status>
+    requires { is_blank version sectors ≡ true }
+    ensures ok { IfOk result (λ image. image ≡ blank_image (by_version (blank_version version)) sectors) }
     ensures err { IfErr result (λ status. status ≡ Status.NoMemory) }
 {
-    match Platter::blank(alloc, sectors, 1) {
+    let version = match version {
+        Some(version) => version,
+        None => 1,
+    };
+    match Platter::blank(alloc, sectors, version) {
         Ok(platter) => Ok(platter),
         Err(_) => Err(Status::NoMemory),
     }
@@ -217,7 +222,7 @@ fn read_image<F: Shelf>(
         return open_image(alloc, platter.address, name, shelf);
     }
     match platter.blank {
-        Some(sectors) => blank_platter(alloc, sectors),
+        Some(sectors) => blank_platter(alloc, sectors, platter.version),
         None => unreachable!(),
     }
 }
