@@ -8,7 +8,6 @@ use Rattle.b2_boot.specs.declared.rows.PlatterRow.{PlatterRow}
 use Rattle.b2_boot.specs.declared.rows.PrinterRow.{PrinterRow}
 use Rattle.b2_boot.specs.declared.rows.TerminalRow.{TerminalRow}
 use Rattle.b2_boot.specs.declared.rows.PartitionRow.{PartitionRow}
-use Rattle.b2_boot.specs.Rows.{small, is_between, all_known, sectors_of, text_of_key, only_of_key, platter_from, platter_row, terminal_said, partition_row, printer_row, rows_in, rows_at, before_rows, items_of_key, quota_of, number_of_key, rows_from, document_rows}
 use Rattle.b2_boot.specs.Rows.{is_between, is_version, most_blank, ranged, version_of_key, all_known, sectors_of, text_of_key, only_of_key, platter_from, platter_row, terminal_said, partition_row, printer_row, rows_in, rows_at, before_rows, items_of_key, quota_of, number_of_key, rows_from, document_rows}
 use Rattle.b2_boot.specs.Boots.{is_either}
 
