@@ -1,6 +1,6 @@
 -- What a run writes: a file for each terminal's transcript, for what each printer printed and for each platter's image, and a last
 -- line that also tells who is apart.
-use Rattle.std.specs.Prelude.{◌≡◌, ℕ, zero, suc, ◌+◌, ◌/◌, ◌%◌, List, [], ◌∷◌, ◌++◌, map, filter, codes, Option, Some, None}
+use Rattle.std.specs.Prelude.{◌≡◌, ℕ, zero, suc, ◌+◌, ◌/◌, ◌%◌, Bool, true, false, List, [], ◌∷◌, ◌++◌, map, filter, codes, Option, Some, None}
 use Rattle.std.specs.Fmt.{decimal}
 use Rattle.b2_base.specs.Byte as byte
 use Rattle.b2_base.specs.Counts.{Rose}
@@ -78,6 +78,11 @@ with_files (o ∷ os) files = with_files os (with_file o.name o.bytes files)
 -- the numbers of partitions, and of those that marks say are clean
 abbrev pub numbers : List BootPartition → List ℕ
 numbers ps = map (λ p. p.number) ps
+
+-- a partition, where it is apart
+abbrev pub listed_where : Bool → ℕ → List ℕ
+listed_where true number = number ∷ []
+listed_where false number = []
 
 abbrev pub apart_in : Marks → List BootPartition → List ℕ
 apart_in marks ps = filter (λ p. is_clean p marks) (numbers ps)

@@ -1,6 +1,6 @@
 // The outputs of a run: a file for each terminal's transcript, for what each printer printed and for each platter's image, and the
 // last line. None of them takes memory once it is kept: transcripts, printouts and images are kept as they stand in the store.
-ghost use Rattle.std.specs.Prelude.{◌≡◌, ◌≤◌, ◌∷◌, [], OnOk, IfOk, IfErr, length};
+ghost use Rattle.std.specs.Prelude.{◌≡◌, ◌≤◌, ◌∷◌, ◌++◌, [], OnOk, IfOk, IfErr, length};
 ghost use Rattle.b2_base.specs.Seen.{shelf_seen};
 ghost use Rattle.b2_access.specs.declared.objects.Object.{Object};
 ghost use Rattle.b2_access.specs.Store.{content};
@@ -15,6 +15,16 @@ use b2_status::Status;
 use b2_store::Ends;
 use std::alloc::Global;
 
+/// Adds a partition where it is apart.
+fn add_where(is_apart: bool, number: Part, parts: &mut Vec<Part>) -> Result<(), NoMemory>
+    ensures { OnOk result (parts.new.items ≡ parts.old.items ++ spec.listed_where is_apart number) }
+{
+    if is_apart {
+        parts.push(number)?;
+    }
+    Ok(())
+}
+
 /// The partitions that are apart in a world.
 fn apart<S: Ends + Drop>(
     alloc: Global,
@@ -25,9 +35,7 @@ fn apart<S: Ends + Drop>(
 {
     let mut parts = Vec::new(alloc);
     for p in partitions {
-        if world.clean(p.number) {
-            parts.push(p.number)?;
-        }
+        add_where(world.clean(p.number), p.number, &mut parts)?;
     }
     Ok(parts)
 }
