@@ -1,8 +1,9 @@
--- What a run shows of groups of partitions: the group theorem over transcripts, and the marks over the list.
-use Rattle.std.proofs.Common.{◌≡◌, ℕ, ◌==◌, ◌||◌, ◌&&◌, Bool, true, false, List, [], ◌∷◌, map, refl, sym, ap, subst, ◌∙◌, arith}
+-- What a run shows of groups of partitions: the group theorem and own parts over what is kept, and the marks over the list.
+use Rattle.std.proofs.Common.{◌≡◌, ℕ, ◌==◌, ◌||◌, ◌&&◌, Bool, true, false, List, [], ◌∷◌, map, Option, Some, None, refl, sym, ap, subst, ◌∙◌, arith}
 use Rattle.std.specs.Prelude.{filter}
 use Rattle.std.proofs.lemmas.Bool.{and_from, and_parts}
 use Rattle.std.proofs.lemmas.Bool.Decides.{nat_tests}
+use Rattle.b2_access.specs.declared.objects.Object.{Object}
 use Rattle.b2_access.specs.declared.objects.Object.TheVariants as object
 use Rattle.b2_audit.specs.Marks.{is_clean}
 use Rattle.b2_audit.specs.Steps.{IsPartition}
@@ -11,11 +12,15 @@ use Rattle.b2_boot.specs.Boots.{BootState}
 use Rattle.b2_boot.specs.declared.boot.BootPartition.{BootPartition}
 use Rattle.b2_boot.specs.declared.log.Event.{Event}
 use Rattle.b2_sched.proofs.AloneBoots.{as_alone}
+use Rattle.b2_sched.proofs.BootDevices.{starts_alone}
+use Rattle.b2_sched.proofs.PartRuns.{parts_are_enough, parts_of_clean_groups_are_enough}
 use Rattle.b2_sched.proofs.WorldMarks.{who_is_clean}
-use Rattle.b2_sched.specs.Start.{AreNumbered, Images, booted}
-use Rattle.b2_sched.specs.World.{ran}
-use Rattle.b2_mvp.specs.Groups.{GroupsShowAsAlone, ListsTheClean}
+use Rattle.b2_sched.specs.Parts.{HasPart}
+use Rattle.b2_sched.specs.Start.{AreNumbered, CanStart, Images, booted}
+use Rattle.b2_sched.specs.World.{WorldState, ran}
+use Rattle.b2_mvp.specs.Groups.{GroupsShowAsAlone, ListsTheClean, OwnPartShows, PartsShow, ShowsPart}
 use Rattle.b2_mvp.specs.Outputs.{image, numbers, printout, transcript}
+use Rattle.b2_mvp.specs.Top.{boot_for}
 
 -- the transcript of a terminal, what a printer printed and the image of a platter are functions of what the store has there
 pub groups_show : (out : List ℕ) (b : BootState) (images : Images) (log : List Event) → GroupsShowAsAlone out b images log
@@ -25,6 +30,24 @@ groups_show out b images log g clean =
       (λ a not_foul. ap (printout out a) (same (object.Printer a) (λ outside. outside) not_foul)),
       (λ a not_foul. ap (image out a) (same (object.Platter a) (λ outside. outside) not_foul)),
     )
+
+shows_part : (out : List ℕ) (b : BootState) (dirty : List Object) (w v : WorldState) → HasPart b dirty w v → ShowsPart out b dirty w v
+shows_part out b dirty w v h = record {
+  terminals = λ t stands clear. ap (transcript out t) (h.terminals t stands clear);
+  printers = λ a there clear. ap (printout out a) (h.printers a there clear);
+  platters = λ a there clear. ap (image out a) (h.platters a there clear);
+}
+
+pub starts_for : (group : Option (List ℕ)) (b : BootState) → CanStart b → CanStart (boot_for group b)
+starts_for None b can = can
+starts_for (Some parts) b can = starts_alone b (is_in_group parts) can
+
+pub parts_show : (out : List ℕ) (b : BootState) (images : Images) (log : List Event) → CanStart b → PartsShow out b images log
+parts_show out b images log can g clean = shows_part out _ _ _ _ (parts_of_clean_groups_are_enough g b images log can clean)
+
+pub own_part_shows : (group : Option (List ℕ)) (out : List ℕ) (b : BootState) (images : Images) (log : List Event) → CanStart b → OwnPartShows group out b images log
+own_part_shows None out b images log can = tt
+own_part_shows (Some parts) out b images log can = shows_part out _ _ _ _ (parts_are_enough (is_in_group parts) b images log can)
 
 -- a number stands in a filtered list exactly where it stands in the list and passes the test
 kept_first : (same there passes here : Bool) → (same ≡ true → true ≡ passes) → here ≡ (there && passes) → (same || here) ≡ ((same || there) && passes)

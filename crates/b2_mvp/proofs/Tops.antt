@@ -6,7 +6,7 @@ use Rattle.b2_base.specs.Outside.{IsPartWritten}
 use Rattle.b2_base.specs.Seen.{ShelfSeen, SinkSeen, Later}
 use Rattle.b2_boot.specs.Boots.{BootState}
 use Rattle.b2_boot.specs.declared.boot.BootPlatter.{BootPlatter}
-use Rattle.b2_sched.specs.Start.{Images}
+use Rattle.b2_sched.specs.Start.{CanStart, Images}
 use Rattle.b2_mvp.specs.Inputs.{log_limit, image_limit, HasBoot, HaveImages, IsNext, FailsLog, FailsChecks, CannotBoot, CannotLog, CannotOpen, CannotReadFrom, FailsAmong, CannotReadAll, HasInputs, Refuses}
 use Rattle.b2_mvp.specs.Outputs.{Output, outputs, with_files, summary, FailsKeep}
 use Rattle.b2_mvp.specs.Inputs.Input.{TheBoot, TheLog, TheImage}
@@ -21,7 +21,7 @@ use Rattle.b2_status.specs.declared.status.Status.TheVariants as status
 use Rattle.b2_mvp.specs.declared.top.Command.TheVariants as command
 use Rattle.b2_mvp.specs.declared.top.Job.{Job}
 use Rattle.b2_mvp.proofs.BootNumbers.{numbered_for}
-use Rattle.b2_mvp.proofs.GroupOutputs.{groups_show, lists_clean}
+use Rattle.b2_mvp.proofs.GroupOutputs.{groups_show, lists_clean, own_part_shows, parts_show, starts_for}
 use Rattle.b2_mvp.proofs.Keeps.{rose_later}
 
 -- a fetch that comes after another
@@ -156,30 +156,32 @@ runs words c files inputs images is have = record { job = c; is_command = is; in
 -- what is delivered after the inputs were read and the events were run
 pub delivered : (words : List (List ℕ)) (c : Job) (old : ShelfSeen) (inputs : HasInputs c.source old.files) (images : Images) (all : List Output) (line : List ℕ)
     (mid new : ShelfSeen) (before after : SinkSeen) (s : Status)
-    → command_of words ≡ Some (command.Run c) → HaveImages old.files inputs.boot.platters images
+    → command_of words ≡ Some (command.Run c) → CanStart inputs.boot → HaveImages old.files inputs.boot.platters images
     → all ≡ outputs c.out inputs.boot (world_after (boot_for c.group inputs.boot) images inputs.events).store
     → line ≡ summary (boot_for c.group inputs.boot) (world_after (boot_for c.group inputs.boot) images inputs.events)
     → Later old mid → mid.files ≡ old.files
     → Delivers all line mid new before after s → RunComes words old new before after s
-delivered words c old inputs images all line mid new before after status.Ok is have all_is line_is later same h =
+delivered words c old inputs images all line mid new before after status.Ok is can have all_is line_is later same h =
     record {
       run = runs words c old.files inputs images is have;
       files = h.0 ∙ (λ i. with_files (all_is i) (same i));
       written = h.1 ∙ ap (λ (l : List ℕ). option_map (λ w. w ++ l) before.written) line_is;
       groups = groups_show c.out (boot_for c.group inputs.boot) images inputs.events;
       listed = lists_clean (boot_for c.group inputs.boot) images inputs.events (numbered_for c.source old.files inputs c.group);
+      parts = parts_show c.out (boot_for c.group inputs.boot) images inputs.events (starts_for c.group inputs.boot can);
+      own_part = own_part_shows c.group c.out inputs.boot images inputs.events can;
     }
-delivered words c old inputs images all line mid new before after (status.WriteFault at) is have all_is line_is later same h =
+delivered words c old inputs images all line mid new before after (status.WriteFault at) is can have all_is line_is later same h =
     record {
       run = runs words c old.files inputs images is have;
       left = output all _ line _ old mid new before after at _ _ _ all_is line_is same (rose_later _ _ _ later.faults) h;
     }
-delivered words c old inputs images all line mid new before after (status.KeepNoMemory at) is have all_is line_is later same h =
+delivered words c old inputs images all line mid new before after (status.KeepNoMemory at) is can have all_is line_is later same h =
     record {
       run = runs words c old.files inputs images is have;
       left = output all _ line _ old mid new before after at _ _ _ all_is line_is same (λ u. u) h;
     }
-delivered words c old inputs images all line mid new before after s is have all_is line_is later same h = absurd h
+delivered words c old inputs images all line mid new before after s is can have all_is line_is later same h = absurd h
 
 -- a put after all was kept
 pub put_after : (all : List Output) (line : List ℕ) (old new : ShelfSeen) (before after : SinkSeen) (s : Status) → new.files ≡ with_files all old.files

@@ -21,7 +21,7 @@ use Rattle.b2_status.specs.declared.status.Status.TheVariants as status
 use Rattle.b2_mvp.specs.declared.top.Command.{Command}
 use Rattle.b2_mvp.specs.declared.top.Command.TheVariants as command
 use Rattle.b2_mvp.specs.declared.top.Job.{Job}
-use Rattle.b2_mvp.specs.Groups.{GroupsShowAsAlone, ListsTheClean}
+use Rattle.b2_mvp.specs.Groups.{GroupsShowAsAlone, ListsTheClean, OwnPartShows, PartsShow}
 use Rattle.b2_mvp.specs.declared.inputs.Source.TheVariants as source
 use Rattle.b2_mvp.specs.Inputs.{HasInputs, HasNumber, HaveImages, Refuses}
 use Rattle.b2_mvp.specs.Outputs.{Output, outputs, with_files, summary, FailsKeep}
@@ -106,13 +106,16 @@ pub record IsUntouched (old new : ShelfSeen) (before after : SinkSeen) : Type 0 
   pub sink : after ≡ before
 
 -- THE HEADLINE: what was written is what the machine writes, from this boot and its images and under this log; each group of partitions that is
--- clean there shows what it shows alone; and the line lists exactly the partitions that are clean by themselves.
+-- clean there shows what it shows alone, and what its own part of boot and log shows; and the line lists exactly the partitions that are
+-- clean by themselves.
 pub record IsRun (words : List (List ℕ)) (old new : ShelfSeen) (before after : SinkSeen) : Type 0 where
   pub run : Runs words old.files
   pub files : new.files ≡ with_files (kept_of run) old.files
   pub written : after.written ≡ option_map (λ w. w ++ line_put run) before.written
   pub groups : GroupsShowAsAlone run.job.out (boot_run run) run.images run.inputs.events
   pub listed : ListsTheClean (boot_run run) run.images run.inputs.events
+  pub parts : PartsShow run.job.out (boot_run run) run.images run.inputs.events
+  pub own_part : OwnPartShows run.job.group run.job.out run.inputs.boot run.images run.inputs.events
 
 -- a job ended before its run, so nothing was kept or put
 pub record Stops (words : List (List ℕ)) (old new : ShelfSeen) (before after : SinkSeen) (s : Status) : Type 0 where
