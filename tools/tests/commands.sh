@@ -55,6 +55,23 @@ run_tells_dropped() {
     has "words that are no command" "$work/err" './b2 try examples/mortgage.bas'
 }
 
+# What `blank` writes is the disk that the machine makes.
+blank_writes_what_the_machine_makes() {
+    printf '%s\n' 'quota = 1' 'terminal = [{number = 1, front = 1}]' 'partition = [{number = 1, terminal = 1, text = 8, data = 8, globals = 2}]' \
+        'platter = [{address = "D11", blank = 16, version = 2}, {address = "D12", blank = 70000, version = 2}]' >wide.toml
+    : >nothing.log
+    gives 0 "run: blank disks of version 2" ./b2 run wide.toml nothing.log made
+    gives 0 "blank: the least" "$top/tools/blank" 16 least
+    gives 0 "blank: a greater one" "$top/tools/blank" 70000 greater
+    if cmp least made.D11 && cmp greater made.D12; then ok; else bad "blank" "it isn't the disk that the machine makes"; fi
+    for words in '15 f' '262145 f' 'x f' '-16 f' '16' '16 f g'; do
+        # shellcheck disable=SC2086 # the words are words
+        gives 2 "blank $words" "$top/tools/blank" $words
+    done
+    gives 7 "blank: a file that is there" "$top/tools/blank" 17 least
+    if cmp least made.D11; then ok; else bad "blank" "it wrote over a file"; fi
+}
+
 try_runs_a_listing() {
     printf '20 PRINT "TWO"\n10 PRINT "ONE"\n' >listing.bas
     gives 0 "try: a program without questions" ./b2 try listing.bas
@@ -615,6 +632,7 @@ hostile_finds_what_breaks
 hostile_refuses
 hostile_ends
 run_tells_dropped
+blank_writes_what_the_machine_makes
 run_meets_a_limit_of_files
 run_meets_a_limit_of_memory
 try_runs_a_listing

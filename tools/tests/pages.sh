@@ -31,7 +31,6 @@ examples_under_other_orders() {
     while read -r boot log; do
         read -r before_boot before_log < <(day_before "$boot")
         [ -z "$before_boot" ] || ./b2 run "examples/$before_boot" "examples/$before_log" out >"$work/out"
-        [ "$boot" != wide.toml ] || { rm -f wide.D12 && "$top/tools/blank" 70000 wide.D12; }
         awk -v row="| \`$boot $log\` | " '
             /^## / { inside = $0 == "## Under other orders" }
             inside && index($0, row) == 1 { $0 = substr($0, length(row) + 1); sub(/ \|.*/, ""); gsub(/, /, "\n"); print }
