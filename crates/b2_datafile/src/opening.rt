@@ -47,6 +47,7 @@ pub(crate) fn slot_of(addr: Addr, name: Name8, e: &Entry) -> Slot
 }
 
 /// The live data file of a slot's name that begins at its start, None where there is none.
+#[inline(always)]
 pub(crate) fn file_of(p: &Platter, s: &Slot) -> Option<Entry>
     ensures entry { result ≡ file_of p.now s.now }
     ensures named { IfSome result (λ e. get (catalogue p.now) e.name ≡ Some e) }
