@@ -10,7 +10,7 @@ use Rattle.b2_text.specs.Program.{TextState, size_of, with_line, without as with
 use Rattle.b2_text.specs.Spots.{first_opening, is_mark}
 use Rattle.b2_text.specs.declared.spots.Spot.{Spot}
 use Rattle.b2_vars.specs.Tables.{VarsState}
-use Rattle.b2_term.specs.Terminal.{TerminalState, line_read, after_read, inserted}
+use Rattle.b2_term.specs.Terminal.{TerminalState, line_read, after_read, inserted, released}
 use Rattle.b2_term.specs.declared.KeyItem.{KeyItem}
 use Rattle.b2_term.specs.declared.KeyItem.TheVariants as key
 use Rattle.b2_term.specs.declared.Read.{Read}
@@ -58,6 +58,10 @@ reads_line term (Some t) = puts (object.Terminal term) (inl refl) (after_read t)
 abbrev pub inserts : (term : ℕ) → List ℕ → Option TerminalState → TerminalTask term
 inserts term bytes None = answers answer.Done
 inserts term bytes (Some t) = puts (object.Terminal term) (inl refl) (inserted bytes t) answer.Done
+
+abbrev pub releases : (term : ℕ) → Option TerminalState → TerminalTask term
+releases term None = answers answer.Done
+releases term (Some t) = puts (object.Terminal term) (inl refl) (released t) answer.Done
 
 abbrev pub key_answer : Option KeyItem → Answer
 key_answer None = answer.NoKeys
@@ -399,6 +403,7 @@ row (access.CloseDevices addrs) = record { reach = to_free addrs; writes = λ wh
 row (access.ReadLine term) = terminal_row term is_of_line (reads_line term)
 row (access.Insert term bytes) = terminal_row term is_done (inserts term bytes)
 row (access.Key term) = terminal_row term is_of_key (takes_key term)
+row (access.Release term) = terminal_row term is_done (releases term)
 row (access.PutLine line atoms homes) = edit_row homes is_done_or_code (λ who. puts_line who homes line atoms)
 row (access.Erase from to homes) = edit_row homes is_done (λ who. erases who homes from to)
 row (access.ClearAll name homes) =

@@ -16,6 +16,7 @@ IsAskedAgain (access.CloseDevices addrs) x = view.devices_freed (access.CloseDev
 IsAskedAgain (access.ReadLine term) x = view.line_came (access.ReadLine term) x ≡ view.LineLater
 IsAskedAgain (access.Insert term bytes) x = is_done x ≡ false
 IsAskedAgain (access.Key term) x = view.key_came (access.Key term) x ≡ view.KeyLater
+IsAskedAgain (access.Release term) x = view.handed_on (access.Release term) x ≡ false
 IsAskedAgain (access.PutLine line atoms homes) x = (is_done_or_code x || is_lock x) ≡ false
 IsAskedAgain (access.Erase from to homes) x = view.clear_came (access.Erase from to homes) x ≡ view.ClearLater
 IsAskedAgain (access.ClearAll name homes) x = view.clear_came (access.ClearAll name homes) x ≡ view.ClearLater

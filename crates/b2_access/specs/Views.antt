@@ -1,6 +1,6 @@
 -- What came of an access, as those see it who asked for it: each view tells the answers that one kind of statement looks at, and no
 -- others. So an access or an answer that comes later touches no statement that has nothing to do with it.
-use Rattle.std.specs.Prelude.{ℕ, List, Option, Some, None}
+use Rattle.std.specs.Prelude.{ℕ, Bool, true, false, List, Option, Some, None}
 use Rattle.b2_base.specs.declared.files.Slot.{Slot}
 use Rattle.b2_dec.specs.declared.values.Value.{Value}
 use Rattle.b2_access.specs.declared.accesses.Access.{Access}
@@ -47,6 +47,11 @@ key_came (access.Key term) (answer.Key b) = ByteTyped b
 key_came (access.Key term) (answer.Special n) = KeyPressed n
 key_came (access.Key term) answer.NoKeys = NoKey
 key_came x a = KeyLater
+
+-- whether the terminal was handed on; where it wasn't, it is asked for again
+abbrev pub handed_on : Access → Answer → Bool
+handed_on (access.Release term) answer.Done = true
+handed_on x a = false
 
 -- what came of asking for a line, before which a prompt is shown: that was shown, up to a column, a line was entered, or a special
 -- function key ended the reading; or it is asked for again

@@ -45,6 +45,10 @@ pub enum Access {
     Key {
         term: Term,
     },
+    /// The terminal is handed on to the partition that comes next in its order.
+    Release {
+        term: Term,
+    },
     /// A line of this number goes into the text of the asking partition, or is taken out where there are no atoms.
     PutLine {
         line: u16,

@@ -98,7 +98,8 @@ pub fn reached_by(access: &Access) -> Reached
         Access::Show { term, .. }
         | Access::ReadLine { term }
         | Access::Insert { term, .. }
-        | Access::Key { term } => at_terminal(*term),
+        | Access::Key { term }
+        | Access::Release { term } => at_terminal(*term),
         Access::PutLine { homes, .. } | Access::Erase { homes, .. } => edited_text(*homes, None),
         Access::LoadProgram {
             declared,
@@ -171,6 +172,7 @@ pub fn devices_reached(access: &Access) -> Devices<'_>
         | Access::ReadLine { .. }
         | Access::Insert { .. }
         | Access::Key { .. }
+        | Access::Release { .. }
         | Access::PutLine { .. }
         | Access::Erase { .. }
         | Access::ClearAll { .. }
@@ -281,7 +283,8 @@ pub fn written_by(access: &Access) -> Written
         Access::Show { term, .. }
         | Access::ReadLine { term }
         | Access::Insert { term, .. }
-        | Access::Key { term } => writes_terminal(*term),
+        | Access::Key { term }
+        | Access::Release { term } => writes_terminal(*term),
         Access::PutLine { homes, .. } | Access::Erase { homes, .. } => {
             writes_text(false, *homes, None)
         }
@@ -347,6 +350,7 @@ pub fn devices_written(access: &Access) -> DevicesWritten<'_>
         | Access::ReadLine { .. }
         | Access::Insert { .. }
         | Access::Key { .. }
+        | Access::Release { .. }
         | Access::PutLine { .. }
         | Access::Erase { .. }
         | Access::ClearAll { .. }

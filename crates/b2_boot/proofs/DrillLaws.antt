@@ -81,6 +81,7 @@ drills_are_good n few = record {
   sizes = refl;
   listed = refl;
   fronts = refl;
+  orders = refl;
   few_platters = omega arith;
   few_printers = omega arith;
   devices_ascend = (omega arith, (omega arith, (omega arith, (omega arith, (omega arith, (omega arith, (omega arith, (omega arith, tt))))))));

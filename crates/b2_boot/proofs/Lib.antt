@@ -1,4 +1,5 @@
 pub mod Sorted
+pub mod OrdersFit
 pub mod DeviceAddresses
 pub mod ByAddress
 pub mod Sources

@@ -10,7 +10,7 @@ use Rattle.b2_boot.specs.declared.log.Event.TheVariants as event
 abbrev pub is_in_group : List ℕ → ℕ → Bool
 is_in_group parts p = list_any (λ q. q == p) parts
 
--- the partitions outside it go; their numbers, the quota, the terminals, the fronts and the devices stay
+-- the partitions outside it go; their numbers, the quota, the terminals, the fronts, the orders and the devices stay
 abbrev pub alone : (ℕ → Bool) → BootState → BootState
 alone group b = record b { partitions = filter (λ p. group p.number) b.partitions }
 
@@ -26,7 +26,7 @@ stands_at partitions t = list_any (λ q. q.terminal == t) partitions
 abbrev pub may_be_used : List BootPartition → Option ℕ → Bool
 may_be_used partitions only = list_any (λ q. is_for q.number only) partitions
 
--- terminals at which no partition stands go, and devices that none may use; the quota, the partitions and the fronts stay
+-- terminals at which no partition stands go, and devices that none may use; the quota, the partitions, the fronts and the orders stay
 abbrev pub own_boot : BootState → BootState
 own_boot b = record b {
   terminals = filter (λ t. stands_at b.partitions t.number) b.terminals;

@@ -6,6 +6,7 @@ use Rattle.b2_boot.specs.declared.rows.TerminalRow.{TerminalRow}
 use Rattle.b2_base.specs.Lexical.{first, hex_value}
 use Rattle.b2_base.specs.Byte as byte
 use Rattle.b2_base.specs.Names.{is_address, is_file_name, is_name8, padded8}
+use Rattle.b2_term.specs.Orders.{is_order}
 use Rattle.b2_boot.specs.declared.rows.PartitionRow.{PartitionRow}
 use Rattle.b2_boot.specs.declared.rows.PlatterRow.{PlatterRow}
 use Rattle.b2_boot.specs.declared.rows.PrinterRow.{PrinterRow}
@@ -61,6 +62,14 @@ is_partition_at t n rows = list_any (λ p. (p.number == n) && (p.terminal == t))
 
 abbrev pub all_fronts_fit : List TerminalRow → List PartitionRow → Bool
 all_fronts_fit terminals partitions = list_all (λ t. is_partition_at t.number t.front partitions) terminals
+
+-- 15: a terminal's order is one, without a partition twice, and each is of the terminal
+abbrev pub order_fits : ℕ → Option (List ℕ) → List PartitionRow → Bool
+order_fits t None rows = true
+order_fits t (Some order) rows = is_order order && list_all (λ n. is_partition_at t n rows) order
+
+abbrev pub all_orders_fit : List TerminalRow → List PartitionRow → Bool
+all_orders_fit terminals partitions = list_all (λ t. order_fits t.number t.order partitions) terminals
 
 -- no two are the same
 abbrev pub no_two_same : {A : Type 0} → (A → A → Bool) → List A → Bool
@@ -162,18 +171,23 @@ terminals_by_number rows = rows_up_to number_of_terminal 12 rows
 abbrev pub partitions_by_number : List PartitionRow → List PartitionRow
 partitions_by_number rows = rows_up_to number_of_partition 16 rows
 
--- the checks of platters and printers, and of the disks and programs of partitions
-abbrev pub checks_of_devices : List PartitionRow → List PlatterRow → List PrinterRow → List (ℕ × Bool)
-checks_of_devices partitions platters printers =
+-- the checks of programs, of the names of images, and of orders
+abbrev pub last_checks : List TerminalRow → List PartitionRow → List PlatterRow → List (ℕ × Bool)
+last_checks terminals partitions platters =
+    (13, programs_fit partitions) ∷ (14, list_all (λ p. may_be_named p.image) platters) ∷ (15, all_orders_fit terminals partitions) ∷ []
+
+-- the checks of platters and printers, of the disks and programs of partitions, and of orders
+abbrev pub checks_of_devices : List TerminalRow → List PartitionRow → List PlatterRow → List PrinterRow → List (ℕ × Bool)
+checks_of_devices terminals partitions platters printers =
     (9, no_two_same (λ p q. same_image p.image q.image) platters) ∷ (10, addresses_fit platters printers)
-    ∷ (11, devices_have_partitions partitions platters printers) ∷ (12, disks_fit partitions platters) ∷ (13, programs_fit partitions)
-    ∷ (14, list_all (λ p. may_be_named p.image) platters) ∷ []
+    ∷ (11, devices_have_partitions partitions platters printers) ∷ (12, disks_fit partitions platters)
+    ∷ last_checks terminals partitions platters
 
 -- the checks of terminals and partitions in ascending order, and of platters and printers
 abbrev pub checks_of_sorted : List TerminalRow → List PartitionRow → List PlatterRow → List PrinterRow → List (ℕ × Bool)
 checks_of_sorted terminals partitions platters printers =
     (6, list_all sizes_fit partitions) ∷ (7, terminals_listed terminals partitions) ∷ (8, all_fronts_fit terminals partitions)
-    ∷ checks_of_devices partitions platters printers
+    ∷ checks_of_devices terminals partitions platters printers
 
 -- the checks of what a document says; those of sizes and between rows look at terminals and partitions in ascending order
 abbrev pub checks : RowsState → List TerminalRow → List PartitionRow → List (ℕ × Bool)
@@ -184,10 +198,17 @@ checks b terminals partitions =
 abbrev pub check_of_rows : RowsState → Option ℕ
 check_of_rows b = first_failed (checks b (terminals_by_number b.terminals) (partitions_by_number b.partitions))
 
--- the numbers of a row are those of a terminal and of a partition, its disk is an address, its program has the name of a file on a
--- disk, an image has that of a file, and a device is for the number of a partition
+-- the numbers of a row are those of a terminal and of a partition, an order has at most sixteen, its disk is an address, its program
+-- has the name of a file on a disk, an image has that of a file, and a device is for the number of a partition
+abbrev pub may_be_order : Option (List ℕ) → Bool
+may_be_order None = true
+may_be_order (Some order) = nat_le (length order) 16 && list_all (is_between 1 16) order
+
 abbrev pub has_places : TerminalRow → Bool
-has_places t = is_between 1 12 t.number && is_between 1 16 t.front
+has_places t = is_between 1 12 t.number && (is_between 1 16 t.front && may_be_order t.order)
+
+abbrev pub is_numbered : PartitionRow → Bool
+is_numbered p = is_between 1 16 p.number
 
 abbrev pub may_be_address : Option (List ℕ) → Bool
 may_be_address None = true
@@ -210,8 +231,18 @@ is_platter_spelled p = is_address p.address && (may_be_named p.image && may_be_n
 abbrev pub is_printer_spelled : PrinterRow → Bool
 is_printer_spelled p = is_address p.address && may_be_number p.only
 
-abbrev pub boot_terminal : TerminalRow → BootTerminal
-boot_terminal r = record { number = r.number; front = r.front }
+-- the partitions of a terminal
+abbrev pub partitions_at : ℕ → List PartitionRow → List ℕ
+partitions_at t [] = []
+partitions_at t (p ∷ ps) = if p.terminal == t then p.number ∷ partitions_at t ps else partitions_at t ps
+
+-- the order in which a terminal goes round: its partitions where none is said
+abbrev pub order_of : ℕ → Option (List ℕ) → List PartitionRow → List ℕ
+order_of t None partitions = partitions_at t partitions
+order_of t (Some order) partitions = order
+
+abbrev pub boot_terminal : List PartitionRow → TerminalRow → BootTerminal
+boot_terminal partitions r = record { number = r.number; front = r.front; order = order_of r.number r.order partitions }
 
 -- the name of a program, with blanks up to eight bytes
 abbrev pub program_of : Option (List ℕ) → Option (List ℕ)
@@ -258,7 +289,7 @@ printers_by_address rows = sorted_by number_of_printer (map boot_printer rows)
 abbrev pub boot_with : RowsState → List TerminalRow → List PartitionRow → BootState
 boot_with b terminals partitions = record {
   quota = b.quota;
-  terminals = map boot_terminal terminals;
+  terminals = map (boot_terminal partitions) terminals;
   partitions = map partition_of partitions;
   platters = platters_by_address b.platters;
   printers = printers_by_address b.printers;
@@ -298,6 +329,10 @@ has_partition t n partitions = list_any (λ p. (p.number == n) && (p.terminal ==
 abbrev pub has_terminal : ℕ → List BootTerminal → Bool
 has_terminal t terminals = list_any (λ r. r.number == t) terminals
 
+-- an order has a partition, none twice, and each is of a terminal
+abbrev pub is_order_at : ℕ → List ℕ → List BootPartition → Bool
+is_order_at t order partitions = is_order order && list_all (λ n. has_partition t n partitions) order
+
 -- numbers ascend from above a first one, and none stands twice
 abbrev pub Ascends : ℕ → List ℕ → Type 0
 Ascends above [] = Unit {0}
@@ -331,6 +366,7 @@ pub record IsGood (b : BootState) : Type 0 where
   pub sizes : list_all (λ p. is_between 2 24 p.text && (is_between 2 24 p.vars && nat_le p.globals 8)) b.partitions ≡ true
   pub listed : list_all (λ p. has_terminal p.terminal b.terminals) b.partitions ≡ true
   pub fronts : list_all (λ t. has_partition t.number t.front b.partitions) b.terminals ≡ true
+  pub orders : list_all (λ t. is_order_at t.number t.order b.partitions) b.terminals ≡ true
   pub few_platters : length b.platters ≤ 8
   pub few_printers : length b.printers ≤ 4
   pub devices_ascend : Ascends 0 (map address_number (device_addresses b.printers b.platters))
@@ -342,10 +378,10 @@ pub record IsGood (b : BootState) : Type 0 where
   pub disks : list_all (λ p. is_disk_for (λ q. q.address) (λ q. q.only) b.platters p.number p.disk) b.partitions ≡ true
   pub programs : list_all (λ p. may_load p.disk p.program) b.partitions ≡ true
 
--- a boot has the quota and the rows of a file, in another order
+-- a boot has the quota and the rows of a file, in another order; a terminal without an order has that of its partitions by number
 pub record Keeps (rows : RowsState) (b : BootState) : Type 0 where
   pub quota : b.quota ≡ rows.quota
-  pub terminals : IsPermutation (map boot_terminal rows.terminals) b.terminals
+  pub terminals : IsPermutation (map (boot_terminal (partitions_by_number rows.partitions)) rows.terminals) b.terminals
   pub partitions : IsPermutation (map partition_of rows.partitions) b.partitions
   pub platters : IsPermutation (map boot_platter rows.platters) b.platters
   pub printers : IsPermutation (map boot_printer rows.printers) b.printers

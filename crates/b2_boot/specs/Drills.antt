@@ -13,7 +13,7 @@ use Rattle.b2_boot.specs.declared.boot.BootPlatter.{BootPlatter}
 use Rattle.b2_boot.specs.declared.log.Event.{Event}
 use Rattle.b2_boot.specs.declared.log.Event.TheVariants as event
 
--- the clerks: eight partitions, each in front of the terminal of its number
+-- the clerks: eight partitions, each in front of the terminal of its number, which goes round to it alone
 abbrev pub clerks : List ℕ
 clerks = 1 ∷ 2 ∷ 3 ∷ 4 ∷ 5 ∷ 6 ∷ 7 ∷ 8 ∷ []
 
@@ -21,7 +21,7 @@ abbrev pub is_clerk : ℕ → Bool
 is_clerk i = is_between 1 8 i
 
 abbrev pub terminal_of : ℕ → BootTerminal
-terminal_of i = record { number = i; front = i }
+terminal_of i = record { number = i; front = i; order = i ∷ [] }
 
 -- a clerk's disk: D10 for the first, D17 for the last
 abbrev pub disk_of : ℕ → List ℕ

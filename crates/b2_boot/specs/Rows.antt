@@ -41,7 +41,7 @@ is_known section.File key =
     spells (codes "quota") key || (spells (codes "terminal") key
     || (spells (codes "partition") key
     || (spells (codes "platter") key || spells (codes "printer") key)))
-is_known section.Terminal key = spells (codes "number") key || spells (codes "front") key
+is_known section.Terminal key = spells (codes "number") key || (spells (codes "front") key || spells (codes "order") key)
 is_known section.Partition key =
     spells (codes "number") key || (spells (codes "terminal") key
     || (spells (codes "text") key || (spells (codes "data") key
@@ -67,13 +67,36 @@ abbrev pub items_of_key : Option Data → Option Items
 items_of_key None = Some no_items
 items_of_key (Some d) = as_array d
 
-abbrev pub terminal_from : Option ℕ → Option ℕ → Option TerminalRow
-terminal_from (Some number) (Some front) = Some (record { number = number; front = front })
-terminal_from number front = None
+-- a row before others
+abbrev pub before_rows : {A : Type 0} → Option A → Option (List A) → Option (List A)
+before_rows (Some x) (Some xs) = Some (x ∷ xs)
+before_rows x xs = None
+
+-- a whole number as it is, and 255 in place of one that is below 0 or above it: no partition has that
+abbrev pub tiny : ℤ → ℕ
+tiny (pos n) = min n 255
+tiny (negsuc n) = 255
+
+-- each item as a number
+abbrev pub numbers_in : Items → Option (List ℕ)
+numbers_in no_items = Some []
+numbers_in (item d ds) = before_rows (option_map tiny (as_integer d)) (numbers_in ds)
+
+-- the order in which a terminal goes round, which may be left out
+abbrev pub order_of_key : Option Data → Option (Option (List ℕ))
+order_of_key None = Some None
+order_of_key (Some d) = option_map (λ order. Some order) (option_and_then numbers_in (as_array d))
+
+abbrev pub terminal_from : Option ℕ → Option ℕ → Option (Option (List ℕ)) → Option TerminalRow
+terminal_from (Some number) (Some front) (Some order) = Some (record { number = number; front = front; order = order })
+terminal_from number front order = None
 
 -- the row of a terminal
 abbrev pub terminal_said : Members → Option TerminalRow
-terminal_said ms = if all_known section.Terminal ms then terminal_from (number_of_key (codes "number") ms) (number_of_key (codes "front") ms) else None
+terminal_said ms =
+    if all_known section.Terminal ms then
+    terminal_from (number_of_key (codes "number") ms) (number_of_key (codes "front") ms) (order_of_key (get_member (codes "order") ms))
+    else None
 
 -- the sizes of a partition: of its text, its variables and its globals
 abbrev pub sizes_from : Option ℕ → Option ℕ → Option ℕ → ℕ → ℕ → Option PartitionRow
@@ -171,11 +194,6 @@ printer_from address only = None
 -- the row of a printer
 abbrev pub printer_row : Members → Option PrinterRow
 printer_row ms = if all_known section.Printer ms then printer_from (text_of_key (codes "address") ms) (only_of_key (get_member (codes "for") ms)) else None
-
--- a row before others
-abbrev pub before_rows : {A : Type 0} → Option A → Option (List A) → Option (List A)
-before_rows (Some x) (Some xs) = Some (x ∷ xs)
-before_rows x xs = None
 
 -- each item as a row of its own
 abbrev pub rows_in : {A : Type 0} → (Members → Option A) → Items → Option (List A)

@@ -7,8 +7,8 @@ use b2_base::{FileName, NoMemory, Part};
 use std::alloc::Global;
 
 impl Boot {
-    /// The boot with a group of partitions alone: those that it doesn't list are dropped, and all else stays, fronts included, and
-    /// devices that are for one of those that are dropped.
+    /// The boot with a group of partitions alone: those that it doesn't list are dropped, and all else stays, fronts and orders
+    /// included, and devices that are for one of those that are dropped.
     pub fn alone(&self, alloc: Global, group: &[Part]) -> Result<Boot, NoMemory>
         ensures alone { IfOk result (λ b. b ≡ alone (is_in_group group.now) self.now) }
     {
@@ -29,6 +29,17 @@ fn is_in_group(group: &[Part], part: Part) -> bool
     group.iter().any(|p| *p == part)
 }
 
+/// A terminal again.
+fn terminal_copied(terminal: &BootTerminal) -> BootTerminal
+    ensures { result ≡ terminal.now }
+{
+    BootTerminal {
+        number: terminal.number,
+        front: terminal.front,
+        order: terminal.order.copied(),
+    }
+}
+
 /// All terminals.
 fn terminals_copied(
     alloc: Global,
@@ -37,7 +48,9 @@ fn terminals_copied(
     ensures { IfOk result (λ copies. copies.items ≡ terminals.now) }
 {
     let mut copies = Vec::new(alloc);
-    copies.extend_from_slice(terminals)?;
+    for terminal in terminals {
+        copies.push(terminal_copied(terminal))?;
+    }
     Ok(copies)
 }
 

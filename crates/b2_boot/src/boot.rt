@@ -1,12 +1,14 @@
 // A boot: the quota of a turn, its terminals and partitions by number, and its platters and printers by address.
 use b2_base::{Addr, FileName, Name8, Part, Term};
+use b2_term::PartList;
 use std::marker::Model;
 
-/// A terminal and the partition in front of it.
-#[derive(Clone, Copy)]
+/// A terminal, the partition in front of it, and the order in which it goes round.
+#[derive(Drop)]
 pub struct BootTerminal {
     pub number: Term,
     pub front: Part,
+    pub order: PartList,
 }
 
 /// A partition on its terminal, and where it has them its disk and the program that it starts from there. The sizes of its

@@ -1,13 +1,14 @@
-// The checks of devices: of platters and printers, and of the disks and programs of partitions.
+// The checks of devices: of platters and printers, of the disks and programs of partitions, and of the orders of terminals.
 ghost use Rattle.std.specs.Prelude.{◌≡◌, ◌==◌, ◌&&◌};
 ghost use Rattle.std.specs.List.{list_all, list_any};
 ghost use Rattle.b2_boot.specs.Boots as spec;
 ghost use Rattle.b2_boot.specs.Rows.{spells};
 
 use crate::numbered::has_number;
+use crate::orders::all_orders_fit;
 use crate::platters::{self, are_platter_addresses, images_differ, images_named};
 use crate::printers::{self, are_printer_addresses};
-use crate::rows::{PartitionRow, PlatterRow, PrinterRow};
+use crate::rows::{PartitionRow, PlatterRow, PrinterRow, TerminalRow};
 use b2_base::{ByteList, Name8};
 
 /// Whether an address is that of a printer or of a platter.
@@ -150,13 +151,35 @@ fn programs_fit(partitions: &[PartitionRow]) -> bool
     partitions.iter().all(|p| may_load(&p.disk, &p.program))
 }
 
-/// The first check that platters, printers, and the disks and programs of partitions fail, from 9, None where they pass them all.
+/// The first check that programs, the names of images and orders fail, from 13, None where they pass them all.
+fn last_check(
+    terminals: &[TerminalRow],
+    partitions: &[PartitionRow],
+    platters: &[PlatterRow],
+) -> Option<u8>
+    ensures { result ≡ spec.first_failed (spec.last_checks terminals.now partitions.now platters.now) }
+{
+    if !programs_fit(partitions) {
+        return Some(13);
+    }
+    if !images_named(platters) {
+        return Some(14);
+    }
+    if !all_orders_fit(terminals, partitions) {
+        return Some(15);
+    }
+    None
+}
+
+/// The first check that platters, printers, the disks and programs of partitions, and orders fail, from 9, None where they pass
+/// them all.
 pub fn check_of_devices(
+    terminals: &[TerminalRow],
     partitions: &[PartitionRow],
     platters: &[PlatterRow],
     printers: &[PrinterRow],
 ) -> Option<u8>
-    ensures { result ≡ spec.first_failed (spec.checks_of_devices partitions.now platters.now printers.now) }
+    ensures { result ≡ spec.first_failed (spec.checks_of_devices terminals.now partitions.now platters.now printers.now) }
 {
     if !images_differ(platters) {
         return Some(9);
@@ -170,11 +193,5 @@ pub fn check_of_devices(
     if !disks_fit(partitions, platters) {
         return Some(12);
     }
-    if !programs_fit(partitions) {
-        return Some(13);
-    }
-    if !images_named(platters) {
-        return Some(14);
-    }
-    None
+    last_check(terminals, partitions, platters)
 }

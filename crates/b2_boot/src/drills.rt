@@ -10,6 +10,7 @@ use crate::boot::{Boot, BootPartition, BootPlatter, BootTerminal};
 use crate::log::{Event, push_text};
 use crate::log_lines::plain_number;
 use b2_base::{Addr, NoMemory, Part, Term};
+use b2_term::PartList;
 use itoa::Buffer;
 use std::alloc::Global;
 
@@ -19,6 +20,20 @@ const MOST: u32 = 5000;
 /// The clerks: eight partitions, each in front of the terminal of its number.
 const CLERKS: [u8; 8] = [1, 2, 3, 4, 5, 6, 7, 8];
 
+/// A clerk's terminal, which goes round to the clerk alone.
+fn terminal_of(clerk: u8) -> BootTerminal
+    requires { spec.is_clerk clerk ≡ true }
+    ensures { result ≡ spec.terminal_of clerk }
+{
+    let mut order = PartList::new();
+    order.push(Part::known(clerk));
+    BootTerminal {
+        number: Term::known(clerk),
+        front: Part::known(clerk),
+        order,
+    }
+}
+
 /// The terminals of clerks.
 fn terminals_of(alloc: Global, clerks: &[u8]) -> Result<Vec<BootTerminal>, NoMemory>
     requires { list_all spec.is_clerk clerks.now ≡ true }
@@ -26,10 +41,7 @@ fn terminals_of(alloc: Global, clerks: &[u8]) -> Result<Vec<BootTerminal>, NoMem
 {
     let mut terminals = Vec::new(alloc);
     for clerk in clerks {
-        terminals.push(BootTerminal {
-            number: Term::known(*clerk),
-            front: Part::known(*clerk),
-        })?;
+        terminals.push(terminal_of(*clerk))?;
     }
     Ok(terminals)
 }

@@ -2,7 +2,7 @@
 ghost use Rattle.std.specs.Prelude.{◌≡◌, IfOk, IfSome, Option, Some, true, codes, option_map, option_and_then};
 ghost use Rattle.std.specs.Option.{option_copied};
 ghost use Rattle.toml.specs.View.{view, table_view, items_view};
-ghost use Rattle.toml.specs.Data.{Members, get_member, as_integer, as_table};
+ghost use Rattle.toml.specs.Data.{Members, get_member, as_array, as_integer, as_table};
 ghost use Rattle.b2_boot.specs.Rows as spec;
 
 use b2_base::{ByteList, NoMemory};
@@ -30,11 +30,13 @@ pub enum Section {
     Printer,
 }
 
-/// A terminal as it is written, with 65,535 in place of each number outside 0 to 65,535.
-#[derive(Clone, Copy)]
+/// A terminal as it is written, with 65,535 in place of each number outside 0 to 65,535; and the numbers of its order, where it
+/// has one, with 255 in place of each outside 0 to 255.
+#[derive(Drop)]
 pub struct TerminalRow {
     pub number: u16,
     pub front: u16,
+    pub order: Option<ByteList>,
 }
 
 /// A partition as it is written, with 65,535 in place of each number outside 0 to 65,535. Its sizes are in KiB, and its disk
@@ -136,7 +138,9 @@ fn is_known(section: Section, key: &[u8]) -> bool
                 || key == b"platter".as_slice()
                 || key == b"printer".as_slice()
         }
-        Section::Terminal => key == b"number".as_slice() || key == b"front".as_slice(),
+        Section::Terminal => {
+            key == b"number".as_slice() || key == b"front".as_slice() || key == b"order".as_slice()
+        }
         Section::Partition => {
             key == b"number".as_slice()
                 || key == b"terminal".as_slice()
@@ -196,20 +200,74 @@ fn text_of_key<'a>(table: &'a Table, key: &str) -> Option<&'a str>
     }
 }
 
+/// A whole number as it is, or 255 where it is outside 0 to 255.
+fn tiny(n: i64) -> u8
+    ensures { result ≡ spec.tiny n }
+{
+    match u8::try_from(n) {
+        Ok(n) => n,
+        Err(_) => u8::MAX,
+    }
+}
+
+/// All items as numbers, None where one is no whole number.
+fn numbers_in(alloc: Global, items: &[Value]) -> Result<Option<ByteList>, NoMemory>
+    ensures { IfOk result (λ found. found ≡ spec.numbers_in (items_view items.now)) }
+{
+    let mut numbers = Vec::new(alloc);
+    for item in items {
+        match item.as_integer() {
+            Some(n) => numbers.push(tiny(n))?,
+            None => return Ok(None),
+        }
+    }
+    Ok(Some(ByteList::new(numbers)))
+}
+
+/// The order that a value says, None where it is no list of whole numbers.
+fn order_in(alloc: Global, value: &Value) -> Result<Option<ByteList>, NoMemory>
+    ensures { IfOk result (λ found. found ≡ option_and_then spec.numbers_in (as_array (view value.now))) }
+{
+    match value.as_array() {
+        Some(array) => numbers_in(alloc, array.as_slice()),
+        None => Ok(None),
+    }
+}
+
+/// The order of a terminal, None within where none is said, and None where that is no list of whole numbers.
+fn order_said(alloc: Global, table: &Table) -> Result<Option<Option<ByteList>>, NoMemory>
+    ensures { IfOk result (λ found. found ≡ spec.order_of_key (get_member (codes "order") (table_view table.now))) }
+{
+    match value_at(table, "order") {
+        Some(value) => match order_in(alloc, value)? {
+            Some(order) => Ok(Some(Some(order))),
+            None => Ok(None),
+        },
+        None => Ok(Some(None)),
+    }
+}
+
 /// The row of a terminal, None where a key is unknown, missing or of another kind.
-fn terminal_said(table: &Table) -> Option<TerminalRow>
-    ensures { result ≡ spec.terminal_said (table_view table.now) }
+fn terminal_said(alloc: Global, table: &Table) -> Result<Option<TerminalRow>, NoMemory>
+    ensures { IfOk result (λ found. found ≡ spec.terminal_said (table_view table.now)) }
 {
     if !all_known(Section::Terminal, table) {
-        return None;
+        return Ok(None);
     }
     let Some(number) = number_of_key(table, "number") else {
-        return None;
+        return Ok(None);
     };
     let Some(front) = number_of_key(table, "front") else {
-        return None;
+        return Ok(None);
     };
-    Some(TerminalRow { number, front })
+    let Some(order) = order_said(alloc, table)? else {
+        return Ok(None);
+    };
+    Ok(Some(TerminalRow {
+        number,
+        front,
+        order,
+    }))
 }
 
 /// The sizes of a partition, None where one is missing or of another kind.
@@ -486,7 +544,7 @@ impl TableRow for TerminalRow {
     ghost of_table = { terminal_said };
 
     fn from_table(alloc: Global, table: &Table) -> Result<Option<TerminalRow>, NoMemory> {
-        Ok(terminal_said(table))
+        terminal_said(alloc, table)
     }
 }
 

@@ -1,5 +1,5 @@
 -- A boot of a file can start, and so can one with a group alone: it has few devices, and each address once, since they ascend by
--- their numbers.
+-- their numbers; its orders are orders.
 use Rattle.std.specs.Prelude.{◌≡◌, ℕ, ◌<◌, ◌≤◌, Bool, true, false, not, cond, ◌&&◌, ◌||◌, List, [], ◌∷◌, filter, length, map, Option, Some, None, is_some, refl}
 use Rattle.std.proofs.Common.{ap, ◌∙◌, arith}
 use Rattle.std.proofs.lemmas.Bool.{and_parts}
@@ -9,11 +9,14 @@ use Rattle.std.specs.List.{list_all, list_any}
 use Rattle.std.specs.Str.{bytes_eq}
 use Rattle.b2_access.specs.Devices.{are_distinct}
 use Rattle.b2_boot.specs.Alone.{alone}
-use Rattle.b2_boot.specs.Boots.{Ascends, BootState, IsGood, address_number, device_addresses, is_program_name, may_load}
+use Rattle.b2_boot.specs.Boots.{Ascends, BootState, IsGood, address_number, device_addresses, has_partition, is_order_at, is_program_name, may_load}
 use Rattle.b2_boot.specs.declared.boot.BootPartition.{BootPartition}
 use Rattle.b2_boot.specs.declared.boot.BootPlatter.{BootPlatter}
 use Rattle.b2_boot.specs.declared.boot.BootPrinter.{BootPrinter}
-use Rattle.b2_sched.specs.Start.{CanStart, devices_of, may_start, platter_device, printer_device}
+use Rattle.b2_boot.specs.declared.boot.BootTerminal.{BootTerminal}
+use Rattle.b2_store.specs.Start.{has_order}
+use Rattle.b2_term.specs.Orders.{is_order}
+use Rattle.b2_sched.specs.Start.{CanStart, devices_of, front_of_boot, may_start, platter_device, printer_device}
 
 higher : (n m : ℕ) (xs : List ℕ) → n < m → Ascends m xs → Ascends n xs
 higher n m [] below ascend = tt
@@ -73,11 +76,20 @@ all_start (p ∷ ps) load =
     let (here, more) = and_parts (may_load p.disk p.program) (list_all (λ p. may_load p.disk p.program) ps) load in
     rw (loaded_starts p.disk p.program here) (all_start ps more)
 
+-- an order of partitions of a terminal is one
+all_ordered : (ps : List BootPartition) (ts : List BootTerminal) → list_all (λ t. is_order_at t.number t.order ps) ts ≡ true → list_all has_order (map front_of_boot ts) ≡ true
+all_ordered ps [] orders = refl
+all_ordered ps (t ∷ ts) orders =
+    let (here, more) = and_parts (is_order_at t.number t.order ps) (list_all (λ t. is_order_at t.number t.order ps) ts) orders in
+    let (is, placed) = and_parts (is_order t.order) (list_all (λ n. has_partition t.number n ps) t.order) here in
+    rw is (all_ordered ps ts more)
+
 pub can_start : (b : BootState) → IsGood b → CanStart b
 can_start b good = record {
   few = at_most_twelve b.printers b.platters good.few_printers good.few_platters;
   distinct = rw (of_devices b.printers b.platters) (distinct 0 (device_addresses b.printers b.platters) good.devices_ascend);
   programs = all_start b.partitions good.programs;
+  orders = all_ordered b.partitions b.terminals good.orders;
 }
 
 -- those that a group keeps start too
@@ -93,4 +105,4 @@ kept_start group (p ∷ ps) start =
     kept_by (group p.number) p (filter (λ q. group q.number) ps) here (kept_start group ps more)
 
 pub starts_alone : (b : BootState) (group : ℕ → Bool) → CanStart b → CanStart (alone group b)
-starts_alone b group can = record { few = can.few; distinct = can.distinct; programs = kept_start group b.partitions can.programs }
+starts_alone b group can = record { few = can.few; distinct = can.distinct; programs = kept_start group b.partitions can.programs; orders = can.orders }

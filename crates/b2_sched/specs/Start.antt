@@ -11,7 +11,7 @@ use Rattle.b2_access.specs.Partition.{at_start}
 use Rattle.b2_access.specs.Store.{StoreState}
 use Rattle.b2_audit.specs.Marks.{unmarked}
 use Rattle.b2_audit.specs.Steps.{IsPartition, IsTerminal}
-use Rattle.b2_store.specs.Start.{Areas, text_row, borrow_row, globals_row, idle_row, blank_row, with_keys, free_row}
+use Rattle.b2_store.specs.Start.{Areas, Round, text_row, borrow_row, globals_row, has_order, idle_row, blank_row, with_keys, free_row}
 use Rattle.b2_boot.specs.Boots.{BootState, is_program_name}
 use Rattle.b2_boot.specs.declared.boot.BootPartition.{BootPartition}
 use Rattle.b2_boot.specs.declared.boot.BootPlatter.{BootPlatter}
@@ -40,9 +40,9 @@ private_row p = (p.number, at_start p.number p.terminal (in_bytes p.vars) (start
 abbrev pub areas_of : BootPartition → Areas
 areas_of p = (p.number, in_bytes p.text, in_bytes p.globals)
 
--- a terminal, and the partition in front of it
-abbrev pub front_of_boot : BootTerminal → ℕ × ℕ
-front_of_boot t = (t.number, t.front)
+-- a terminal, the partition in front of it, and the order in which it goes round
+abbrev pub front_of_boot : BootTerminal → Round
+front_of_boot t = (t.number, t.front, t.order)
 
 -- the images of the platters of a boot, in its order
 abbrev pub Images : Type 0
@@ -73,11 +73,13 @@ abbrev pub may_start : Option (List ℕ) → Bool
 may_start None = true
 may_start (Some name) = is_program_name name
 
--- at most twelve devices, each address once, and programs whose names can stand in a line
+-- at most twelve devices, each address once, programs whose names can stand in a line, and orders of terminals with a partition each, and
+-- none twice
 pub record CanStart (b : BootState) : Type 0 where
   pub few : length (devices_of b.printers b.platters) ≤ 12
   pub distinct : are_distinct (addresses b) ≡ true
   pub programs : list_all (λ p. may_start p.program) b.partitions ≡ true
+  pub orders : list_all has_order (map front_of_boot b.terminals) ≡ true
 
 -- empty texts, nobody inside, no `@` variables, idle terminals, printers that printed nothing, the platters with their images, and
 -- nobody who holds a device or a name

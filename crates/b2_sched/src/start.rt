@@ -11,6 +11,7 @@ use b2_atom::{Atoms, words};
 use b2_base::{Addr, Name8, NoMemory, Part, Term};
 use b2_boot::{BootPartition, BootPlatter, BootPrinter, BootTerminal};
 use b2_store::Rows;
+use b2_term::PartList;
 use std::alloc::Global;
 
 /// How many bytes a size in KiB is.
@@ -87,13 +88,16 @@ pub fn areas_of(
     Ok(areas)
 }
 
-/// Each terminal, with the partition in front of it.
-pub fn fronts_of(alloc: Global, terminals: &[BootTerminal]) -> Result<Vec<(Term, Part)>, NoMemory>
+/// Each terminal, with the partition in front of it and the order in which it goes round.
+pub fn fronts_of(
+    alloc: Global,
+    terminals: &[BootTerminal],
+) -> Result<Vec<(Term, Part, PartList)>, NoMemory>
     ensures { IfOk result (λ fronts. fronts.items ≡ map front_of_boot terminals.now) }
 {
     let mut fronts = Vec::new(alloc);
     for t in terminals {
-        fronts.push((t.number, t.front))?;
+        fronts.push((t.number, t.front, t.order.copied()))?;
     }
     Ok(fronts)
 }

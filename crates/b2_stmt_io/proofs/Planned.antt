@@ -18,11 +18,13 @@ use Rattle.b2_access.specs.Placed.{Statement}
 use Rattle.b2_access.specs.Planning.{goes_or}
 use Rattle.b2_access.specs.Reach.{at_terminal}
 use Rattle.b2_access.specs.Showing.{shown_or_printed}
+use Rattle.b2_access.specs.Views.{handed_on}
 use Rattle.b2_access.specs.Working.{Worked, Working, leaves, planned_of, stops}
 use Rattle.b2_access.specs.declared.accesses.Access.{Access}
 use Rattle.b2_access.specs.declared.accesses.Access.TheVariants as access
 use Rattle.b2_access.specs.declared.accesses.Answer.{Answer}
 use Rattle.b2_access.specs.declared.devices.Device.{Device}
+use Rattle.b2_access.specs.declared.planned.Outcome.{Outcome}
 use Rattle.b2_access.specs.declared.planned.Outcome.TheVariants as outcome
 use Rattle.b2_access.specs.declared.planned.Planned.{Planned}
 use Rattle.b2_access.specs.declared.planned.Planned.TheVariants as planned
@@ -92,7 +94,7 @@ module _ (devices : List Device) (who : ℕ) (F : Planned → Type 0) (e : Conte
         each_at o (asks_to_print t e) is (λ at. each_laid at (prints (record { context = e; outlet = at }) (width_of at) (column_of at) t)),
         (
           each_at o (asks_to_print_using t e) is (λ at. each_shown at (prints_using e t)),
-          (asks (access.Key e.around.term) refl, (line, (line, tt))),
+          (asks (access.Key e.around.term) refl, (line, (line, (asks (access.Release e.around.term) refl, tt)))),
         ),
       ) (unassigned S27_LEFT_OUT)
 
@@ -118,9 +120,9 @@ module _ (devices : List Device) (me : Private) (s : SeenLent) (F : Planned → 
   each_planned = each_course is_refused stops (does devices me s) me s Each ready (failed S26_PROGRAM_ONLY) (λ p is u. each_statement u)
 
 -- and of how a statement finishes: something was shown or printed, a key or a line was asked for, or nothing changes and it goes on or is
--- repeated
+-- repeated, as where the terminal is handed on
 module _ (F : Worked → Type 0) (x : Access) (a : Answer) (me : Private) (s : SeenLent) (shows : F (shown_or_printed x a me)) (goes : F (leaves me outcome.Next)) (repeats : F (leaves me outcome.Repeat)) where
   pub each_ended : (u : Statement) (p : Place) → F (key_taken x a p u.tree me s) → ((r : ℕ) → F (takes_line r u.tree p x a me s)) → F (ended_of u p x a me s)
   each_ended u p keys typed =
       let Holds : Finishes → Type 0 = λ finishes. F (finishes u.tree p x a me s) in
-      each_row Holds finishing_rows nothing_asked u.row (shows, (shows, (keys, (typed row.LINPUT, (typed row.INPUT, tt))))) repeats
+      each_row Holds finishing_rows nothing_asked u.row (shows, (shows, (keys, (typed row.LINPUT, (typed row.INPUT, (either (λ (o : Outcome). F (leaves me o)) (handed_on x a) outcome.Next outcome.Repeat goes repeats, tt)))))) repeats

@@ -2,6 +2,7 @@ pub mod TypedText
 pub mod Outlets
 pub mod Printing
 pub mod Keys
+pub mod Handing
 pub mod LineReading
 pub mod Converting
 pub mod Inputs

@@ -21,6 +21,7 @@ use Rattle.b2_access.specs.Partition.{setting_of}
 use Rattle.b2_access.specs.Showing.{shown_or_printed}
 use Rattle.b2_stmt_io.specs.Converting.{converts}
 use Rattle.b2_stmt_io.specs.Inputs.{takes_typed}
+use Rattle.b2_stmt_io.specs.Handing.{hands_on}
 use Rattle.b2_stmt_io.specs.Keys.{key_taken}
 use Rattle.b2_stmt_io.specs.LineReading.{asks_line, line_answered, prompt_of}
 use Rattle.b2_access.specs.Courses.{Here, course}
@@ -52,6 +53,7 @@ asking_rows =
     ∷ (row.KEYIN, λ t e o column prompted. planned.Ask (access.Key e.around.term))
     ∷ (row.LINPUT, λ t e o column prompted. planned.Ask (asks_line prompted column e.around.term (prompt_of t)))
     ∷ (row.INPUT, λ t e o column prompted. planned.Ask (asks_line prompted column e.around.term (prompt_of t)))
+    ∷ (row.RELEASE, λ t e o column prompted. planned.Ask (access.Release e.around.term))
     ∷ []
 
 -- what isn't built is left out
@@ -90,6 +92,7 @@ finishing_rows =
     ∷ (row.KEYIN, λ t p x a me s. key_taken x a p t me s)
     ∷ (row.LINPUT, λ t p x a me s. takes_line row.LINPUT t p x a me s)
     ∷ (row.INPUT, λ t p x a me s. takes_line row.INPUT t p x a me s)
+    ∷ (row.RELEASE, λ t p x a me s. hands_on x a me)
     ∷ []
 
 -- one that asks for nothing repeats its step

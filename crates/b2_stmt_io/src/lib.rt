@@ -1,7 +1,8 @@
-//! Statements at the terminal: PRINT, PRINTUSING, CONVERT, KEYIN, LINPUT and INPUT. The first two may show at a printer.
+//! Statements at the terminal: PRINT, PRINTUSING, CONVERT, KEYIN, LINPUT, INPUT and $RELEASE TERMINAL. The first two may show at
+//! a printer.
 //!
 //! `plan` takes the statement at a partition's place, over the devices that there are: it ends at once, or asks that bytes are
-//! shown or printed, or for a line or a key; `finish` does the rest by the answer. What each statement does is said by its row and its tree in `specs/`, a statement a
+//! shown or printed, for a line or a key, or that the terminal is handed on; `finish` does the rest by the answer. What each statement does is said by its row and its tree in `specs/`, a statement a
 //! file or two; `Plan` finds the unit and chooses among them. PRINT and PRINTUSING finish by what they asked for and its answer alone
 //! (`is_printing`, `finish_printing`). `is_built` tells which rows are built here.
 //! `laws` says what a statement leaves alone, and for which devices it asks.
@@ -12,6 +13,7 @@
 #![tactic(auto)]
 
 mod converting;
+mod handing;
 mod imaging;
 mod inputs;
 mod keys;

@@ -10,6 +10,7 @@ ghost use Rattle.b2_access.specs.Working.{plans_by};
 ghost use Rattle.b2_stmt_io.specs.Plan as spec;
 
 use crate::converting::convert_unit;
+use crate::handing::after_release;
 use crate::inputs::{ask_input, line_entered, take_typed, without_line};
 use crate::keys::{after_key, assign_key, key_byte};
 use crate::line_reading::ask_linput;
@@ -32,7 +33,13 @@ pub fn is_built(row: u16) -> bool
 {
     matches!(
         row,
-        rows::PRINT | rows::PRINTUSING | rows::KEYIN | rows::LINPUT | rows::INPUT | rows::CONVERT
+        rows::PRINT
+            | rows::PRINTUSING
+            | rows::KEYIN
+            | rows::LINPUT
+            | rows::INPUT
+            | rows::RELEASE
+            | rows::CONVERT
     )
 }
 
@@ -69,6 +76,7 @@ fn ask(
         rows::KEYIN => Ok(Planned::Ask(Access::Key { term })),
         rows::LINPUT => Ok(Planned::Ask(ask_linput(alloc, prompted, column, term, unit.bytes)?)),
         rows::INPUT => Ok(Planned::Ask(ask_input(alloc, prompted, column, term, unit.bytes)?)),
+        rows::RELEASE => Ok(Planned::Ask(Access::Release { term })),
         _ => Ok(Planned::Done(failed(S27_LEFT_OUT))),
     }
 }
@@ -226,6 +234,7 @@ pub fn finish(
             me.term_column = 0;
             Ok(goes_or(Outcome::Next, code))
         }
+        rows::RELEASE => Ok(after_release(access, answer)),
         _ => Ok(Outcome::Repeat),
     }
 }

@@ -1,8 +1,9 @@
 -- A store as it starts: empty texts, nobody inside, no `@` variables, idle terminals, printers that printed nothing, the platters of
 -- the boot, and nobody who holds a device or a name.
-use Rattle.std.specs.Prelude.{ℕ, List, [], ◌∷◌, ◌++◌, map, Option, None}
+use Rattle.std.specs.Prelude.{ℕ, Bool, List, [], ◌∷◌, ◌++◌, map, Option, None}
 use Rattle.b2_text.specs.Program.{TextState}
 use Rattle.b2_vars.specs.Tables.{VarsState}
+use Rattle.b2_term.specs.Orders.{is_order}
 use Rattle.b2_term.specs.Terminal.{TerminalState}
 use Rattle.b2_access.specs.Partition.{no_variables}
 use Rattle.b2_access.specs.Store.{StoreState}
@@ -21,9 +22,15 @@ borrow_row p = (p.0, [])
 abbrev pub globals_row : Areas → ℕ × VarsState
 globals_row p = (p.0, no_variables p.2)
 
--- a terminal, and the partition in front of it
-abbrev pub idle_row : ℕ × ℕ → ℕ × TerminalState
-idle_row t = (t.0, record { queue = []; front = t.1; line = []; transcript = [] })
+-- a terminal, the partition in front of it, and the order in which it goes round, which has a partition, and none twice
+abbrev pub Round : Type 0
+Round = ℕ × ℕ × List ℕ
+
+abbrev pub has_order : Round → Bool
+has_order t = is_order t.2
+
+abbrev pub idle_row : Round → ℕ × TerminalState
+idle_row t = (t.0, record { queue = []; front = t.1; order = t.2; line = []; transcript = [] })
 
 -- contents at their keys, one after the other
 abbrev pub with_keys : {K X : Type 0} → List K → List X → List (K × X)

@@ -5,7 +5,7 @@ ghost use Rattle.b2_access.specs.Rows.{row_of};
 ghost use Rattle.b2_access.specs.Stopping.{first_inside};
 ghost use Rattle.b2_store.specs.Inside.{entered, given_back, given_one_back, left};
 
-use crate::part_list::PartList;
+use crate::insiders::Insiders;
 use crate::rows::Rows;
 use b2_access::{all_parts, is_marked};
 use b2_base::{NoMemory, Part};
@@ -14,7 +14,7 @@ use std::marker::Model;
 /// Who stands inside the text of each partition, in rows by the partitions. Contracts see the list of the rows.
 #[derive(Drop)]
 pub struct Borrows {
-    rows: Rows<Part, PartList>,
+    rows: Rows<Part, Insiders>,
 }
 
 impl Model for Borrows {
@@ -27,7 +27,7 @@ impl Model for Borrows {
 
 impl Borrows {
     /// These rows. It takes no memory.
-    pub fn new(rows: Rows<Part, PartList>) -> Borrows
+    pub fn new(rows: Rows<Part, Insiders>) -> Borrows
         ensures { result ≡ rows }
     {
         Borrows { rows }

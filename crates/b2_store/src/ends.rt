@@ -1,9 +1,10 @@
 // A shared store from its start to its end: how it is made, what the outside does to it, and what is shown of it.
-ghost use Rattle.std.specs.Prelude.{◌≡◌, IfOk, length, option_copied};
+ghost use Rattle.std.specs.Prelude.{◌≡◌, IfOk, length, option_copied, true};
+ghost use Rattle.std.specs.List.{list_all};
 ghost use Rattle.b2_access.specs.Store.{content};
 ghost use Rattle.b2_store.specs.Changes.{keyed_at, front_at, room_at};
 ghost use Rattle.b2_store.specs.Plainly.{ServesPlainly};
-ghost use Rattle.b2_store.specs.Start.{store_at_start};
+ghost use Rattle.b2_store.specs.Start.{has_order, store_at_start};
 
 use crate::boot::StoreBoot;
 use b2_access::{Object, Shared};
@@ -16,9 +17,10 @@ use std::alloc::Global;
 /// in the end.
 pub trait Ends: Shared + Sized {
     /// The store of a boot: empty texts, no `@` variables, idle terminals, printers that printed nothing, and these platters, one for each
-    /// address of the boot, in its order. Nobody holds a device.
+    /// address of the boot, in its order. Nobody holds a device. The order in which a terminal goes round has a partition, and none twice.
     fn new(alloc: Global, b: &StoreBoot, platters: Vec<Platter>) -> Result<Self, NoMemory>
         requires as_many { length b.now.platters.items ≡ length platters.items }
+        requires orders { list_all has_order b.now.terminals.items ≡ true }
         ensures at_start { IfOk result (λ s. Self.store (Self.meaning s) ≡ store_at_start b.now platters.items) };
 
     /// A terminal, None exactly where it isn't listed.

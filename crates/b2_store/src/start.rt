@@ -1,13 +1,14 @@
 // The rows of a store as it starts.
-ghost use Rattle.std.specs.Prelude.{◌≡◌, ◌++◌, IfOk, OnOk, length, map};
-ghost use Rattle.b2_store.specs.Start.{text_row, borrow_row, globals_row, idle_row, blank_row, free_row, with_keys};
+ghost use Rattle.std.specs.Prelude.{◌≡◌, ◌++◌, IfOk, OnOk, length, map, true};
+ghost use Rattle.std.specs.List.{list_all};
+ghost use Rattle.b2_store.specs.Start.{text_row, borrow_row, globals_row, has_order, idle_row, blank_row, free_row, with_keys};
 
-use crate::part_list::PartList;
+use crate::insiders::Insiders;
 use crate::printer::Printer;
 use crate::rows::Rows;
 use b2_base::{Addr, NoMemory, Part, Term};
 use b2_platter::Platter;
-use b2_term::Terminal;
+use b2_term::{PartList, Terminal};
 use b2_text::Text;
 use b2_vars::Vars;
 use std::alloc::Global;
@@ -30,12 +31,12 @@ pub fn texts_of(
 pub fn borrows_of(
     alloc: Global,
     partitions: &[(Part, usize, usize)],
-) -> Result<Rows<Part, PartList>, NoMemory>
+) -> Result<Rows<Part, Insiders>, NoMemory>
     ensures { IfOk result (λ rows. rows ≡ map borrow_row partitions.now) }
 {
     let mut rows = Rows::new(alloc);
     for partition in partitions {
-        rows.add(partition.0, PartList::new(Vec::new(alloc)))?;
+        rows.add(partition.0, Insiders::new(Vec::new(alloc)))?;
     }
     Ok(rows)
 }
@@ -54,16 +55,20 @@ pub fn globals_of(
     Ok(rows)
 }
 
-/// An idle terminal for each, with its partition in front.
+/// An idle terminal for each, with its partition in front and its order.
 pub fn terminals_of(
     alloc: Global,
-    terminals: &[(Term, Part)],
+    terminals: &[(Term, Part, PartList)],
 ) -> Result<Rows<Term, Terminal>, NoMemory>
+    requires orders { list_all has_order terminals.now ≡ true }
     ensures { IfOk result (λ rows. rows ≡ map idle_row terminals.now) }
 {
     let mut rows = Rows::new(alloc);
     for terminal in terminals {
-        rows.add(terminal.0, Terminal::new(alloc, terminal.1)?)?;
+        rows.add(
+            terminal.0,
+            Terminal::new(alloc, terminal.1, terminal.2.parts())?,
+        )?;
     }
     Ok(rows)
 }

@@ -1,10 +1,11 @@
 // The store: its rows, how each access is served, and what is lent.
-ghost use Rattle.std.specs.Prelude.{◌≡◌, ◌++◌, map, length, IfOk, IfErr};
+ghost use Rattle.std.specs.Prelude.{◌≡◌, ◌++◌, map, length, true, IfOk, IfErr};
+ghost use Rattle.std.specs.List.{list_all};
 ghost use Rattle.b2_access.specs.Loans.{lender_at};
 ghost use Rattle.b2_access.specs.Store.{StoreState};
 ghost use Rattle.b2_access.specs.Touching.{IsLegal, MayWantMemory};
 ghost use Rattle.b2_store.specs.Asked.{IsGoodIfSkipped};
-ghost use Rattle.b2_store.specs.Start.{text_row, borrow_row, globals_row, idle_row, blank_row, free_row, with_keys};
+ghost use Rattle.b2_store.specs.Start.{text_row, borrow_row, globals_row, has_order, idle_row, blank_row, free_row, with_keys};
 
 use crate::boot::StoreBoot;
 use crate::borrows::Borrows;
@@ -73,6 +74,7 @@ fn homes_of(alloc: Global, b: &StoreBoot) -> Result<Homes, NoMemory>
 
 fn devices_of(alloc: Global, b: &StoreBoot, platters: Vec<Platter>) -> Result<Devices, NoMemory>
     requires as_many { length b.now.platters.items ≡ length platters.items }
+    requires orders { list_all has_order b.now.terminals.items ≡ true }
     ensures terminals { IfOk result (λ d. d.terminals ≡ map idle_row b.now.terminals.items) }
     ensures printers { IfOk result (λ d. d.printers ≡ map blank_row b.now.printers.items) }
     ensures platters { IfOk result (λ d. d.platters ≡ with_keys b.now.platters.items platters.items) }
@@ -119,6 +121,7 @@ impl Stores {
             Access::ReadLine { term } => self.read_line(*term),
             Access::Insert { term, bytes } => self.insert(*term, bytes.bytes()),
             Access::Key { term } => Ok(self.take_key(*term)),
+            Access::Release { term } => Ok(self.release(*term)),
             Access::PutLine { line, atoms, homes } => match atoms {
                 Some(atoms) => self.put_line(who, *line, atoms, *homes),
                 None => Ok(self.erase(who, *line, *line, *homes)),

@@ -72,4 +72,14 @@ impl Stores {
             None => Answer::NoKeys,
         }
     }
+
+    /// Hands a terminal on.
+    pub(crate) fn release(&mut self, term: Term) -> Answer
+        ensures { (who : ℕ) → Does who (Access.Release term) self.old self.new result }
+    {
+        if let Some(terminal) = self.terminals.get_mut(term) {
+            terminal.release();
+        }
+        Answer::Done
+    }
 }

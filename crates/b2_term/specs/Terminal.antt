@@ -1,7 +1,8 @@
--- A terminal: keys that wait, the partition in front, the line being typed, and all that was shown.
+-- A terminal: keys that wait, the partition in front, the order in which it goes round, the line being typed, and all that was shown.
 use Rattle.std.specs.Prelude.{◌≤◌, ℕ, ◌-◌, Bool, true, ◌&&◌, ◌==◌, nat_lt, not, List, [], ◌∷◌, ◌++◌, length, take, if◌then◌else◌}
 use Rattle.b2_base.specs.Byte as byte
 use Rattle.b2_base.specs.Lexical.{is_printable}
+use Rattle.b2_term.specs.Orders.{next_in}
 use Rattle.b2_term.specs.declared.KeyItem.{KeyItem}
 use Rattle.b2_term.specs.declared.KeyItem.TheVariants.{Byte, Special}
 use Rattle.b2_term.specs.declared.Read.{Read}
@@ -10,6 +11,7 @@ use Rattle.b2_term.specs.declared.Read.TheVariants as read
 pub record TerminalState : Type 0 where
   pub queue : List KeyItem
   pub front : ℕ
+  pub order : List ℕ
   pub line : List ℕ
   pub transcript : List ℕ
 
@@ -109,7 +111,11 @@ line_read t = (reading_at t).answer
 
 -- the terminal after the reading of a line
 abbrev pub after_read : TerminalState → TerminalState
-after_read t = record { queue = (reading_at t).queue; front = t.front; line = (reading_at t).line; transcript = (reading_at t).transcript }
+after_read t = record { queue = (reading_at t).queue; front = t.front; order = t.order; line = (reading_at t).line; transcript = (reading_at t).transcript }
+
+-- the terminal after its front handed it on: the one that comes next in the order is in front
+abbrev pub released : TerminalState → TerminalState
+released t = record t { front = next_in t.order t.front }
 
 -- a line that was read has at most 256 bytes
 abbrev pub IsShortLine : Read → Type 0

@@ -1,16 +1,24 @@
-//! A terminal: a queue of keys, the partition in front, the line being typed, and a transcript of all that it showed.
+//! A terminal: a queue of keys, the partition in front, the order in which it goes round, the line being typed, and a
+//! transcript of all that it showed.
 //!
-//! Stands on `b2_base`. The definition is `specs/Terminal.antt`: a terminal is seen in contracts as its record of lists,
-//! and each call is proved to be the function of that file, for every queue, line and transcript.
+//! Stands on `b2_base` and `arrayvec`. The definition is `specs/Terminal.antt`: a terminal is seen in contracts as its record
+//! of lists, and each call is proved to be the function of that file, for every queue, order, line and transcript.
+//! `specs/Orders.antt` has which partition comes next in an order.
 #![tactic(auto)]
 
-ghost use Rattle.std.specs.Prelude.{◌≡◌, ◌≤◌, ◌<◌, [], ◌++◌, length, nat_lt, drop, slice_get, OnOk, IfOk, false, ◌↔◌};
+ghost use Rattle.std.specs.Prelude.{◌≡◌, ◌≤◌, ◌<◌, [], ◌++◌, length, nat_lt, drop, slice_get, OnOk, IfOk, false, true, ◌↔◌};
 ghost use Rattle.std.specs.List.{list_any};
 ghost use Rattle.std.specs.VecDeque.{deque_capacity};
-ghost use Rattle.b2_term.specs.Terminal.{reading, line_read, after_read, typed, type_bytes, inserted, echo, keyed, ends_line, IsShortLine};
+ghost use Rattle.b2_term.specs.Orders.{is_order};
+ghost use Rattle.b2_term.specs.Terminal.{reading, line_read, after_read, typed, type_bytes, inserted, echo, keyed, released, ends_line, IsShortLine};
 
+pub mod laws;
+mod orders;
+
+use crate::orders::next_in;
 use b2_base::lexical::is_printable;
 use b2_base::{ByteList, NoMemory, Part};
+pub use orders::{PartList, is_order};
 use std::alloc::Global;
 use std::collections::VecDeque;
 use std::marker::Model;
@@ -46,26 +54,29 @@ pub enum Read {
     NoKeys,
 }
 
-/// A terminal. At most 128 keys wait, and the line being typed has at most 256 bytes.
+/// A terminal. At most 128 keys wait, and the line being typed has at most 256 bytes. The order in which it goes round has a
+/// partition, and none twice.
 #[derive(Drop)]
 pub struct Terminal {
     alloc: Global,
     queue: VecDeque<KeyItem>,
     front: Part,
+    order: Vec<Part>,
     line: Vec<u8>,
     transcript: Vec<u8>,
 }
 
 impl Model for Terminal {
-    ghost use Rattle.std.specs.Prelude.{◌≤◌, length};
+    ghost use Rattle.std.specs.Prelude.{◌≡◌, ◌≤◌, length, true};
     ghost use Rattle.std.specs.VecDeque.{deque_capacity};
+    ghost use Rattle.b2_term.specs.Orders.{is_order};
     ghost use Rattle.b2_term.specs.Terminal.{TerminalState};
 
     ghost Value = { TerminalState };
 
-    ghost view = { λ t. record { queue = t.queue.items; front = t.front; line = t.line.items; transcript = t.transcript.items } };
+    ghost view = { λ t. record { queue = t.queue.items; front = t.front; order = t.order.items; line = t.line.items; transcript = t.transcript.items } };
 
-    ghost invariant = { λ t. (128 ≤ deque_capacity t.queue) × (length t.queue.items ≤ 128) × (length t.line.items ≤ 256) };
+    ghost invariant = { λ t. (128 ≤ deque_capacity t.queue) × (length t.queue.items ≤ 128) × (length t.line.items ≤ 256) × (is_order t.order.items ≡ true) };
 }
 
 /// Types a byte that doesn't end the line.
@@ -132,14 +143,17 @@ fn read_keys(
 }
 
 impl Terminal {
-    /// An idle terminal with this partition in front. It takes the room for 128 keys.
-    pub fn new(alloc: Global, front: Part) -> Result<Terminal, NoMemory>
-        ensures { IfOk result (λ t. t ≡ record { queue = []; front = front; line = []; transcript = [] }) }
+    /// An idle terminal with this partition in front, which goes round in this order. It takes the room for 128 keys and for the
+    /// order.
+    pub fn new(alloc: Global, front: Part, order: &[Part]) -> Result<Terminal, NoMemory>
+        requires order { is_order order.now ≡ true }
+        ensures { IfOk result (λ t. t ≡ record { queue = []; front = front; order = order.now; line = []; transcript = [] }) }
     {
         Ok(Terminal {
             alloc,
             queue: VecDeque::with_capacity(alloc, QUEUE_SIZE)?,
             front,
+            order: Vec::from_slice(alloc, order)?,
             line: Vec::new(alloc),
             transcript: Vec::new(alloc),
         })
@@ -162,6 +176,13 @@ impl Terminal {
         ensures { self.new ≡ record self.old { front = p } }
     {
         self.front = p;
+    }
+
+    /// The front hands the terminal on: the partition that comes next in the order is in front. It takes no memory.
+    pub fn release(&mut self)
+        ensures { self.new ≡ released self.old }
+    {
+        self.front = next_in(&self.order, self.front);
     }
 
     /// The partition in front.

@@ -1,7 +1,7 @@
 // Accesses, as rows spell them: at terminals, at disks and to names. Those to texts stand in `texts.rt`, and those of devices in
 // `devices.rt`.
 //
-// `show TERMINAL BYTES`, `read TERMINAL`, `insert TERMINAL BYTES`, `key TERMINAL`; `limits ADDRESS [NAME]`, `list ADDRESS`, `scratch
+// `show TERMINAL BYTES`, `read TERMINAL`, `insert TERMINAL BYTES`, `key TERMINAL`, `release TERMINAL`; `limits ADDRESS [NAME]`, `list ADDRESS`, `scratch
 // ADDRESS NAME`, `format ADDRESS SECTORS END`; `declare NAME [OLD]`, `find NAME`.
 ghost use Rattle.std.specs.Prelude.{IfSome};
 ghost use Rattle.b2_access.specs.Touching.{IsLegal};
@@ -21,6 +21,7 @@ fn at_terminal(sheet: &mut Sheet<'_>, kind: &str, rest: &[u8]) -> Option<Access>
     match kind {
         "read" => Some(Access::ReadLine { term }),
         "key" => Some(Access::Key { term }),
+        "release" => Some(Access::Release { term }),
         "show" => Some(Access::Show {
             term,
             bytes: ByteList::new(sheet.spelled(text)),
@@ -80,7 +81,7 @@ pub fn access_of(sheet: &mut Sheet<'_>, spelled: &[u8]) -> Option<Access>
     let (first, rest) = word(spelled);
     let kind = str_of(first);
     match kind {
-        "show" | "read" | "insert" | "key" => at_terminal(sheet, kind, rest),
+        "show" | "read" | "insert" | "key" | "release" => at_terminal(sheet, kind, rest),
         "limits" | "list" | "scratch" | "format" => at_disk(kind, rest),
         "declare" | "find" => at_name(kind, rest),
         "print" => devices::printing(sheet, rest),

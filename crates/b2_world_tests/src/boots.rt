@@ -53,6 +53,13 @@ terminal=[{number=1,front=2},{number=3,front=5}]
 partition=[{number=1,terminal=1,text=8,data=8,globals=2},{number=2,terminal=1,text=4,data=8,globals=0},{number=5,terminal=3,text=8,data=2,globals=2}]
 ";
 
+/// Partitions 1 and 2 share terminal 1, which goes round to 2 first; 2 is in front.
+const ROUND: &[u8] = b"\
+quota=20
+terminal=[{number=1,front=2,order=[2,1]}]
+partition=[{number=1,terminal=1,text=8,data=8,globals=2},{number=2,terminal=1,text=8,data=8,globals=2}]
+";
+
 /// Partition 2 on terminal 1, and partition 1 on terminal 2.
 const CROSSED: &[u8] = b"\
 quota=20
@@ -94,6 +101,7 @@ fn file_named(name: &[u8]) -> &'static [u8] {
         "steps" => STEPS,
         "shared" => SHARED,
         "three" => THREE,
+        "round" => ROUND,
         "crossed" => CROSSED,
         "disks" => DISKS,
         "loading" => LOADING,
@@ -119,10 +127,22 @@ pub fn no_boot(sheet: &mut Sheet<'_>) {
     sheet.show("no such boot");
 }
 
-/// Shows a terminal and who is in front of it.
+/// Shows the order in which a terminal goes round.
+fn show_order(sheet: &mut Sheet<'_>, parts: &[Part]) {
+    sheet.show(" order");
+    for part in parts {
+        show_count(sheet, " ", u64::from(part.number()));
+    }
+}
+
+/// Shows a terminal and who is in front of it, and its order where that isn't the front alone.
 fn show_terminal(sheet: &mut Sheet<'_>, terminal: &BootTerminal) {
     show_count(sheet, ", terminal ", u64::from(terminal.number.number()));
     show_count(sheet, " front ", u64::from(terminal.front.number()));
+    match terminal.order.parts() {
+        [part] if *part == terminal.front => {}
+        parts => show_order(sheet, parts),
+    }
 }
 
 /// Shows an address.
@@ -243,7 +263,7 @@ pub fn read(sheet: &mut Sheet<'_>) {
 }
 
 /// The partitions of the numbers in a cell. One that is no partition's is misread.
-fn group_of(sheet: &mut Sheet<'_>) -> Vec<Part> {
+pub fn group_of(sheet: &mut Sheet<'_>) -> Vec<Part> {
     let mut group = Vec::new(sheet.alloc());
     let cell = sheet.cell();
     let mut left = cell;

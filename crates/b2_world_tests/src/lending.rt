@@ -4,10 +4,11 @@
 // `lent | EDIT`: what an access of partition 2 is answered, and then, once its own text was lent to partition 1 and once that of
 // partition 2 was, the first lines of the own text and of the one that is lent, whether `@` variables are found where none are asked for,
 // and who isn't clean.
-ghost use Rattle.std.specs.Prelude.{◌≡◌, IfOk, OnOk, IsSome};
+ghost use Rattle.std.specs.Prelude.{◌≡◌, IfOk, OnOk, IsSome, true};
 ghost use Rattle.b2_access.specs.Store.{content};
 ghost use Rattle.b2_access.specs.Touching.{IsLegal};
 ghost use Rattle.b2_store.specs.Meaning.{store_of};
+ghost use Rattle.b2_term.specs.Orders.{is_order};
 ghost use Rattle.b2_world_tests.specs.Texts.{HasTexts, KeepsTexts};
 
 use crate::accesses::access_of;
@@ -17,10 +18,18 @@ use b2_audit::{Seen, Watched};
 use b2_base::{NoMemory, Part, Term};
 use b2_cases::Sheet;
 use b2_store::{Ends, StoreBoot, Stores};
+use b2_term::PartList;
 use std::alloc::Global;
 
 /// The area of each text and of each partition's `@` variables.
 const AREA: usize = 64;
+
+/// A partition alone in order.
+fn alone_in_order(part: Part) -> PartList
+    ensures { is_order result ≡ true }
+{
+    PartList::of(&[part])
+}
 
 /// The store of two partitions.
 fn two_partitions(alloc: Global) -> Result<Stores, NoMemory>
@@ -30,8 +39,16 @@ fn two_partitions(alloc: Global) -> Result<Stores, NoMemory>
     partitions.push((Part::known(1), AREA, AREA))?;
     partitions.push((Part::known(2), AREA, AREA))?;
     let mut terminals = Vec::new(alloc);
-    terminals.push((Term::known(1), Part::known(1)))?;
-    terminals.push((Term::known(2), Part::known(2)))?;
+    terminals.push((
+        Term::known(1),
+        Part::known(1),
+        alone_in_order(Part::known(1)),
+    ))?;
+    terminals.push((
+        Term::known(2),
+        Part::known(2),
+        alone_in_order(Part::known(2)),
+    ))?;
     let boot = StoreBoot {
         partitions,
         terminals,

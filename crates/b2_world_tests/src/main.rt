@@ -27,6 +27,7 @@ struct WorldCalls;
 fn answer(call: &str, sheet: &mut Sheet<'_>) {
     match call {
         "terminal" => terminals::called(sheet),
+        "round" => terminals::went_round(sheet),
         "boot" => boots::read(sheet),
         "alone" => boots::left_alone(sheet),
         "log" => logs::read(sheet),

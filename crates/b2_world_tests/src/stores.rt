@@ -1,5 +1,5 @@
 // A store that is watched, and the accesses of partitions. Partitions 1, 2, 3 and 16 have texts of 64 bytes; 1, 2 and 16 are in
-// front of the terminals 1, 2 and 12. Two platters of 64 sectors stand at D10 and D20; D20 has a file DATA of 4 sectors. A printer stands
+// front of the terminals 1, 2 and 12, of which the first goes round to 1, 3 and 2. Two platters of 64 sectors stand at D10 and D20; D20 has a file DATA of 4 sectors. A printer stands
 // at 215.
 //
 // `store | CALL | ..`: what the calls answer one after another. Accesses begin with the number of the partition that asks, as
@@ -8,8 +8,11 @@
 // platter and bytes of it in hexadecimal digits, and `clean` for the partitions that are not. `at once 1 limits ..` and the like are
 // accesses over the store without its watch, which want no memory.
 // `image | IMAGE | CALL | ..`: the same, where D20 has the image that is spelled.
-ghost use Rattle.std.specs.Prelude.{◌≡◌, IfOk, IfErr, length};
+ghost use Rattle.std.specs.Prelude.{◌≡◌, ◌≤◌, IfOk, IfErr, length, true};
+ghost use Rattle.std.specs.List.{list_all};
 ghost use Rattle.b2_access.specs.Touching.{IsLegal};
+ghost use Rattle.b2_store.specs.Start.{has_order};
+ghost use Rattle.b2_term.specs.Orders.{is_order};
 
 use crate::accesses::access_of;
 use crate::images::platter_spelled;
@@ -22,7 +25,7 @@ use b2_cases::{Sheet, small_of, str_of, whole_of};
 use b2_catalog::enter;
 use b2_platter::Platter;
 use b2_store::{Ends, StoreBoot, Stores};
-use b2_term::KeyItem;
+use b2_term::{KeyItem, PartList, is_order};
 use std::alloc::Global;
 
 /// The area of each text and of each partition's `@` variables.
@@ -35,9 +38,38 @@ fn with_file(alloc: Global) -> Result<Platter, NoMemory> {
     Ok(platter)
 }
 
+/// These partitions as an order, and the first alone where they are none.
+fn ordered(parts: &[Part]) -> PartList
+    requires { length parts.now ≤ 16 }
+    ensures { is_order result ≡ true }
+{
+    if is_order(parts) {
+        PartList::of(parts)
+    } else {
+        PartList::of(&[Part::known(1)])
+    }
+}
+
+/// The terminals: the first goes round to 1, 3 and 2, and the others stay with who is in front of them.
+fn terminals_of(alloc: Global) -> Result<Vec<(Term, Part, PartList)>, NoMemory>
+    ensures { IfOk result (λ terminals. list_all has_order terminals.items ≡ true) }
+{
+    let three = ordered(&[Part::known(1), Part::known(3), Part::known(2)]);
+    let mut terminals = Vec::new(alloc);
+    terminals.push((Term::known(1), Part::known(1), three))?;
+    terminals.push((Term::known(2), Part::known(2), ordered(&[Part::known(2)])))?;
+    terminals.push((
+        Term::known(12),
+        Part::known(16),
+        ordered(&[Part::known(16)]),
+    ))?;
+    Ok(terminals)
+}
+
 /// What the store starts with, but for its platters.
 fn start_of(alloc: Global) -> Result<StoreBoot, NoMemory>
     ensures two { IfOk result (λ b. length b.platters.items ≡ 2) }
+    ensures orders { IfOk result (λ b. list_all has_order b.terminals.items ≡ true) }
 {
     Ok(StoreBoot {
         partitions: Vec::from_slice(
@@ -49,14 +81,7 @@ fn start_of(alloc: Global) -> Result<StoreBoot, NoMemory>
                 (Part::known(16), AREA, AREA),
             ],
         )?,
-        terminals: Vec::from_slice(
-            alloc,
-            &[
-                (Term::known(1), Part::known(1)),
-                (Term::known(2), Part::known(2)),
-                (Term::known(12), Part::known(16)),
-            ],
-        )?,
+        terminals: terminals_of(alloc)?,
         printers: Vec::from_slice(alloc, &[Addr::of(b"215").unwrap()])?,
         platters: Vec::from_slice(
             alloc,
@@ -173,6 +198,7 @@ fn answered_at_once(stores: &mut Stores, who: Part, access: &Access) -> Option<A
 {
     match access {
         Access::Key { .. }
+        | Access::Release { .. }
         | Access::Erase { .. }
         | Access::ClearAll { .. }
         | Access::Leave { .. }

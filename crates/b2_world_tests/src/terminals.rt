@@ -1,12 +1,17 @@
-// A terminal with partition 1 in front, and the calls of it.
+// A terminal with partition 1 in front, which goes round to 1, 3 and 2, and the calls of it.
 //
 // `terminal | CALL | ..`: what the calls answer one after another, and the transcript in the end. `keys BYTES` and `special N`
 // queue keys, `many N BYTES` does so N times, `read` reads a line and `one` one key, `insert BYTES` types bytes into the line,
-// `show BYTES` shows them, and `front N` puts a partition in front and asks who is there.
-use crate::pieces::{show_named, word};
+// `show BYTES` shows them, `front N` puts a partition in front and asks who is there, and `release` hands the terminal on and
+// asks so too.
+//
+// `round | FRONT | PARTITION PARTITION .. | TIMES`: who is in front of a terminal that goes round in this order, at first and after
+// each of so many releases.
+use crate::boots::group_of;
+use crate::pieces::{show_count, show_named, word};
 use b2_base::{NoMemory, Part};
 use b2_cases::{Sheet, number_of, small_of, str_of};
-use b2_term::{KeyItem, Read, Terminal};
+use b2_term::{KeyItem, Read, Terminal, is_order};
 
 /// Queues each byte as a key, and says how many were taken.
 fn keys_taken(terminal: &mut Terminal, keys: &[u8]) -> u32 {
@@ -70,6 +75,12 @@ fn show_front(sheet: &mut Sheet<'_>, terminal: &mut Terminal, number: u8) {
     sheet.show_number(u64::from(terminal.front().number()));
 }
 
+/// Hands a terminal on, and shows who is in front then.
+fn release(sheet: &mut Sheet<'_>, terminal: &mut Terminal) {
+    terminal.release();
+    show_count(sheet, "front ", u64::from(terminal.front().number()));
+}
+
 /// Shows a word for what was done, where memory didn't fail.
 fn show_done(sheet: &mut Sheet<'_>, outcome: Result<(), NoMemory>, done: &str) {
     match outcome {
@@ -107,14 +118,49 @@ fn answer(sheet: &mut Sheet<'_>, terminal: &mut Terminal, cell: &[u8]) {
             show_done(sheet, terminal.show(&bytes), "shown");
         }
         "front" => show_front(sheet, terminal, small_of(rest)),
+        "release" => release(sheet, terminal),
         _ => sheet.no_such_call(),
+    }
+}
+
+/// An idle terminal with a partition in front, which goes round in an order; none where that is no order.
+fn idle(sheet: &mut Sheet<'_>, front: Part, order: &[Part]) -> Option<Terminal> {
+    if !is_order(order) {
+        sheet.show("no order");
+        return None;
+    }
+    match Terminal::new(sheet.alloc(), front, order) {
+        Ok(terminal) => Some(terminal),
+        Err(NoMemory) => {
+            sheet.no_memory();
+            None
+        }
+    }
+}
+
+/// Who is in front of a terminal that goes round in an order.
+pub fn went_round(sheet: &mut Sheet<'_>) {
+    let cell = sheet.cell();
+    let Some(front) = Part::of(small_of(cell)) else {
+        return sheet.misread();
+    };
+    let order = group_of(sheet);
+    let times = sheet.cell();
+    let Some(mut terminal) = idle(sheet, front, &order) else {
+        return;
+    };
+    show_count(sheet, "front ", u64::from(front.number()));
+    for _ in 0..number_of(times) {
+        sheet.show(", ");
+        release(sheet, &mut terminal);
     }
 }
 
 /// What the calls in the cells answer, and the transcript after them.
 pub fn called(sheet: &mut Sheet<'_>) {
-    let Ok(mut terminal) = Terminal::new(sheet.alloc(), Part::known(1)) else {
-        return sheet.no_memory();
+    let order = [Part::known(1), Part::known(3), Part::known(2)];
+    let Some(mut terminal) = idle(sheet, Part::known(1), &order) else {
+        return;
     };
     for _ in 0..u64::MAX {
         if sheet.is_empty() {

@@ -7,6 +7,9 @@ use Rattle.b2_store.proofs.stores.Stores.perform.Goals as goal
 pub returns-in-Key-clause-done : goal.returns-in-Key-clause-done
 returns-in-Key-clause-done c = subst (λ a. Does c.args.who a c.args.self.now c.take_key.new.self c.take_key.result) (sym c.in-Key.is) (c.take_key.ensures c.args.who)
 
+pub returns-in-Release-clause-done : goal.returns-in-Release-clause-done
+returns-in-Release-clause-done c = subst (λ a. Does c.args.who a c.args.self.now c.release.new.self c.release.result) (sym c.in-Release.is) (c.release.ensures c.args.who)
+
 pub returns-in-None-clause-done : goal.returns-in-None-clause-done
 returns-in-None-clause-done c =
     let out = c.in-PutLine.is ∙ ap (λ atoms. access.PutLine c.in-PutLine.line atoms c.in-PutLine.homes) c.in-None.is in

@@ -1,17 +1,17 @@
-// A list of partitions.
+// Who stands inside a text.
 ghost use Rattle.std.specs.Prelude.{◌≡◌, ◌∷◌, [], ◌++◌, OnOk, slice_get};
 ghost use Rattle.b2_access.specs.Borrowers.{without, without_last};
 
 use b2_base::{NoMemory, Part};
 use std::marker::Model;
 
-/// Partitions, one of them perhaps more than once. Contracts see the list of their numbers.
+/// The partitions that stand inside a text, one of them perhaps more than once. Contracts see the list of their numbers.
 #[derive(Drop)]
-pub struct PartList {
+pub struct Insiders {
     parts: Vec<Part>,
 }
 
-impl Model for PartList {
+impl Model for Insiders {
     ghost use Rattle.std.specs.Prelude.{ℕ, List};
 
     ghost Value = { List ℕ };
@@ -38,12 +38,12 @@ fn take_each(parts: &mut Vec<Part>, p: Part)
     parts.retain(|x| *x != p);
 }
 
-impl PartList {
-    /// The list of these partitions. It takes no memory.
-    pub fn new(parts: Vec<Part>) -> PartList
+impl Insiders {
+    /// These partitions. It takes no memory.
+    pub fn new(parts: Vec<Part>) -> Insiders
         ensures { result ≡ parts.items }
     {
-        PartList { parts }
+        Insiders { parts }
     }
 
     /// The first of them, None where there is none.

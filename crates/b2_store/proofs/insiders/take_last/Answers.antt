@@ -1,6 +1,6 @@
 use Rattle.std.proofs.Common.{sym, ap, ◌∙◌}
 use Rattle.b2_store.proofs.Entries.{left_alone, taken_before}
-use Rattle.b2_store.proofs.part_list.take_last.Goals as goal
+use Rattle.b2_store.proofs.insiders.take_last.Goals as goal
 
 pub returns-then-eq : goal.returns-then-eq
 returns-then-eq c =

@@ -1,6 +1,6 @@
 use Rattle.std.proofs.Common.{◌≡◌, ◌≤◌, drop, length, false}
 use Rattle.b2_access.specs.Borrowers.{is_inside}
-use Rattle.b2_store.proofs.part_list.take_last.Given as goal
+use Rattle.b2_store.proofs.insiders.take_last.Given as goal
 
 -- it isn't among those from here on, and none was taken out yet
 abbrev pub invariant-loop-place : goal.invariant-loop-place
