@@ -86,7 +86,6 @@ HABITS = [Habit(*row) for row in [
     ("DATALOAD BA T(0,L)A$()", "S22", r"\bDATA ?(LOAD|SAVE) *(BA|DA)\b", "records of a file by DATALOAD DC and DATASAVE DC; sectors are not reached by their numbers",
      'DATASAVE DC OPEN T,5,"S":DATASAVE DC A$'),
     ("$GIO/005", "S27", r"^\$(GIO|IF|TRAN|FORMAT|INIT|MSG|PSTAT)", "leave it out: no program talks to a device by itself", "PRINT"),
-    ("$RELEASE TERMINAL", "S14", r"^\$RELEASE", "leave it out: who has a terminal is changed at its keyboard, Ctrl-P in a session", "PRINT"),
 ]]
 
 

@@ -414,7 +414,7 @@ pub const ROWS_2: [&[Item]; 64] = [
 
 /// The rows from 192 on.
 #[rattlefmt::skip]
-pub const ROWS_3: [&[Item]; 65] = [
+pub const ROWS_3: [&[Item]; 66] = [
     // INPUT
     &[Item::Word(words::INPUT), Item::Maybe(Start::Code(b'"'), rows::PROMPT), Item::Part(rows::RECEIVER), Item::Many(Start::Code(b','), rows::COMMA_RECEIVER)],
     // LINPUT
@@ -426,7 +426,7 @@ pub const ROWS_3: [&[Item]; 65] = [
     // COMMA_TWO_LINES
     &[Item::Sign(b',', codes::S13_SEPARATOR), Item::Typed(Leaf::LineNumber, codes::S15_LINE_NUMBER), Item::Sign(b',', codes::S13_SEPARATOR), Item::Typed(Leaf::LineNumber, codes::S15_LINE_NUMBER)],
     // BREAK
-    &[Item::Word(words::DOLLAR_BREAK)],
+    &[Item::Word(words::DOLLAR_BREAK), Item::Maybe(Start::Numeric, rows::SUM)],
     // OPEN
     &[Item::Word(words::DOLLAR_OPEN), Item::Maybe(Start::Line, rows::LINE_AND_COMMA), Item::Part(rows::DEVICES)],
     // LINE_AND_COMMA
@@ -547,11 +547,13 @@ pub const ROWS_3: [&[Item]; 65] = [
     &[Item::Word(words::BOX_OPEN), Item::Nest(rows::BOX_NUMBERS), Item::Sign(b')', codes::S11_CLOSE)],
     // BOX_NUMBERS
     &[Item::Part(rows::SUM), Item::Sign(b',', codes::S13_SEPARATOR), Item::Part(rows::SUM)],
+    // RELEASE
+    &[Item::Word(words::DOLLAR_RELEASE), Item::Word(words::TERMINAL)],
 ];
 
 /// The statements, by what they begin with; the first that begins is the one.
 #[rattlefmt::skip]
-pub const FORMS: [Form; 71] = [
+pub const FORMS: [Form; 72] = [
     Form { start: Start::Code(words::REM), rule: Rule::Anywhere, row: rows::REMARK },
     Form { start: Start::Code(b'%'), rule: Rule::First, row: rows::IMAGE_LINE },
     Form { start: Start::Among(words::DIM, words::COM), rule: Rule::Anywhere, row: rows::DIM },
@@ -623,4 +625,5 @@ pub const FORMS: [Form; 71] = [
     Form { start: Start::Code(words::LIST), rule: Rule::Immediate, row: rows::LIST },
     Form { start: Start::Code(words::RUN), rule: Rule::Immediate, row: rows::RUN },
     Form { start: Start::Code(words::CONTINUE), rule: Rule::Immediate, row: rows::CONTINUE },
+    Form { start: Start::Code(words::DOLLAR_RELEASE), rule: Rule::Anywhere, row: rows::RELEASE },
 ];
