@@ -14,7 +14,7 @@
 //! `toml`, whose own definition of a document decides what is one. The definitions are in `specs/`: `Rows` for what a
 //! document says, and `Boots` for the checks, the boot, and what every boot of a file is: each front is a partition of its
 //! terminal, each disk is a platter that its partition may use, and all sizes are in range. `LogLines` has what a line asks, `Logs` the events of the lines and what every
-//! event of a log is, `Alone` a boot with a group alone, `Drills` the boot and the log of a number, and `Laws` what holds of every log that passes.
+//! event of a log is, `Quotas` what a round gives each partition, `Alone` a boot with a group alone, `Drills` the boot and the log of a number, and `Laws` what holds of every log that passes.
 #![tactic(auto)]
 
 mod addresses;
