@@ -210,11 +210,12 @@ impl<S: Ends + Drop> World<S> {
         ensures turned { OnOk result (self.new ≡ does (Turn part (quota_at part self.old.quotas)) self.old) }
         ensures ended { IfErr result (λ _. self.new.privates ≡ []) }
     {
-        if self.privates.get(part).is_none() {
-            return Ok(());
+        if self.privates.get(part).is_some() {
+            let quota = quota_of(&self.quotas, part);
+            self.turn(part, quota)
+        } else {
+            Ok(())
         }
-        let quota = quota_of(&self.quotas, part);
-        self.turn(part, quota)
     }
 
     /// A turn of each partition, by number.
