@@ -66,6 +66,7 @@ at_start p t area line disk = record {
   numbered = None;
   literal = None;
   prompted = false;
+  pass = 0;
 }
 
 -- it is ready where it has no place

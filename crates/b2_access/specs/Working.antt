@@ -1,6 +1,7 @@
 -- WHAT A STATEMENT MAY CHANGE of a partition is a record of its own, which is put back in one place. So by its type it leaves the
 -- partition itself and its terminal, where it stands, its frames and the place that is kept, the files that it has open and the devices
--- that it holds, the platter that it starts with, the name that it has declared, the lines that it was given, and what was asked of it.
+-- that it holds, the platter that it starts with, the name that it has declared, how many turns it passes, the lines that it was given, and
+-- what was asked of it.
 -- Few may change more, each by a FORM that says how that is put back: one on data files changes which files are open besides as it
 -- finishes, one that takes or frees devices which of them are held, and one of control what `Steering` says.
 use Rattle.std.specs.Prelude.{◌≡◌, ℕ, Bool, true, List, Option, Some, None}

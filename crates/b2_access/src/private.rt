@@ -72,6 +72,8 @@ pub struct Private {
     pub literal: Option<ByteList>,
     /// Whether the prompt of an INPUT or LINPUT was shown.
     pub prompted: bool,
+    /// How many turns it passes yet, before it takes one again.
+    pub pass: u8,
 }
 
 /// Where a partition starts: at the first unit of a line, or ready where it has none.
@@ -142,6 +144,7 @@ impl Private {
             numbered: None,
             literal: None,
             prompted: false,
+            pass: 0,
         })
     }
 

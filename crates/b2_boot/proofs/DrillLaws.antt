@@ -7,6 +7,7 @@ use Rattle.std.proofs.lemmas.List.Folds.{list_all-append}
 use Rattle.b2_boot.specs.Boots.{BootState, has_terminal, is_platter}
 use Rattle.b2_boot.specs.Drills.{DrillsAreGood, DrillsAreOfTheirBoot, DrillsGrantFew, clerks, disk_of, drill_boot, drill_log, next_of, turns, typed_line}
 use Rattle.b2_boot.specs.Logs.{granted_by, is_of_boot, key_events}
+use Rattle.b2_boot.specs.Quotas.{quotas_of, steps_of_round}
 use Rattle.b2_boot.specs.Rows.{is_between}
 use Rattle.b2_boot.specs.declared.log.Event.TheVariants as event
 use Rattle.b2_boot.proofs.Events.{keys_fit}
@@ -35,6 +36,7 @@ drills_grant_few n =
     let some = granted_by-append b typed (turns (10 * n) n) in
     let none = lines_grant b (typed_line n) clerks in
     let few = turns_grant b (10 * n) n in
+    let each : steps_of_round (quotas_of b) ≡ 160 = refl in
     omega arith
 
 -- between two numbers, as a test
@@ -76,6 +78,7 @@ pub drills_are_good : DrillsAreGood
 unfolding drill_boot
 drills_are_good n few = record {
   quota = refl;
+  quotas = refl;
   terminals_ascend = (omega arith, (omega arith, (omega arith, (omega arith, (omega arith, (omega arith, (omega arith, (omega arith, tt))))))));
   partitions_ascend = (omega arith, (omega arith, (omega arith, (omega arith, (omega arith, (omega arith, (omega arith, (omega arith, tt))))))));
   sizes = refl;

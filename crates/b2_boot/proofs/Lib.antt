@@ -2,7 +2,9 @@ pub mod Sorted
 pub mod OrdersFit
 pub mod DeviceAddresses
 pub mod ByAddress
+pub mod SaidRows
 pub mod Sources
+pub mod OwnQuotas
 pub mod Passed
 pub mod Shuffled
 pub mod Lines

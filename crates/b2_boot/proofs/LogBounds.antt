@@ -1,10 +1,12 @@
 -- What a log that passes its checks grants, and what its events are.
-use Rattle.std.proofs.Common.{◌≡◌, ℕ, ◌+◌, ◌≤◌, Bool, true, false, List, [], ◌∷◌, ◌++◌, length, filter, Option, Some, None, refl, sym, subst, ◌∙◌, if◌then◌else◌, arith}
+use Rattle.std.proofs.Common.{◌≡◌, ℕ, ◌+◌, ◌≤◌, Bool, true, false, List, [], ◌∷◌, ◌++◌, filter, map, Option, Some, None, refl, sym, subst, ◌∙◌, if◌then◌else◌, arith}
 use Rattle.std.specs.List.{list_all}
 use Rattle.std.proofs.Math.Nat.{mul-le-mul_left}
 use Rattle.std.proofs.lemmas.List.Folds.{list_all-append}
 use Rattle.b2_boot.specs.Alone.{alone}
 use Rattle.b2_boot.specs.Boots.{BootState, first_failed}
+use Rattle.b2_boot.specs.Quotas.{quota_row, steps_of_round}
+use Rattle.b2_boot.specs.declared.boot.BootPartition.{BootPartition}
 use Rattle.b2_boot.specs.Laws.{LogsKeepToTheBound, LogsAreOfTheirBoot, AloneGrantsNoMore}
 use Rattle.b2_boot.specs.LogLines.{asked_by_line, text_lines}
 use Rattle.b2_boot.specs.Logs.{LogRead, Events, Refused, log_from, log_line, onto_log, events_of, steps_asked, checks_of_asked, unless_failing, checked_line, Passes, grants, granted_by, is_of_boot}
@@ -67,14 +69,15 @@ logs_keep_to_the_bound b bytes events h = let few = (from_keeps b (text_lines by
 pub logs_are_of_their_boot : LogsAreOfTheirBoot
 logs_are_of_their_boot b bytes events h = (from_keeps b (text_lines bytes) 1 0 events (omega arith) h).1
 
--- a group has no more partitions than the boot
-one_few : {A : Type 0} (b : Bool) (x : A) (kept xs : List A) → length kept ≤ length xs → length (if b then x ∷ kept else kept) ≤ length (x ∷ xs)
-one_few true x kept xs h = omega arith
-one_few false x kept xs h = omega arith
+-- a round grants a group no more than all of the boot
+one_less : (b : Bool) (quota : ℕ) (x : BootPartition) (kept xs : List BootPartition) → steps_of_round (map (quota_row quota) kept) ≤ steps_of_round (map (quota_row quota) xs)
+    → steps_of_round (map (quota_row quota) (if b then x ∷ kept else kept)) ≤ steps_of_round (map (quota_row quota) (x ∷ xs))
+one_less true quota x kept xs h = omega arith
+one_less false quota x kept xs h = omega arith
 
-filter_few : {A : Type 0} (p : A → Bool) (xs : List A) → length (filter p xs) ≤ length xs
-filter_few p [] = omega arith
-filter_few p (x ∷ xs) = one_few (p x) x (filter p xs) xs (filter_few p xs)
+round_less : (keeps : BootPartition → Bool) (quota : ℕ) (xs : List BootPartition) → steps_of_round (map (quota_row quota) (filter keeps xs)) ≤ steps_of_round (map (quota_row quota) xs)
+round_less keeps quota [] = omega arith
+round_less keeps quota (x ∷ xs) = one_less (keeps x) quota x (filter keeps xs) xs (round_less keeps quota xs)
 
 event_grants_less : (group : ℕ → Bool) (b : BootState) (e : Event) → grants (alone group b) e ≤ grants b e
 event_grants_less group b (event.Key t k) = omega arith
@@ -82,9 +85,7 @@ event_grants_less group b (event.Front t p) = omega arith
 event_grants_less group b (event.Halt p) = omega arith
 event_grants_less group b (event.Reset p) = omega arith
 event_grants_less group b (event.Turn p n) = omega arith
-event_grants_less group b (event.Rounds n) =
-    let few = filter_few (λ p. group p.number) b.partitions in
-    mul-le-mul_left n (mul-le-mul_left b.quota few)
+event_grants_less group b (event.Rounds n) = mul-le-mul_left n (round_less (λ p. group p.number) b.quota b.partitions)
 
 pub alone_grants_no_more : AloneGrantsNoMore
 alone_grants_no_more group b [] = omega arith

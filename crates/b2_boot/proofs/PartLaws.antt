@@ -7,6 +7,7 @@ use Rattle.std.proofs.lemmas.Bool.{and_from, and_parts, true≢false}
 use Rattle.std.proofs.lemmas.List.Folds.{list_all-append}
 use Rattle.b2_boot.specs.Alone.{alone, has_number, kept_if, may_be_used, own_boot, own_events, own_log, own_rounds, own_turns, stands_at}
 use Rattle.b2_boot.specs.Boots.{BootState}
+use Rattle.b2_boot.specs.Quotas.{quota_at, quotas_of}
 use Rattle.b2_boot.specs.Laws.{PartsHaveNoLess, PartsHaveNoMore, is_own}
 use Rattle.b2_boot.specs.declared.log.Event.{Event}
 use Rattle.b2_boot.specs.declared.log.Event.TheVariants as event
@@ -33,7 +34,7 @@ module _ (b : BootState) where
   turns_own : (n p : ℕ) → AreOwn (own_turns b p n)
   turns_own zero p = refl
   turns_own (suc n) p =
-      both_own (kept_if (has_number b.partitions p) (event.Turn p b.quota)) (own_turns b (p + 1) n) (own_if (has_number b.partitions p) (event.Turn p b.quota) (λ is. is)) (turns_own n (p + 1))
+      both_own (kept_if (has_number b.partitions p) (event.Turn p (quota_at p (quotas_of b)))) (own_turns b (p + 1) n) (own_if (has_number b.partitions p) (event.Turn p (quota_at p (quotas_of b))) (λ is. is)) (turns_own n (p + 1))
 
   rounds_own : (n : ℕ) → AreOwn (own_rounds b n)
   rounds_own zero = refl

@@ -2,14 +2,15 @@
 use Rattle.std.proofs.Common.{◌≡◌, ℕ, ℤ, pos, negsuc, true, List, Option, Some, None, IfSome, option_map, option_and_then, codes, refl, inl, inr}
 use Rattle.std.specs.List.{list_all}
 use Rattle.std.proofs.lemmas.Bool.{cases_Bool}
-use Rattle.toml.specs.Data.{Data, Items, no_items, item, Members, get_member, as_str, as_integer, as_table}
+use Rattle.toml.specs.Data.{Data, Members, get_member, as_str, as_integer}
 use Rattle.b2_boot.specs.declared.rows.Section.TheVariants as section
 use Rattle.b2_boot.specs.declared.rows.PlatterRow.{PlatterRow}
 use Rattle.b2_boot.specs.declared.rows.PrinterRow.{PrinterRow}
 use Rattle.b2_boot.specs.declared.rows.TerminalRow.{TerminalRow}
 use Rattle.b2_boot.specs.declared.rows.PartitionRow.{PartitionRow}
-use Rattle.b2_boot.specs.Rows.{is_between, is_version, most_blank, ranged, version_of_key, all_known, sectors_of, text_of_key, only_of_key, platter_from, platter_row, terminal_said, partition_row, printer_row, rows_in, rows_at, before_rows, items_of_key, quota_of, number_of_key, rows_from, document_rows}
+use Rattle.b2_boot.specs.Rows.{is_between, is_version, most_blank, ranged, version_of_key, all_known, sectors_of, text_of_key, only_of_key, platter_from, platter_row, terminal_said, partition_row, printer_row, rows_at, items_of_key, quota_of, number_of_key, rows_from, document_rows}
 use Rattle.b2_boot.specs.Boots.{is_either}
+use Rattle.b2_boot.proofs.SaidRows.{items_said}
 
 -- a platter of a row has one source
 abbrev HasSource : PlatterRow → Type 0
@@ -66,23 +67,6 @@ row_source ms =
       | inr other ↦ rw other tt
     ]
 
-table_source : (table : Option Members) → IfSome (option_and_then platter_row table) HasSource
-table_source None = tt
-table_source (Some ms) = row_source ms
-
-both_sources : (p : Option PlatterRow) (ps : Option (List PlatterRow)) → IfSome p HasSource → IfSome ps HaveSources → IfSome (before_rows p ps) HaveSources
-both_sources (Some p) (Some ps) here more = rw here more
-both_sources (Some p) None here more = tt
-both_sources None ps here more = tt
-
-rows_sources : (ds : Items) → IfSome (rows_in platter_row ds) HaveSources
-rows_sources no_items = refl
-rows_sources (item d ds) = both_sources (option_and_then platter_row (as_table d)) (rows_in platter_row ds) (table_source (as_table d)) (rows_sources ds)
-
-items_sources : (items : Option Items) → IfSome (option_and_then (rows_in platter_row) items) HaveSources
-items_sources None = tt
-items_sources (Some ds) = rows_sources ds
-
 all_sources : (quota : Option ℕ) (terminals : Option (List TerminalRow)) (partitions : Option (List PartitionRow)) (platters : Option (List PlatterRow)) (printers : Option (List PrinterRow)) → IfSome platters HaveSources
     → IfSome (rows_from quota terminals partitions platters printers) (λ b. HaveSources b.platters)
 all_sources (Some q) (Some t) (Some p) (Some ps) (Some prs) have = have
@@ -96,6 +80,6 @@ pub document_sources : (ms : Members) → IfSome (document_rows ms) (λ b. HaveS
 document_sources ms =
     elim (cases_Bool (all_known section.File ms)) [
       | inl known ↦ rw known
-          (all_sources (quota_of (number_of_key (codes "quota") ms)) (rows_at terminal_said (codes "terminal") ms) (rows_at partition_row (codes "partition") ms) (rows_at platter_row (codes "platter") ms) (rows_at printer_row (codes "printer") ms) (items_sources (items_of_key (get_member (codes "platter") ms))))
+          (all_sources (quota_of (number_of_key (codes "quota") ms)) (rows_at terminal_said (codes "terminal") ms) (rows_at partition_row (codes "partition") ms) (rows_at platter_row (codes "platter") ms) (rows_at printer_row (codes "printer") ms) (items_said platter_row (λ p. is_either p.image p.blank p.version) row_source (items_of_key (get_member (codes "platter") ms))))
       | inr other ↦ rw other tt
     ]

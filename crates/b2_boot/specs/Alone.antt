@@ -2,6 +2,7 @@
 use Rattle.std.specs.Prelude.{ℕ, zero, suc, ◌+◌, ◌==◌, Bool, true, false, List, [], ◌∷◌, ◌++◌, filter, Option}
 use Rattle.std.specs.List.{list_any}
 use Rattle.b2_boot.specs.Boots.{BootState, is_for}
+use Rattle.b2_boot.specs.Quotas.{quota_at, quotas_of}
 use Rattle.b2_boot.specs.declared.boot.BootPartition.{BootPartition}
 use Rattle.b2_boot.specs.declared.log.Event.{Event}
 use Rattle.b2_boot.specs.declared.log.Event.TheVariants as event
@@ -10,7 +11,7 @@ use Rattle.b2_boot.specs.declared.log.Event.TheVariants as event
 abbrev pub is_in_group : List ℕ → ℕ → Bool
 is_in_group parts p = list_any (λ q. q == p) parts
 
--- the partitions outside it go; their numbers, the quota, the terminals, the fronts, the orders and the devices stay
+-- the partitions outside it go; the others' numbers and quotas, the boot's, the terminals, the fronts, the orders and the devices stay
 abbrev pub alone : (ℕ → Bool) → BootState → BootState
 alone group b = record b { partitions = filter (λ p. group p.number) b.partitions }
 
@@ -38,10 +39,10 @@ abbrev pub kept_if : Bool → Event → List Event
 kept_if true e = e ∷ []
 kept_if false e = []
 
--- a turn of each partition that is there among some numbers, in ascending order, and so in each round
+-- a turn of each partition that is there among some numbers, in ascending order, with its quota, and so in each round
 abbrev pub own_turns : BootState → ℕ → ℕ → List Event
 own_turns b p zero = []
-own_turns b p (suc n) = kept_if (has_number b.partitions p) (event.Turn p b.quota) ++ own_turns b (p + 1) n
+own_turns b p (suc n) = kept_if (has_number b.partitions p) (event.Turn p (quota_at p (quotas_of b))) ++ own_turns b (p + 1) n
 
 abbrev pub own_rounds : BootState → ℕ → List Event
 own_rounds b zero = []

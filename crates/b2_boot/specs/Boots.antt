@@ -17,7 +17,7 @@ use Rattle.b2_boot.specs.declared.boot.BootPrinter.{BootPrinter}
 use Rattle.b2_boot.specs.declared.boot_file.BootErr.{BootErr}
 use Rattle.b2_boot.specs.declared.boot_file.BootErr.TheVariants as refused
 use Rattle.toml.specs.Data.{Members}
-use Rattle.b2_boot.specs.Rows.{RowsState, document_of, document_rows, is_between, is_blank, spells}
+use Rattle.b2_boot.specs.Rows.{RowsState, document_of, document_rows, is_between, is_blank, is_quota, spells}
 
 -- a boot: the quota of a turn, its terminals and partitions by number, and its platters and its printers by address
 pub record BootState : Type 0 where
@@ -250,7 +250,7 @@ program_of None = None
 program_of (Some name) = Some (padded8 name)
 
 abbrev pub partition_of : PartitionRow → BootPartition
-partition_of r = record { number = r.number; terminal = r.terminal; text = r.text; vars = r.vars; globals = r.globals; disk = r.disk; program = program_of r.program }
+partition_of r = record { number = r.number; terminal = r.terminal; text = r.text; vars = r.vars; globals = r.globals; disk = r.disk; program = program_of r.program; quota = r.quota }
 
 abbrev pub boot_platter : PlatterRow → BootPlatter
 boot_platter r = record { address = r.address; image = r.image; blank = r.blank; only = r.only; version = r.version }
@@ -361,6 +361,7 @@ device_addresses printers platters = map (λ p. p.address) printers ++ map (λ p
 -- what every boot of a file is
 pub record IsGood (b : BootState) : Type 0 where
   pub quota : is_between 1 1000 b.quota ≡ true
+  pub quotas : list_all (λ p. is_quota p.quota) b.partitions ≡ true
   pub terminals_ascend : Ascends 0 (map (λ t. t.number) b.terminals)
   pub partitions_ascend : Ascends 0 (map (λ p. p.number) b.partitions)
   pub sizes : list_all (λ p. is_between 2 24 p.text && (is_between 2 24 p.vars && nat_le p.globals 8)) b.partitions ≡ true

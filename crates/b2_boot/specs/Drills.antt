@@ -28,7 +28,7 @@ abbrev pub disk_of : ℕ → List ℕ
 disk_of i = codes "D1" ++ (byte.digit_0 + (i - 1)) ∷ []
 
 abbrev pub partition_of : ℕ → BootPartition
-partition_of i = record { number = i; terminal = i; text = 4; vars = 4; globals = 0; disk = Some (disk_of i); program = None }
+partition_of i = record { number = i; terminal = i; text = 4; vars = 4; globals = 0; disk = Some (disk_of i); program = None; quota = None }
 
 -- it is blank, the clerk's alone, and has ten sectors more than the number, at least 16
 abbrev pub platter_of : ℕ → ℕ → BootPlatter

@@ -1,5 +1,6 @@
 pub mod Rows
 pub mod Boots
+pub mod Quotas
 pub mod LogLines
 pub mod Logs
 pub mod Alone

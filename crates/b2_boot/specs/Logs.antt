@@ -5,6 +5,7 @@ use Rattle.b2_term.specs.declared.KeyItem.TheVariants as key
 use Rattle.b2_boot.specs.Rows.{is_between}
 use Rattle.b2_boot.specs.Boots.{BootState, first_failed, has_terminal, has_partition}
 use Rattle.b2_boot.specs.LogLines.{asked_by_line, text_lines}
+use Rattle.b2_boot.specs.Quotas.{quotas_of, steps_of_round}
 use Rattle.b2_boot.specs.declared.log.Event.{Event}
 use Rattle.b2_boot.specs.declared.log.Event.TheVariants as event
 use Rattle.b2_boot.specs.declared.log.LogErr.{LogErr}
@@ -34,7 +35,7 @@ is_in_boot b a = true
 -- the steps that are asked for: a round gives each partition of the boot its quota
 abbrev pub steps_asked : BootState → Asked → ℕ
 steps_asked b (asked.Turn p n) = n
-steps_asked b (asked.Rounds n) = n * (b.quota * length b.partitions)
+steps_asked b (asked.Rounds n) = n * steps_of_round (quotas_of b)
 steps_asked b a = 0
 
 -- 4 to 6: the checks of what is asked, where some steps were granted before
@@ -112,7 +113,7 @@ IsFirst b bytes refused.NoMemory = Unit {0}
 -- the steps that an event grants, and those of events
 abbrev pub grants : BootState → Event → ℕ
 grants b (event.Turn p n) = n
-grants b (event.Rounds n) = n * (b.quota * length b.partitions)
+grants b (event.Rounds n) = n * steps_of_round (quotas_of b)
 grants b e = 0
 
 abbrev pub granted_by : BootState → List Event → ℕ

@@ -45,7 +45,8 @@ is_known section.Terminal key = spells (codes "number") key || (spells (codes "f
 is_known section.Partition key =
     spells (codes "number") key || (spells (codes "terminal") key
     || (spells (codes "text") key || (spells (codes "data") key
-    || (spells (codes "globals") key || (spells (codes "disk") key || spells (codes "program") key)))))
+    || (spells (codes "globals") key || (spells (codes "disk") key
+    || (spells (codes "program") key || spells (codes "quota") key))))))
 is_known section.Platter key =
     spells (codes "address") key || (spells (codes "image") key || (spells (codes "blank") key || (spells (codes "for") key || spells (codes "version") key)))
 is_known section.Printer key = spells (codes "address") key || spells (codes "for") key
@@ -101,7 +102,7 @@ terminal_said ms =
 -- the sizes of a partition: of its text, its variables and its globals
 abbrev pub sizes_from : Option ℕ → Option ℕ → Option ℕ → ℕ → ℕ → Option PartitionRow
 sizes_from (Some text) (Some vars) (Some globals) number terminal =
-    Some (record { number = number; terminal = terminal; text = text; vars = vars; globals = globals; disk = None; program = None })
+    Some (record { number = number; terminal = terminal; text = text; vars = vars; globals = globals; disk = None; program = None; quota = None })
 sizes_from text vars globals number terminal = None
 
 abbrev pub sizes_of : Members → ℕ → ℕ → Option PartitionRow
@@ -124,19 +125,35 @@ abbrev pub with_program : Option Data → PartitionRow → Option PartitionRow
 with_program None r = Some r
 with_program (Some d) r = option_map (λ text. record r { program = Some text }) (as_str d)
 
--- the row of a partition
-abbrev pub partition_row : Members → Option PartitionRow
-partition_row ms = if all_known section.Partition ms then option_and_then (with_program (get_member (codes "program") ms)) (disk_row ms) else None
-
--- the number of the partition that a device is for, which may be left out
-abbrev pub only_of_key : Option Data → Option (Option ℕ)
-only_of_key None = Some None
-only_of_key (Some d) = option_map (λ n. Some (small n)) (as_integer d)
+abbrev pub program_row : Members → Option PartitionRow
+program_row ms = option_and_then (with_program (get_member (codes "program") ms)) (disk_row ms)
 
 -- a whole number in a range, as it is written
 abbrev pub ranged : ℕ → ℕ → ℤ → Option ℕ
 ranged least most (pos n) = if is_between least most n then Some n else None
 ranged least most (negsuc n) = None
+
+-- and with its own quota in a round, from 1 to 1000, which may be left out as well
+abbrev pub quota_of_key : Option Data → Option (Option ℕ)
+quota_of_key None = Some None
+quota_of_key (Some d) = option_map (λ q. Some q) (option_and_then (ranged 1 1000) (as_integer d))
+
+abbrev pub is_quota : Option ℕ → Bool
+is_quota None = true
+is_quota (Some q) = is_between 1 1000 q
+
+abbrev pub with_quota : Option (Option ℕ) → Option PartitionRow → Option PartitionRow
+with_quota (Some quota) (Some r) = Some (record r { quota = quota })
+with_quota quota r = None
+
+-- the row of a partition
+abbrev pub partition_row : Members → Option PartitionRow
+partition_row ms = if all_known section.Partition ms then with_quota (quota_of_key (get_member (codes "quota") ms)) (program_row ms) else None
+
+-- the number of the partition that a device is for, which may be left out
+abbrev pub only_of_key : Option Data → Option (Option ℕ)
+only_of_key None = Some None
+only_of_key (Some d) = option_map (λ n. Some (small n)) (as_integer d)
 
 -- the version of a blank platter, 1 or 2, which may be left out
 abbrev pub version_of_key : Option Data → Option (Option ℕ)
@@ -214,7 +231,7 @@ rows_from (Some quota) (Some terminals) (Some partitions) (Some platters) (Some 
     Some (record { quota = quota; terminals = terminals; partitions = partitions; platters = platters; printers = printers })
 rows_from quota terminals partitions platters printers = None
 
--- what a document says: each key known and there, of its kind, and the quota and the sectors of blank platters in range
+-- what a document says: each key known and there, of its kind, and the quotas and the sectors of blank platters in range
 abbrev pub document_rows : Members → Option RowsState
 document_rows ms =
     if all_known section.File ms then

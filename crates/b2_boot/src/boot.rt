@@ -1,4 +1,6 @@
 // A boot: the quota of a turn, its terminals and partitions by number, and its platters and printers by address.
+ghost use Rattle.std.specs.Prelude.{◌≡◌, unwrap_or};
+
 use b2_base::{Addr, FileName, Name8, Part, Term};
 use b2_term::PartList;
 use std::marker::Model;
@@ -11,8 +13,8 @@ pub struct BootTerminal {
     pub order: PartList,
 }
 
-/// A partition on its terminal, and where it has them its disk and the program that it starts from there. The sizes of its
-/// text, its variables and its globals are in KiB.
+/// A partition on its terminal, and where it has them its disk, the program that it starts from there, and its own quota in a
+/// round. The sizes of its text, its variables and its globals are in KiB.
 #[derive(Clone, Copy)]
 pub struct BootPartition {
     pub number: Part,
@@ -22,6 +24,19 @@ pub struct BootPartition {
     pub globals: u16,
     pub disk: Option<Addr>,
     pub program: Option<Name8>,
+    pub quota: Option<u16>,
+}
+
+impl BootPartition {
+    /// Its quota in a round: its own, or that of the boot where it has none.
+    pub fn quota_or(&self, of_boot: u16) -> u16
+        ensures value { result ≡ unwrap_or self.now.quota of_boot }
+    {
+        match self.quota {
+            Some(own) => own,
+            None => of_boot,
+        }
+    }
 }
 
 /// A platter at its address: the name of its image, or how many sectors it has, blank; the partition that alone may use it, if

@@ -69,6 +69,7 @@ fn partitions_of(alloc: Global, clerks: &[u8]) -> Result<Vec<BootPartition>, NoM
             globals: 0,
             disk: Some(disk_of(*clerk)),
             program: None,
+            quota: None,
         })?;
     }
     Ok(partitions)

@@ -13,8 +13,9 @@
 //! Stands on `b2_base` for the lexical layer, the numbers of partitions and terminals, addresses and names of files, on `b2_term` for a key, on `itoa` for numbers as text, and on
 //! `toml`, whose own definition of a document decides what is one. The definitions are in `specs/`: `Rows` for what a
 //! document says, and `Boots` for the checks, the boot, and what every boot of a file is: each front is a partition of its
-//! terminal, and the order in which one goes round has some of its partitions, none twice; each disk is a platter that its partition may use, and all sizes are in range. `LogLines` has what a line asks, `Logs` the events of the lines and what every
-//! event of a log is, `Alone` a boot with a group alone, `Drills` the boot and the log of a number, and `Laws` what holds of every log that passes.
+//! terminal, and the order in which one goes round has some of its partitions, none twice; each disk is a platter that its partition may use,
+//! and all sizes are in range. `LogLines` has what a line asks, `Logs` the events of the lines and what every
+//! event of a log is, `Quotas` what a round gives each partition, `Alone` a boot with a group alone, `Drills` the boot and the log of a number, and `Laws` what holds of every log that passes.
 #![tactic(auto)]
 
 mod addresses;

@@ -1,8 +1,9 @@
 // The events of a log, or the first line that fails a check.
-ghost use Rattle.std.specs.Prelude.{◌≡◌, ◌≤◌, ◌+◌, ◌-◌, ◌*◌, ◌^◌, ◌++◌, IfOk, IfErr, OnOk, true, min, length};
+ghost use Rattle.std.specs.Prelude.{◌≡◌, ◌≤◌, ◌+◌, ◌-◌, ◌*◌, ◌^◌, ◌++◌, IfOk, IfErr, OnOk, true, map, min, length};
 ghost use Rattle.std.specs.List.{list_all};
 ghost use Rattle.b2_boot.specs.Boots.{has_terminal, has_partition, first_failed};
 ghost use Rattle.b2_boot.specs.Rows.{is_between};
+ghost use Rattle.b2_boot.specs.Quotas.{quota_row, quotas_of, steps_of_round};
 ghost use Rattle.b2_boot.specs.Logs as spec;
 
 use crate::boot::{Boot, BootPartition, BootTerminal};
@@ -24,7 +25,7 @@ pub enum Event {
     Reset(Part),
     /// A turn of a partition, with its quota.
     Turn(Part, u16),
-    /// So many rounds: in each, every partition has a turn with the boot's quota.
+    /// So many rounds: in each, every partition has a turn with its own quota, or with the boot's where it has none.
     Rounds(u32),
 }
 
@@ -111,11 +112,22 @@ fn is_in_boot(boot: &Boot, asked: &Asked<'_>) -> bool
     }
 }
 
+/// The steps that a round grants partitions, up to the most that are counted.
+fn steps_granted(partitions: &[BootPartition], quota: u16) -> u64
+    ensures { result ≡ min (steps_of_round (map (quota_row quota) partitions.now)) (2 ^ 64 - 1) }
+{
+    let mut steps = 0u64;
+    for partition in partitions {
+        steps = steps.saturating_add(u64::from(partition.quota_or(quota)));
+    }
+    steps
+}
+
 /// The steps that a round grants, up to the most that are counted.
 fn steps_of_round(boot: &Boot) -> u64
-    ensures { result ≡ min (boot.now.quota * length boot.now.partitions) (2 ^ 64 - 1) }
+    ensures { result ≡ min (steps_of_round (quotas_of boot.now)) (2 ^ 64 - 1) }
 {
-    u64::from(boot.quota).saturating_mul(boot.partitions.len() as u64)
+    steps_granted(&boot.partitions, boot.quota)
 }
 
 /// The steps that are asked for, up to the most that are counted.

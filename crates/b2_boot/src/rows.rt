@@ -39,8 +39,8 @@ pub struct TerminalRow {
     pub order: Option<ByteList>,
 }
 
-/// A partition as it is written, with 65,535 in place of each number outside 0 to 65,535. Its sizes are in KiB, and its disk
-/// and its program may be any texts.
+/// A partition as it is written, with 65,535 in place of each number outside 0 to 65,535. Its sizes are in KiB, its disk and its
+/// program may be any texts, and its quota is from 1 to 1000 where it has one of its own.
 #[derive(Drop)]
 pub struct PartitionRow {
     pub number: u16,
@@ -50,6 +50,7 @@ pub struct PartitionRow {
     pub globals: u16,
     pub disk: Option<ByteList>,
     pub program: Option<ByteList>,
+    pub quota: Option<u16>,
 }
 
 /// A platter as it is written: its address and the name of its image, which may be any texts, or how many sectors it has,
@@ -149,6 +150,7 @@ fn is_known(section: Section, key: &[u8]) -> bool
                 || key == b"globals".as_slice()
                 || key == b"disk".as_slice()
                 || key == b"program".as_slice()
+                || key == b"quota".as_slice()
         }
         Section::Platter => {
             key == b"address".as_slice()
@@ -291,6 +293,7 @@ fn sizes(table: &Table, number: u16, terminal: u16) -> Option<PartitionRow>
         globals,
         disk: None,
         program: None,
+        quota: None,
     })
 }
 
@@ -326,7 +329,7 @@ fn with_program(
     Ok(Some(row))
 }
 
-/// A partition but for its disk and its program, None where a key is missing or of another kind.
+/// A partition but for its disk, its program and its quota, None where a key is missing or of another kind.
 fn on_terminal(table: &Table) -> Option<PartitionRow>
     ensures { result ≡ spec.partition_from (spec.number_of_key (codes "number") (table_view table.now)) (spec.number_of_key (codes "terminal") (table_view table.now)) (spec.sizes_of (table_view table.now)) }
 {
@@ -339,7 +342,7 @@ fn on_terminal(table: &Table) -> Option<PartitionRow>
     sizes(table, number, terminal)
 }
 
-/// A partition but for its program, None where a key is missing or of another kind.
+/// A partition but for its program and its quota, None where a key is missing or of another kind.
 fn disk_row(alloc: Global, table: &Table) -> Result<Option<PartitionRow>, NoMemory>
     ensures { IfOk result (λ found. found ≡ spec.disk_row (table_view table.now)) }
 {
@@ -352,13 +355,10 @@ fn disk_row(alloc: Global, table: &Table) -> Result<Option<PartitionRow>, NoMemo
     }
 }
 
-/// The row of a partition, None where a key is unknown, missing or of another kind.
-fn partition_row(alloc: Global, table: &Table) -> Result<Option<PartitionRow>, NoMemory>
-    ensures { IfOk result (λ found. found ≡ spec.partition_row (table_view table.now)) }
+/// A partition but for its quota, None where a key is missing or of another kind.
+fn program_row(alloc: Global, table: &Table) -> Result<Option<PartitionRow>, NoMemory>
+    ensures { IfOk result (λ found. found ≡ spec.program_row (table_view table.now)) }
 {
-    if !all_known(Section::Partition, table) {
-        return Ok(None);
-    }
     let Some(row) = disk_row(alloc, table)? else {
         return Ok(None);
     };
@@ -366,6 +366,37 @@ fn partition_row(alloc: Global, table: &Table) -> Result<Option<PartitionRow>, N
         Some(value) => with_program(alloc, row, value),
         None => Ok(Some(row)),
     }
+}
+
+/// The quota of a partition, None within where none is said, and None where that is no whole number from 1 to 1000.
+fn own_quota(table: &Table) -> Option<Option<u16>>
+    ensures { result ≡ spec.quota_of_key (get_member (codes "quota") (table_view table.now)) }
+{
+    match value_at(table, "quota") {
+        Some(value) => match ranged_value(1, 1000, value) {
+            Some(quota) => Some(Some(quota as u16)),
+            None => None,
+        },
+        None => Some(None),
+    }
+}
+
+/// The row of a partition, None where a key is unknown, missing or of another kind, or its quota is out of range.
+fn partition_row(alloc: Global, table: &Table) -> Result<Option<PartitionRow>, NoMemory>
+    ensures { IfOk result (λ found. found ≡ spec.partition_row (table_view table.now)) }
+{
+    if !all_known(Section::Partition, table) {
+        return Ok(None);
+    }
+    let Some(quota) = own_quota(table) else {
+        return Ok(None);
+    };
+    let Some(row) = program_row(alloc, table)? else {
+        return Ok(None);
+    };
+    let mut row = row;
+    row.quota = quota;
+    Ok(Some(row))
 }
 
 /// The number of the partition that a device is for, None within where none is named, and None where that is no number.
@@ -640,8 +671,8 @@ fn rows_at<R: TableRow>(alloc: Global, table: &Table, key: &str) -> Result<Optio
     }
 }
 
-/// What a document says, None where a key is unknown, missing or of another kind, or the quota or a blank platter's sectors
-/// are out of range.
+/// What a document says, None where a key is unknown, missing or of another kind, or a quota or a blank platter's sectors are
+/// out of range.
 pub fn boot_rows(alloc: Global, table: &Table) -> Result<Option<BootRows>, NoMemory>
     ensures value { IfOk result (λ found. found ≡ spec.document_rows (table_view table.now)) }
     ensures quota { IfOk result (λ found. IfSome found (λ rows. spec.is_between 1 1000 rows.quota ≡ true)) }

@@ -22,7 +22,8 @@ use Rattle.b2_machine.specs.Readiness.{halted}
 use Rattle.b2_machine.specs.Statements.{Begun, begins, begins_where, begun, builder_of, ends_with, finish_by, left_where, leaves, plan_by}
 use Rattle.b2_machine.specs.Step.{StepEnd, acts, by_itself, carries_out, enters_or_goes_on, executes, goes_through, halts_or_acts, lent_to_begin, resets_by, runs_or_reads, seen_by, shows_or_goes_on, step, types_or_goes_on, whose_by}
 use Rattle.b2_machine.specs.Tables.{StepsGoByListed, TurnsGoByListed}
-use Rattle.b2_machine.specs.Turn.{TurnEnd, counted_on, ended_turn, turn_from, unless_ended}
+use Rattle.b2_machine.specs.Turn.{TurnEnd, counted_on, ended_turn, passed_one, passes_none, passes_turn, turn_from, unless_ended}
+use Rattle.b2_machine.specs.declared.ends.Why.TheVariants as reason
 use Rattle.b2_machine.specs.declared.moving.Onward.{Onward}
 use Rattle.b2_machine.specs.declared.statements.Builder.{Builder}
 use Rattle.b2_machine.specs.declared.statements.Builder.TheVariants as builder
@@ -126,4 +127,5 @@ module _ (ways : List Device → Ways) (by_listed : GoByListed ways) (lawful : (
         (steps_go_by_listed ds es me m alike)
 
     pub turns_go_by_listed : TurnsGoByListed ways store serving lending
-    turns_go_by_listed ds es quota me m alike = turns_alike ds es quota me m 0 alike
+    turns_go_by_listed ds es quota me m alike =
+        ap (λ (t : TurnEnd M). if passes_turn me then ended_turn 0 reason.Break (passed_one me) m else t) (turns_alike ds es quota (passes_none me) m 0 alike)

@@ -44,7 +44,8 @@ use Rattle.b2_access.specs.Marks.{typed_by_mark}
 use Rattle.b2_access.proofs.Choice.{either}
 use Rattle.b2_machine.specs.Step.{acts, by_itself, enters_or_goes_on, executes, goes_through, halts_or_acts, lent_to_begin, line_read, resets_by, runs_or_reads, seen_by, shows_or_goes_on, step, text_in, types_or_goes_on, whose_by}
 use Rattle.b2_machine.specs.Typing.{put_by, shown_by, shows_pending, takes, takes_or_refuses, typed_by_key}
-use Rattle.b2_machine.specs.Turn.{TurnEnd, counted_on, ended_turn as turn_ended, turn, turn_from, unless_ended}
+use Rattle.b2_machine.specs.Turn.{TurnEnd, counted_on, ended_turn as turn_ended, passes_none, turn, turn_from, unless_ended}
+use Rattle.b2_machine.proofs.PassedTurns.{each_turn}
 use Rattle.b2_machine.specs.declared.ends.Stepped.{Stepped}
 use Rattle.b2_machine.specs.declared.ends.Why.{Why}
 use Rattle.b2_machine.specs.declared.moving.Onward.{Onward}
@@ -288,4 +289,4 @@ module _ (ways : Ways) (lawful : AreLawful ways) {M : Type 0} (store : M → Sto
       ended_turn s.end.why n s.me s.after (counted_on steps s.end) kept (λ k. from_keeps n s.me s.after k kept)
 
   pub turn_keeps : (quota : ℕ) (me : Private) (m : M) → KeepsNone me → KeepsNone (turn ways store serving lending quota me m).me
-  turn_keeps quota me m h = from_keeps quota me m 0 h
+  turn_keeps quota me m h = each_turn ways store serving lending (λ t. KeepsNone t.me) quota me m h (from_keeps quota (passes_none me) m 0 h)

@@ -1,6 +1,7 @@
 pub mod Results
 pub mod UnitCounts
 pub mod Turns
+pub mod PassedTurns
 pub mod Kept
 pub mod LegalPlans
 pub mod ListRows

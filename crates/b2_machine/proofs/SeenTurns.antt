@@ -20,7 +20,8 @@ use Rattle.b2_machine.specs.Readiness.{gives_back, resets}
 use Rattle.b2_machine.specs.Seeing.{StepsAreSeen, TurnsAreSeen, given_seen, step_seen, turn_seen}
 use Rattle.b2_machine.specs.Statements.{begins, leaves}
 use Rattle.b2_machine.specs.Step.{StepEnd, asks_for, carries_out, enters_or_goes_on, finishes_by, goes_through, halts_or_acts, lent_to_begin, line_read, reads_line, runs_or_reads, seen_by, shows_or_goes_on, step, types_or_goes_on, whose_by}
-use Rattle.b2_machine.specs.Turn.{counted_on, ended_turn, turn_from, unless_ended}
+use Rattle.b2_machine.specs.Turn.{counted_on, ended_turn, passes_none, passes_turn, turn, turn_from, unless_ended}
+use Rattle.b2_machine.proofs.PassedTurns.{turn_seen_by}
 use Rattle.b2_machine.specs.Typing.{put_by, puts_numbered, shown_by, shows_pending, typed_by_key}
 use Rattle.b2_machine.specs.declared.ends.Why.{Why}
 use Rattle.b2_machine.specs.declared.statements.Progress.{Progress}
@@ -125,5 +126,5 @@ module _ (ways : Ways) {M N : Type 0} (store : M → StoreState) (other_store : 
 
   pub turns_are_seen : TurnsAreSeen store other_store serving other_serving lending other_lending ways
   turns_are_seen see is quota me m =
-      subst (λ (s : M → StoreState). turn_seen see (turn_from ways s serving lending quota me m 0) ≡ turn_from ways other_store other_serving other_lending quota me (see m) 0) (sym is.stores)
-      (more_steps ways see other_store serving other_serving lending other_lending is.serves is.lends quota me m 0)
+      subst (λ (s : M → StoreState). turn_seen see (turn ways s serving lending quota me m) ≡ turn ways other_store other_serving other_lending quota me (see m)) (sym is.stores)
+      (turn_seen_by see (passes_turn me) _ _ _ _ refl (more_steps ways see other_store serving other_serving lending other_lending is.serves is.lends quota (passes_none me) m 0))

@@ -40,7 +40,8 @@ use Rattle.b2_machine.specs.Moving.{ends_by, ends_onward, error_place, faults, g
 use Rattle.b2_machine.specs.Statements.{begins, begins_where, begun_by, builder_of, finish_by, finishes, leaves, plan_by}
 use Rattle.b2_machine.specs.Step.{StepEnd, carries_out, enters_or_goes_on, halts_or_acts, lent_to_begin, line_read, runs_or_reads, seen_by, shows_or_goes_on, step, text_in, types_or_goes_on, whose_by}
 use Rattle.b2_machine.specs.Touched.{StepsShowAtTerminal}
-use Rattle.b2_machine.specs.Turn.{TurnEnd, counted_on, ended_turn as turn_ended, turn, turn_from, unless_ended}
+use Rattle.b2_machine.specs.Turn.{TurnEnd, counted_on, ended_turn as turn_ended, passes_none, turn, turn_from, unless_ended}
+use Rattle.b2_machine.proofs.PassedTurns.{each_turn}
 use Rattle.b2_machine.specs.Typing.{put_by, puts_numbered, shown_by, shows_pending, takes, takes_or_refuses, typed_by_key}
 use Rattle.b2_machine.specs.declared.ends.Stepped.{Stepped}
 use Rattle.b2_machine.specs.declared.ends.Why.{Why}
@@ -217,4 +218,4 @@ module _ (ways : Ways) (lawful : AreLawful ways) {M : Type 0} (store : M → Sto
       ended_turn s.end.why n s.me s.after (counted_on steps s.end) after (λ k. from_shows n s.me s.after k after)
 
   pub turn_shows : (quota : ℕ) (me : Private) (m : M) → IsForTerminal me.pending → IsForTerminal (turn ways store serving lending quota me m).me.pending
-  turn_shows quota me m h = from_shows quota me m 0 h
+  turn_shows quota me m h = each_turn ways store serving lending (λ t. IsForTerminal t.me.pending) quota me m h (from_shows quota (passes_none me) m 0 h)

@@ -1,5 +1,5 @@
--- A turn: steps up to the first that ends it, or to as many as its quota.
-use Rattle.std.specs.Prelude.{ℕ, suc, zero, ◌+◌, Option, Some, None, if◌then◌else◌}
+-- A turn: it is passed without a step, or it goes on up to the first step that ends it, or to as many as its quota.
+use Rattle.std.specs.Prelude.{ℕ, suc, zero, ◌+◌, ◌-◌, ◌==◌, ◌&&◌, not, Bool, Option, Some, None, if◌then◌else◌}
 use Rattle.b2_access.specs.Loans.{Loan}
 use Rattle.b2_access.specs.Sharing.{ServingOf}
 use Rattle.b2_access.specs.Store.{StoreState}
@@ -16,6 +16,17 @@ pub record TurnEnd (M : Type 0) : Type 0 where
   pub me : Private
   pub after : M
   pub turned : Turned
+
+-- A PARTITION PASSES ITS TURN where it is to pass some yet, and neither a halt nor a reset was asked for.
+abbrev pub passes_turn : Private → Bool
+passes_turn me = not (me.pass == 0) && (not me.halt && not me.reset)
+
+-- then it has one less to pass; and once it takes a turn it has none
+abbrev pub passed_one : Private → Private
+passed_one me = record me { pass = me.pass - 1 }
+
+abbrev pub passes_none : Private → Private
+passes_none me = record me { pass = 0 }
 
 -- how many steps have counted after one more
 abbrev pub counted_on : ℕ → Stepped → ℕ
@@ -39,5 +50,6 @@ module _ (ways : Ways) {M : Type 0} (store : M → StoreState) (serving : Servin
       (λ w. ended_turn (counted_on steps s.end) w s.me s.after)
       (turn_from n s.me s.after (counted_on steps s.end))
 
+  -- A TURN
   abbrev pub turn : ℕ → Private → M → TurnEnd M
-  turn quota me m = turn_from quota me m 0
+  turn quota me m = if passes_turn me then ended_turn 0 reason.Break (passed_one me) m else turn_from quota (passes_none me) m 0

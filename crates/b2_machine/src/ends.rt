@@ -14,7 +14,7 @@ pub enum Why {
     Wait(Part),
     /// No key that ends a line, or no key, is there.
     NoKeys,
-    /// By `$BREAK`.
+    /// By `$BREAK`, or as one that it passes.
     Break,
     /// A partition that was running became ready.
     Ready,

@@ -1,4 +1,4 @@
-// A turn: steps up to the first that ends it, or to as many as its quota.
+// A turn: it is passed without a step, or it goes on up to the first step that ends it, or to as many as its quota.
 ghost use Rattle.std.specs.Prelude.{◌≡◌, ◌≤◌, ◌<◌, ◌+◌, ℕ, Some, IfOk, IsSome, if◌then◌else◌};
 ghost use Rattle.b2_access.specs.Homes.{IsWithin};
 ghost use Rattle.b2_access.specs.Leading.{NamesIn, is_present};
@@ -114,11 +114,10 @@ fn advance<L: Language, S: Shared>(
     }
 }
 
-/// One turn of a partition that is present, as all are that it names, and all to whom names lead: at most `quota` steps that count. Where
-/// the last of them also ends the turn by itself, that is why it ended. After want of memory nothing is said of the partition and of what
-/// the store means.
+/// The steps of a turn that isn't passed: at most `quota` that count. Where the last of them also ends the turn by itself, that is why it
+/// ended. After want of memory nothing is said of the partition and of what the store means.
 #[inline(never)]
-pub fn turn<L: Language, S: Shared>(
+fn take_steps<L: Language, S: Shared>(
     alloc: Global,
     me: &mut Private,
     s: &mut S,
@@ -127,7 +126,7 @@ pub fn turn<L: Language, S: Shared>(
 ) -> Result<Turned, NoMemory>
     requires present { IsWithin (is_present (S.store (S.meaning s.old))) me.old }
     requires names { NamesIn (is_present (S.store (S.meaning s.old))) (S.store (S.meaning s.old)) }
-    ensures turned { IfOk result (λ t. record { me = me.new; after = S.meaning s.new; turned = t } ≡ spec.turn (L.ways d.now) S.store S.serving S.lending quota me.old (S.meaning s.old)) }
+    ensures turned { IfOk result (λ t. record { me = me.new; after = S.meaning s.new; turned = t } ≡ spec.turn_from (L.ways d.now) S.store S.serving S.lending quota me.old (S.meaning s.old) 0) }
     ensures few { IfOk result (λ t. t.steps ≤ quota) }
     ensures kept { Keeps result (S.holds s.old) (S.holds s.new) me.old.part me.new.part (S.store (S.meaning s.old)) (S.store (S.meaning s.new)) }
 {
@@ -147,4 +146,39 @@ pub fn turn<L: Language, S: Shared>(
         steps,
         why: Why::Quota,
     })
+}
+
+/// Whether a partition passes its turn: it is to pass some yet, and neither a halt nor a reset was asked for.
+fn passes_turn(me: &Private) -> bool
+    ensures { result ≡ spec.passes_turn me.now }
+{
+    me.pass != 0 && !me.halt && !me.reset
+}
+
+/// One turn of a partition that is present, as all are that it names, and all to whom names lead: it is passed without a step, or takes at
+/// most `quota` steps that count. Where the last of them also ends the turn by itself, that is why it ended. After want of memory nothing
+/// is said of the partition and of what the store means.
+#[inline(always)]
+pub fn turn<L: Language, S: Shared>(
+    alloc: Global,
+    me: &mut Private,
+    s: &mut S,
+    d: &DeviceTable,
+    quota: u16,
+) -> Result<Turned, NoMemory>
+    requires present { IsWithin (is_present (S.store (S.meaning s.old))) me.old }
+    requires names { NamesIn (is_present (S.store (S.meaning s.old))) (S.store (S.meaning s.old)) }
+    ensures turned { IfOk result (λ t. record { me = me.new; after = S.meaning s.new; turned = t } ≡ spec.turn (L.ways d.now) S.store S.serving S.lending quota me.old (S.meaning s.old)) }
+    ensures few { IfOk result (λ t. t.steps ≤ quota) }
+    ensures kept { Keeps result (S.holds s.old) (S.holds s.new) me.old.part me.new.part (S.store (S.meaning s.old)) (S.store (S.meaning s.new)) }
+{
+    if passes_turn(me) {
+        me.pass = me.pass.saturating_sub(1);
+        return Ok(Turned {
+            steps: 0,
+            why: Why::Break,
+        });
+    }
+    me.pass = 0;
+    take_steps::<L, S>(alloc, me, s, d, quota)
 }

@@ -1,5 +1,5 @@
 -- The world of a boot and that of the boot with a group alone.
-use Rattle.std.specs.Prelude.{◌≡◌, ℕ, ◌==◌, Bool, true, false, cond, List, [], ◌∷◌, filter, map, Option, Some, None, is_some, refl}
+use Rattle.std.specs.Prelude.{◌≡◌, ℕ, ◌==◌, Bool, true, false, cond, List, [], ◌∷◌, filter, map, Option, Some, None, is_some, unwrap_or, refl}
 use Rattle.std.proofs.Common.{sym, ap, subst, ◌∙◌}
 use Rattle.b2_access.specs.Homes.{IsWithin, PlaceIn}
 use Rattle.b2_access.specs.Partition.{starting_place}
@@ -96,7 +96,7 @@ held_by_nobody p e = cc
 
 pub starts_alike : (g : Group) (b : BootState) (images : Images) → WorldsAlike (IsOutside g) g [] (booted b images) (booted (alone g b) images)
 starts_alike g b images = record {
-  quota = refl;
+  quotas = λ p member. ap (λ (o : Option ℕ). unwrap_or o 1) (of_member g p (λ (x : BootPartition). unwrap_or x.quota b.quota) b.partitions member);
   devices = λ p member printer a. refl;
   privates = record {
     members = λ p member. of_member g p (λ x. (private_row x).1) b.partitions member;

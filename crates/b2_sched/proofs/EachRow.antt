@@ -47,4 +47,4 @@ module _ (P : ℕ → Private → Type 0) where
     each_actions (a ∷ rest) w old = each_actions rest (does a w) (each_action a w old)
 
     pub each_ran : (log : List Event) (w : WorldState) → EachIs w.privates → EachIs (ran log w).privates
-    each_ran log w old = subst (λ (v : WorldState). EachIs v.privates) (sym (by_actions log w)) (each_actions (all_actions w.quota log) w old)
+    each_ran log w old = subst (λ (v : WorldState). EachIs v.privates) (sym (by_actions log w)) (each_actions (all_actions w.quotas log) w old)

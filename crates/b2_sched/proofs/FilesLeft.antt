@@ -1,5 +1,5 @@
 -- What each access leaves as it was a step does, and so a turn, and so all that happens; and a file is so left.
-use Rattle.std.specs.Prelude.{◌≡◌, ℕ, zero, suc, List, [], ◌∷◌, Option, Some, None, refl}
+use Rattle.std.specs.Prelude.{◌≡◌, ℕ, zero, suc, Bool, true, false, List, [], ◌∷◌, Option, Some, None, refl, if◌then◌else◌}
 use Rattle.std.proofs.Common.{sym, ◌∙◌}
 use Rattle.b2_term.specs.Terminal.{TerminalState, keyed}
 use Rattle.b2_dec.specs.declared.values.Value.{Value}
@@ -13,8 +13,9 @@ use Rattle.b2_access.specs.declared.devices.Device.{Device}
 use Rattle.b2_access.specs.declared.objects.Object.TheVariants as object
 use Rattle.b2_access.specs.declared.private.Private.{Private}
 use Rattle.b2_machine.specs.Touched.{asking}
-use Rattle.b2_machine.specs.Turn.{counted_on, ended_turn, turn_from, unless_ended}
+use Rattle.b2_machine.specs.Turn.{counted_on, ended_turn, passed_one, passes_none, passes_turn, turn_from, unless_ended}
 use Rattle.b2_machine.specs.declared.ends.Why.{Why}
+use Rattle.b2_machine.specs.declared.ends.Why.TheVariants as reason
 use Rattle.b2_store.specs.Changes.{with_terminal}
 use Rattle.b2_store.specs.DiskWork.{serves}
 use Rattle.b2_store.specs.Files.{AreGood, AreSound, HasFile, HasFront, HasWhole, IsAbout}
@@ -24,7 +25,7 @@ use Rattle.b2_sched.proofs.HeldTurns.{others_leave_held}
 use Rattle.b2_sched.proofs.LegalSteps.{IsLegalIfAny, steps_ask_legally}
 use Rattle.b2_sched.proofs.StepEnds.{left_where, step_left}
 use Rattle.b2_sched.specs.Choice.{basic}
-use Rattle.b2_sched.specs.EachStep.{AtEachStep, EachInAction, EachInTurn, EachOf}
+use Rattle.b2_sched.specs.EachStep.{AtEachStep, EachInAction, EachInTurn, EachOf, UnlessPassed}
 use Rattle.b2_sched.specs.Files.{AsksElsewhere, FilesOutlastTurns, HeldFilesStay, LeavesFile}
 use Rattle.b2_sched.specs.Lawful.{basic_is_lawful}
 use Rattle.b2_sched.specs.Turns.{step_of}
@@ -76,7 +77,12 @@ module _ (addr name : List ℕ) (Holds : StoreState → Type 0)
 
   given : (p n : ℕ) (o : Option Private) (w : WorldState) → EachOf (LeavesFile addr name) w.devices n o w.store → Both w.store → Both (with_turn p o n w).store
   given p n None w h k = k
-  given p n (Some me) w h k = in_turn w.devices n me w.store 0 h k
+  given p n (Some me) w h k = by (passes_turn me) h
+    where
+      by : (b : Bool) → UnlessPassed b (EachInTurn (LeavesFile addr name) w.devices n (passes_none me) w.store)
+          → Both (if b then ended_turn 0 reason.Break (passed_one me) w.store else turn_from (basic w.devices) itself serves lends n (passes_none me) w.store 0).after
+      by true none = k
+      by false each = in_turn w.devices n (passes_none me) w.store 0 each k
 
   in_action : (x : Action) (w : WorldState) → EachInAction (LeavesFile addr name) x w → Both w.store → Both (does x w).store
   in_action (Key t key) w h k = terminal_left (content w.store (object.Terminal t)) t (keyed key) w.store k

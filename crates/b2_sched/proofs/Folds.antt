@@ -1,6 +1,7 @@
 -- Actions one after the other, along the numbers of a round, along rounds, and along the events of a log.
 use Rattle.std.specs.Prelude.{◌≡◌, ℕ, zero, suc, ◌+◌, ◌-◌, ◌<◌, ◌≤◌, List, [], ◌∷◌, ◌++◌, drop, length, get_or, refl}
 use Rattle.std.proofs.Common.{sym, ap, ◌∙◌, arith, add-one, drop-cons}
+use Rattle.b2_boot.specs.Quotas.{quota_at}
 use Rattle.b2_boot.specs.declared.log.Event.{Event}
 use Rattle.b2_sched.specs.World.{WorldState, Action, Turn, Key, Front, Halt, Reset, does, does_all, with_turn, private_of, turns_from, rounds, happens, ran}
 use Rattle.b2_access.specs.declared.private.Private.{Private}
@@ -10,21 +11,21 @@ pub does_append : (xs ys : List Action) (w : WorldState) → does_all (xs ++ ys)
 does_append [] ys w = refl
 does_append (x ∷ xs) ys w = does_append xs ys (does x w)
 
--- the quota of a round stays
-turned_quota : (p n : ℕ) (m : Option Private) (w : WorldState) → (with_turn p m n w).quota ≡ w.quota
-turned_quota p n None w = refl
-turned_quota p n (Some me) w = refl
+-- the quotas of a round stay
+turned_quotas : (p n : ℕ) (m : Option Private) (w : WorldState) → (with_turn p m n w).quotas ≡ w.quotas
+turned_quotas p n None w = refl
+turned_quotas p n (Some me) w = refl
 
-pub keeps_quota : (a : Action) (w : WorldState) → (does a w).quota ≡ w.quota
-keeps_quota (Key t k) w = refl
-keeps_quota (Front t p) w = refl
-keeps_quota (Halt p) w = refl
-keeps_quota (Reset p) w = refl
-keeps_quota (Turn p n) w = turned_quota p n (private_of p w) w
+pub keeps_quotas : (a : Action) (w : WorldState) → (does a w).quotas ≡ w.quotas
+keeps_quotas (Key t k) w = refl
+keeps_quotas (Front t p) w = refl
+keeps_quotas (Halt p) w = refl
+keeps_quotas (Reset p) w = refl
+keeps_quotas (Turn p n) w = turned_quotas p n (private_of p w) w
 
-pub all_keep_quota : (xs : List Action) (w : WorldState) → (does_all xs w).quota ≡ w.quota
-all_keep_quota [] w = refl
-all_keep_quota (x ∷ xs) w = all_keep_quota xs (does x w) ∙ keeps_quota x w
+pub all_keep_quotas : (xs : List Action) (w : WorldState) → (does_all xs w).quotas ≡ w.quotas
+all_keep_quotas [] w = refl
+all_keep_quotas (x ∷ xs) w = all_keep_quotas xs (does x w) ∙ keeps_quotas x w
 
 -- and so do the devices that there are
 turned_devices : (p n : ℕ) (m : Option Private) (w : WorldState) → (with_turn p m n w).devices ≡ w.devices
@@ -43,20 +44,20 @@ all_keep_devices [] w = refl
 all_keep_devices (x ∷ xs) w = all_keep_devices xs (does x w) ∙ keeps_devices x w
 
 -- along a round
-pub turn_first : (quota p : ℕ) (w : WorldState) → p < 17 → does_all (turns_from quota (p + 1) (17 - (p + 1))) (does (Turn p quota) w) ≡ does_all (turns_from quota p (17 - p)) w
-turn_first quota p w below = let left : suc (17 - (p + 1)) ≡ 17 - p = omega arith in ap (λ n. does_all (turns_from quota p n) w) left
+pub turn_first : (quotas : List (ℕ × ℕ)) (p : ℕ) (w : WorldState) → p < 17 → does_all (turns_from quotas (p + 1) (17 - (p + 1))) (does (Turn p (quota_at p quotas)) w) ≡ does_all (turns_from quotas p (17 - p)) w
+turn_first quotas p w below = let left : suc (17 - (p + 1)) ≡ 17 - p = omega arith in ap (λ n. does_all (turns_from quotas p n) w) left
 
-pub no_turns : (quota p : ℕ) (w : WorldState) → 17 ≤ p → w ≡ does_all (turns_from quota p (17 - p)) w
-no_turns quota p w past = let left : zero ≡ 17 - p = omega arith in ap (λ n. does_all (turns_from quota p n) w) left
+pub no_turns : (quotas : List (ℕ × ℕ)) (p : ℕ) (w : WorldState) → 17 ≤ p → w ≡ does_all (turns_from quotas p (17 - p)) w
+no_turns quotas p w past = let left : zero ≡ 17 - p = omega arith in ap (λ n. does_all (turns_from quotas p n) w) left
 
 -- along rounds
-pub round_first : (quota n i : ℕ) (w : WorldState) → i < n → does_all (rounds quota (n - (i + 1))) (does_all (turns_from quota 1 16) w) ≡ does_all (rounds quota (n - i)) w
-round_first quota n i w below =
+pub round_first : (quotas : List (ℕ × ℕ)) (n i : ℕ) (w : WorldState) → i < n → does_all (rounds quotas (n - (i + 1))) (does_all (turns_from quotas 1 16) w) ≡ does_all (rounds quotas (n - i)) w
+round_first quotas n i w below =
     let left : suc (n - (i + 1)) ≡ n - i = omega arith in
-    sym (does_append (turns_from quota 1 16) (rounds quota (n - (i + 1))) w) ∙ ap (λ k. does_all (rounds quota k) w) left
+    sym (does_append (turns_from quotas 1 16) (rounds quotas (n - (i + 1))) w) ∙ ap (λ k. does_all (rounds quotas k) w) left
 
-pub no_rounds : (quota n i : ℕ) (w : WorldState) → n ≤ i → w ≡ does_all (rounds quota (n - i)) w
-no_rounds quota n i w past = let left : zero ≡ n - i = omega arith in ap (λ k. does_all (rounds quota k) w) left
+pub no_rounds : (quotas : List (ℕ × ℕ)) (n i : ℕ) (w : WorldState) → n ≤ i → w ≡ does_all (rounds quotas (n - i)) w
+no_rounds quotas n i w past = let left : zero ≡ n - i = omega arith in ap (λ k. does_all (rounds quotas k) w) left
 
 -- along events
 pub event_first : (i : ℕ) (events : List Event) (d : Event) (w : WorldState) → i < length events → ran (drop (i + 1) events) (happens (get_or events i d) w) ≡ ran (drop i events) w

@@ -1,6 +1,7 @@
 -- THE GROUP THEOREM: along any log a clean group goes as it goes alone.
-use Rattle.std.specs.Prelude.{◌≡◌, ◌≢◌, ℕ, Bool, true, false, List, [], ◌∷◌, Option, Some, None, option_map, refl}
+use Rattle.std.specs.Prelude.{◌≡◌, ◌≢◌, ℕ, Bool, true, false, List, [], ◌∷◌, Option, Some, None, is_some, option_map, refl}
 use Rattle.std.proofs.Common.{sym, ap, subst, ◌∙◌, inl, inr}
+use Rattle.std.proofs.lemmas.Bool.{true≢false}
 use Rattle.b2_access.specs.Contents.{content_other, content_same}
 use Rattle.b2_access.specs.Objects.{Decided, same_object}
 use Rattle.b2_access.specs.AccessRows.{reach}
@@ -25,6 +26,7 @@ use Rattle.b2_sched.proofs.GroupRows.{both_rows, first_rows, is_another, row_hol
 use Rattle.b2_sched.proofs.GroupTurns.{AreInside, InsideIfAny, IsOut, StayFit, both_inside, members_foul, members_turn, none_inside, one_inside, others_turn}
 use Rattle.b2_sched.proofs.Lasting.{by_actions}
 use Rattle.b2_sched.proofs.Numbered.{numbered_other}
+use Rattle.b2_sched.proofs.SameQuotas.{all_same}
 use Rattle.b2_sched.specs.Choice.{basic}
 use Rattle.b2_sched.specs.Groups.{GroupsRelyOnTheirOwn, IsOutside, MembersAlike, WorldsAlike, steps_along, steps_at, steps_of}
 use Rattle.b2_sched.specs.Laws.{all_actions}
@@ -76,12 +78,12 @@ module _ (g : Group) (out : Object → Type 0) (is_out : IsOut g out) (table : L
       let inside = alike.worlds.privates.homes p me member is in
       let x : TurnEnd StoreState = turn_of w.devices n me w.store in
       let fit_here = subst (λ (ds : List Device). StayFit ds out Fit) (sym alike.table_is) fit in
-      let turns = members_turn w.devices g out is_out Fit fit_here p n me w.store v.store 0 os member inside (alike.fits p me member is) alike.worlds.names alike.worlds.stores clean in
+      let turns = members_turn w.devices g out is_out Fit fit_here p n me w.store v.store os member inside (alike.fits p me member is) alike.worlds.names alike.worlds.stores clean in
       let rows = both_rows g p x.me w.privates v.privates turns.homes alike.worlds.privates in
       let there : TurnEnd StoreState → WorldState = λ t. after_turn p t (marks_after (steps_in_turn v.devices p n me v.store) v.marks) v in
       let here : Alike os (with_turn p (Some me) n w) (there (turn_of w.devices n me v.store)) = record {
         worlds = record {
-          quota = alike.worlds.quota;
+          quotas = alike.worlds.quotas;
           devices = alike.worlds.devices;
           privates = subst (λ (z : Private). MembersAlike g (with_row p w.privates x.me) (with_row p v.privates z)) turns.own rows;
           stores = turns.objects;
@@ -98,12 +100,12 @@ module _ (g : Group) (out : Object → Type 0) (is_out : IsOut g out) (table : L
   first_turn p n w v os None other alike = alike
   first_turn p n w v os (Some me) other alike = record {
     worlds = record {
-      quota = alike.worlds.quota;
+      quotas = alike.worlds.quotas;
       devices = alike.worlds.devices;
       privates = first_rows g p (turn_of w.devices n me w.store).me w.privates v.privates other alike.worlds.privates;
-      stores = λ o clear inside. others_turn w.devices g p n me w.store 0 os other o clear ∙ alike.worlds.stores o (λ i. clear (stays_foul g (noted_by w.devices p n (Some me) w.store) os o i)) inside;
+      stores = λ o clear inside. others_turn w.devices g p n me w.store os other o clear ∙ alike.worlds.stores o (λ i. clear (stays_foul g (noted_by w.devices p n (Some me) w.store) os o i)) inside;
       names = λ k q clear leads.
-          alike.worlds.names k q (λ i. clear (stays_foul g (noted_by w.devices p n (Some me) w.store) os (object.Name k) i)) (sym (others_turn w.devices g p n me w.store 0 os other (object.Name k) clear) ∙ leads);
+          alike.worlds.names k q (λ i. clear (stays_foul g (noted_by w.devices p n (Some me) w.store) os (object.Name k) i)) (sym (others_turn w.devices g p n me w.store os other (object.Name k) clear) ∙ leads);
     };
     table_is = alike.table_is;
     fits = λ q you in_group there. alike.fits q you in_group (sym (numbered_other q p (turn_of w.devices n me w.store).me (is_another g p q other in_group) w.privates) ∙ there);
@@ -122,7 +124,7 @@ module _ (g : Group) (out : Object → Type 0) (is_out : IsOut g out) (table : L
       → Alike os (record w { store = with_terminal (content w.store (object.Terminal t)) t f w.store; dropped = dropped }) (record v { store = with_terminal (content v.store (object.Terminal t)) t f v.store; dropped = there })
   both_terminals t f w v dropped there os alike = record {
     worlds = record {
-      quota = alike.worlds.quota;
+      quotas = alike.worlds.quotas;
       devices = alike.worlds.devices;
       privates = alike.worlds.privates;
       stores = λ o clear inside. terminal_alike t f w.store v.store o (alike.worlds.stores o clear inside);
@@ -143,7 +145,7 @@ module _ (g : Group) (out : Object → Type 0) (is_out : IsOut g out) (table : L
       → Alike os (record w { privates = changed p f w.privates }) (record v { privates = changed p f v.privates })
   both_flagged f within keeps p w v os alike = record {
     worlds = record {
-      quota = alike.worlds.quota;
+      quotas = alike.worlds.quotas;
       devices = alike.worlds.devices;
       privates = rows_changed g f within p w.privates v.privates alike.worlds.privates;
       stores = alike.worlds.stores;
@@ -213,21 +215,29 @@ abbrev Anyone : Private → Type 0
 Anyone me = Unit {0}
 
 anyone_fits : (g : Group) (devices : List Device) → StayFit devices (IsOutside g) Anyone
-anyone_fits g devices = record { asks = λ me s fits. asks_inside g (asking (basic devices) me s); next = λ me s fits. tt }
+anyone_fits g devices = record { asks = λ me s fits. asks_inside g (asking (basic devices) me s); next = λ me s fits. tt; pass = λ me k fits. tt }
+
+-- who is present where a group is alone is a member
+present_member : (g : Group) (w v : WorldState) → WorldsAlike (IsOutside g) g [] w v → (p : ℕ) → is_some (private_of p v) ≡ true → g p ≡ true
+present_member g w v alike p there = by (g p) refl
+  where
+    by : (b : Bool) → g p ≡ b → b ≡ true
+    by true is = refl
+    by false out = absurd (true≢false (sym there ∙ ap (λ (o : Option Private). is_some o) (alike.privates.absent p out)))
 
 pub group_relies : GroupsRelyOnTheirOwn
 group_relies g log w v alike clean =
-    let acts = all_actions w.quota log in
+    let acts = all_actions w.quotas log in
     let steps = steps_of log w in
     let start : Alike g (IsOutside g) (outside_is_out g) w.devices Anyone (anyone_fits g w.devices) (λ me fits. (tt, tt)) [] w v = record { worlds = alike; table_is = refl; fits = λ p me member is. tt } in
     let all = (all_alike g (IsOutside g) (outside_is_out g) w.devices Anyone (anyone_fits g w.devices) (λ me fits. (tt, tt)) acts w v [] start ((clean_steps g steps).1 clean)).worlds in
     let less : WorldsAlike (IsOutside g) g (foul g steps) (does_all acts w) (does_all acts v) = record {
-      quota = all.quota;
+      quotas = all.quotas;
       devices = all.devices;
       privates = all.privates;
       stores = λ o clear inside. all.stores o (λ i. elim (foul_so_far g steps [] o i) [ inl j ↦ clear j | inr j ↦ absurd j ]) inside;
       names = λ n p clear leads. all.names n p (λ i. elim (foul_so_far g steps [] (object.Name n) i) [ inl j ↦ clear j | inr j ↦ absurd j ]) leads;
     } in
-    let second : does_all acts v ≡ ran log v = ap (λ q. does_all (all_actions q log) v) alike.quota ∙ sym (by_actions log v) in
+    let second : does_all acts v ≡ ran log v = all_same w.quotas v.quotas log v (λ p there. alike.quotas p (present_member g w v alike p there)) ∙ sym (by_actions log v) in
     let one = subst (λ (x : WorldState). WorldsAlike (IsOutside g) g (foul g steps) x (does_all acts v)) (sym (by_actions log w)) less in
     subst (λ (x : WorldState). WorldsAlike (IsOutside g) g (foul g steps) (ran log w) x) second one

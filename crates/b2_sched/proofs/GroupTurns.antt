@@ -1,9 +1,10 @@
 -- A turn in two stores that have in common what isn't foul and isn't left out, of a member and of another.
-use Rattle.std.specs.Prelude.{◌≡◌, ◌⊎◌, ℕ, zero, suc, ◌==◌, Bool, true, false, List, [], ◌∷◌, ◌++◌, map, Option, Some, None, refl}
+use Rattle.std.specs.Prelude.{◌≡◌, ◌⊎◌, ℕ, zero, suc, ◌-◌, ◌==◌, Bool, true, false, List, [], ◌∷◌, ◌++◌, map, Option, Some, None, refl, if◌then◌else◌}
 use Rattle.std.proofs.Common.{sym, ap, subst, ◌∙◌, inl, inr}
 use Rattle.b2_access.specs.Homes.{HomesIn, IsWithin}
 use Rattle.b2_access.specs.Leading.{LeadsTo, TouchedNamesIn}
 use Rattle.b2_access.specs.Loans.{lends}
+use Rattle.b2_access.proofs.Choice.{either}
 use Rattle.b2_access.proofs.Leading.{answers_lead_to_holders, names_lead_to_who_asks}
 use Rattle.b2_access.proofs.Locality.{serves_is_local}
 use Rattle.b2_access.proofs.RowLaws.{either_left, either_right}
@@ -27,14 +28,16 @@ use Rattle.b2_machine.proofs.NamesKept.{steps_lead_names}
 use Rattle.b2_machine.proofs.StepHomes.{steps_stay_within}
 use Rattle.b2_machine.specs.Step.{step}
 use Rattle.b2_machine.specs.Touched.{GoesAlike, GoesLocally, asking, step_touched, step_written, told}
-use Rattle.b2_machine.specs.Turn.{TurnEnd, counted_on, ended_turn, turn_from, unless_ended}
+use Rattle.b2_machine.specs.Turn.{TurnEnd, counted_on, ended_turn, passed_one, passes_none, passes_turn, turn_from, unless_ended}
 use Rattle.b2_machine.specs.declared.ends.Stepped.{Stepped}
 use Rattle.b2_machine.specs.declared.ends.Why.{Why}
+use Rattle.b2_machine.specs.declared.ends.Why.TheVariants as reason
+use Rattle.b2_machine.proofs.PassedTurns.{each_turn}
 use Rattle.b2_audit.proofs.CleanSteps.{AreApart, CleanFrom}
 use Rattle.b2_sched.specs.Choice.{basic}
 use Rattle.b2_sched.specs.Groups.{NamesLead, StoresAlike}
 use Rattle.b2_sched.specs.Lawful.{basic_is_lawful}
-use Rattle.b2_sched.specs.Turns.{step_of, steps_in_turn, step_noted}
+use Rattle.b2_sched.specs.Turns.{step_noted, step_of, steps_from, steps_in_turn, turn_of}
 use Rattle.b2_sched.proofs.Foul.{foul_after, fouled, other_fouls, own_fouls_nothing, stays_foul}
 use Rattle.b2_sched.proofs.AskedHomes.{HomesIfAny, asks_within}
 use Rattle.b2_sched.proofs.Numbers.{same_as_itself}
@@ -63,6 +66,7 @@ InsideIfAny out (Some a) = AsksInside out a
 pub record StayFit (devices : List Device) (out : Object → Type 0) (Fit : Private → Type 0) : Type 0 where
   pub asks : (me : Private) (s : StoreState) → Fit me → InsideIfAny out (asking (basic devices) me s)
   pub next : (me : Private) (s : StoreState) → Fit me → Fit (step_of devices me s).me
+  pub pass : (me : Private) (k : ℕ) → Fit me → Fit (record me { pass = k })
 
 pub none_inside : (out : Object → Type 0) → AreInside out []
 none_inside out o i = absurd i
@@ -151,32 +155,44 @@ module _ (devices : List Device) where
 
   module _ (g : Group) where
     -- what an outsider's turn leaves unfouled is as before
-    pub others_turn : (who n : ℕ) (me : Private) (s : StoreState) (steps : ℕ) (os : List Object) → g who ≡ false
-        → (o : Object) → (IsIn o (foul_after g (steps_in_turn devices who n me s) os) → ⊥) → content (turn_on n me s steps).after o ≡ content s o
-    unfolding turn_from steps_in_turn
-    others_turn who zero me s steps os out o clear = refl
-    others_turn who (suc n) me s steps os out o clear =
-        by (step_of devices me s).end.why (others_turn who n (step_of devices me s).me (step_of devices me s).after (counted_on steps (step_of devices me s).end) (fouled g (step_noted devices who me s) os) out o) clear
+    others_on : (who n : ℕ) (me : Private) (s : StoreState) (steps : ℕ) (os : List Object) → g who ≡ false
+        → (o : Object) → (IsIn o (foul_after g (steps_from devices who n me s) os) → ⊥) → content (turn_on n me s steps).after o ≡ content s o
+    unfolding turn_from steps_from
+    others_on who zero me s steps os out o clear = refl
+    others_on who (suc n) me s steps os out o clear =
+        by (step_of devices me s).end.why (others_on who n (step_of devices me s).me (step_of devices me s).after (counted_on steps (step_of devices me s).end) (fouled g (step_noted devices who me s) os) out o) clear
       where
         kept : (xs : List Step) → (IsIn o (foul_after g xs (fouled g (step_noted devices who me s) os)) → ⊥) → content (step_of devices me s).after o ≡ content s o
         kept xs c = (local me).others s o (λ i. c (stays_foul g xs (fouled g (step_noted devices who me s) os) o (other_fouls g (step_noted devices who me s) os o out i)))
 
         by : (why : Option Why)
-            → ((IsIn o (foul_after g (steps_in_turn devices who n (step_of devices me s).me (step_of devices me s).after) (fouled g (step_noted devices who me s) os)) → ⊥) → content (turn_on n (step_of devices me s).me (step_of devices me s).after (counted_on steps (step_of devices me s).end)).after o ≡ content (step_of devices me s).after o)
-            → (IsIn o (foul_after g (unless_ended why (λ w. []) (steps_in_turn devices who n (step_of devices me s).me (step_of devices me s).after)) (fouled g (step_noted devices who me s) os)) → ⊥)
+            → ((IsIn o (foul_after g (steps_from devices who n (step_of devices me s).me (step_of devices me s).after) (fouled g (step_noted devices who me s) os)) → ⊥) → content (turn_on n (step_of devices me s).me (step_of devices me s).after (counted_on steps (step_of devices me s).end)).after o ≡ content (step_of devices me s).after o)
+            → (IsIn o (foul_after g (unless_ended why (λ w. []) (steps_from devices who n (step_of devices me s).me (step_of devices me s).after)) (fouled g (step_noted devices who me s) os)) → ⊥)
             → content (unless_ended why (λ w. ended_turn (counted_on steps (step_of devices me s).end) w (step_of devices me s).me (step_of devices me s).after) (turn_on n (step_of devices me s).me (step_of devices me s).after (counted_on steps (step_of devices me s).end))).after o ≡ content s o
-        by None later c = later c ∙ kept (steps_in_turn devices who n (step_of devices me s).me (step_of devices me s).after) c
+        by None later c = later c ∙ kept (steps_from devices who n (step_of devices me s).me (step_of devices me s).after) c
         by (Some why) later c = kept [] c
 
-    -- a member's turn makes nothing foul
-    pub members_foul : (who n : ℕ) (me : Private) (s : StoreState) (os : List Object) → g who ≡ true → foul_after g (steps_in_turn devices who n me s) os ≡ os
-    unfolding steps_in_turn
-    members_foul who zero me s os member = refl
-    members_foul who (suc n) me s os member = ap (λ (xs : List Object). foul_after g (unless_ended (step_of devices me s).end.why (λ w. []) (steps_in_turn devices who n (step_of devices me s).me (step_of devices me s).after)) xs) (own_fouls_nothing g (step_noted devices who me s) os member) ∙ by (step_of devices me s).end.why (members_foul who n (step_of devices me s).me (step_of devices me s).after os member)
+    pub others_turn : (who n : ℕ) (me : Private) (s : StoreState) (os : List Object) → g who ≡ false
+        → (o : Object) → (IsIn o (foul_after g (steps_in_turn devices who n me s) os) → ⊥) → content (turn_of devices n me s).after o ≡ content s o
+    others_turn who n me s os out o = by (passes_turn me)
       where
-        by : (why : Option Why) → foul_after g (steps_in_turn devices who n (step_of devices me s).me (step_of devices me s).after) os ≡ os → foul_after g (unless_ended why (λ w. []) (steps_in_turn devices who n (step_of devices me s).me (step_of devices me s).after)) os ≡ os
+        by : (b : Bool) → (IsIn o (foul_after g (if b then [] else steps_from devices who n (passes_none me) s) os) → ⊥)
+            → content (if b then ended_turn 0 reason.Break (passed_one me) s else turn_on n (passes_none me) s 0).after o ≡ content s o
+        by true clear = refl
+        by false clear = others_on who n (passes_none me) s 0 os out o clear
+
+    -- a member's turn makes nothing foul
+    foul_on : (who n : ℕ) (me : Private) (s : StoreState) (os : List Object) → g who ≡ true → foul_after g (steps_from devices who n me s) os ≡ os
+    unfolding steps_from
+    foul_on who zero me s os member = refl
+    foul_on who (suc n) me s os member = ap (λ (xs : List Object). foul_after g (unless_ended (step_of devices me s).end.why (λ w. []) (steps_from devices who n (step_of devices me s).me (step_of devices me s).after)) xs) (own_fouls_nothing g (step_noted devices who me s) os member) ∙ by (step_of devices me s).end.why (foul_on who n (step_of devices me s).me (step_of devices me s).after os member)
+      where
+        by : (why : Option Why) → foul_after g (steps_from devices who n (step_of devices me s).me (step_of devices me s).after) os ≡ os → foul_after g (unless_ended why (λ w. []) (steps_from devices who n (step_of devices me s).me (step_of devices me s).after)) os ≡ os
         by None later = later
         by (Some why) later = refl
+
+    pub members_foul : (who n : ℕ) (me : Private) (s : StoreState) (os : List Object) → g who ≡ true → foul_after g (steps_in_turn devices who n me s) os ≡ os
+    members_foul who n me s os member = either (λ (xs : List Step). foul_after g xs os ≡ os) (passes_turn me) [] (steps_from devices who n (passes_none me) s) refl (foul_on who n (passes_none me) s os member)
 
     module _ (out : Object → Type 0) (is_out : IsOut g out) (Fit : Private → Type 0) (fit : StayFit devices out Fit) where
       -- A member's turn ends alike in both stores, where it touches nothing foul; it names members alone as homes, and names that aren't foul
@@ -219,12 +235,12 @@ module _ (devices : List Device) where
           by (inl before) = names n p clear before
           by (inr own) = ap g own ∙ w.part
 
-      pub members_turn : (who n : ℕ) (me : Private) (s t : StoreState) (steps : ℕ) (os : List Object) → g who ≡ true → IsWithin g me → Fit me → NamesLead g os s → StoresAlike out os s t
-          → CleanFrom g os (steps_in_turn devices who n me s) → TurnsAlike os (turn_on n me s steps) (turn_on n me t steps)
-      unfolding turn_from steps_in_turn
-      members_turn who zero me s t steps os member w fits names agree clean = record { own = refl; objects = agree; homes = w; names = names; fits = fits }
-      members_turn who (suc n) me s t steps os member w fits names agree clean =
-          let later = members_turn who n (step_of devices me s).me (step_of devices me s).after (step_of devices me t).after (counted_on steps (step_of devices me s).end) os member next (fit.next me s fits) names_next agree_next in
+      members_on : (who n : ℕ) (me : Private) (s t : StoreState) (steps : ℕ) (os : List Object) → g who ≡ true → IsWithin g me → Fit me → NamesLead g os s → StoresAlike out os s t
+          → CleanFrom g os (steps_from devices who n me s) → TurnsAlike os (turn_on n me s steps) (turn_on n me t steps)
+      unfolding turn_from steps_from
+      members_on who zero me s t steps os member w fits names agree clean = record { own = refl; objects = agree; homes = w; names = names; fits = fits }
+      members_on who (suc n) me s t steps os member w fits names agree clean =
+          let later = members_on who n (step_of devices me s).me (step_of devices me s).after (step_of devices me t).after (counted_on steps (step_of devices me s).end) os member next (fit.next me s fits) names_next agree_next in
           let by_me = subst (λ (z : Private). TurnsAlike os (goes_on n (step_of devices me s).end steps (step_of devices me s).me (step_of devices me s).after) (goes_on n (step_of devices me s).end steps z (step_of devices me t).after)) alike.own (by (step_of devices me s).end.why later rest) in
           subst (λ (e : Stepped). TurnsAlike os (goes_on n (step_of devices me s).end steps (step_of devices me s).me (step_of devices me s).after) (goes_on n e steps (step_of devices me t).me (step_of devices me t).after)) alike.end by_me
         where
@@ -240,13 +256,25 @@ module _ (devices : List Device) where
           agree_next : StoresAlike out os (step_of devices me s).after (step_of devices me t).after
           agree_next = next_agree me s t os agree alike
 
-          rest : CleanFrom g os (unless_ended (step_of devices me s).end.why (λ w. []) (steps_in_turn devices who n (step_of devices me s).me (step_of devices me s).after))
-          rest = subst (λ (xs : List Object). CleanFrom g xs (unless_ended (step_of devices me s).end.why (λ w. []) (steps_in_turn devices who n (step_of devices me s).me (step_of devices me s).after))) (own_fouls_nothing g (step_noted devices who me s) os member) clean.1
+          rest : CleanFrom g os (unless_ended (step_of devices me s).end.why (λ w. []) (steps_from devices who n (step_of devices me s).me (step_of devices me s).after))
+          rest = subst (λ (xs : List Object). CleanFrom g xs (unless_ended (step_of devices me s).end.why (λ w. []) (steps_from devices who n (step_of devices me s).me (step_of devices me s).after))) (own_fouls_nothing g (step_noted devices who me s) os member) clean.1
 
           by : (why : Option Why)
-              → (CleanFrom g os (steps_in_turn devices who n (step_of devices me s).me (step_of devices me s).after) → TurnsAlike os (turn_on n (step_of devices me s).me (step_of devices me s).after (counted_on steps (step_of devices me s).end)) (turn_on n (step_of devices me s).me (step_of devices me t).after (counted_on steps (step_of devices me s).end)))
-              → CleanFrom g os (unless_ended why (λ w. []) (steps_in_turn devices who n (step_of devices me s).me (step_of devices me s).after))
+              → (CleanFrom g os (steps_from devices who n (step_of devices me s).me (step_of devices me s).after) → TurnsAlike os (turn_on n (step_of devices me s).me (step_of devices me s).after (counted_on steps (step_of devices me s).end)) (turn_on n (step_of devices me s).me (step_of devices me t).after (counted_on steps (step_of devices me s).end)))
+              → CleanFrom g os (unless_ended why (λ w. []) (steps_from devices who n (step_of devices me s).me (step_of devices me s).after))
               → TurnsAlike os (unless_ended why (λ w. ended_turn (counted_on steps (step_of devices me s).end) w (step_of devices me s).me (step_of devices me s).after) (turn_on n (step_of devices me s).me (step_of devices me s).after (counted_on steps (step_of devices me s).end)))
               (unless_ended why (λ w. ended_turn (counted_on steps (step_of devices me s).end) w (step_of devices me s).me (step_of devices me t).after) (turn_on n (step_of devices me s).me (step_of devices me t).after (counted_on steps (step_of devices me s).end)))
           by None later c = later c
           by (Some why) later c = record { own = refl; objects = agree_next; homes = next; names = names_next; fits = fit.next me s fits }
+
+      pass_within : (me : Private) (k : ℕ) → IsWithin g me → IsWithin g (record me { pass = k })
+      pass_within me k w = record { part = w.part; place = w.place; kept = w.kept; frames = w.frames }
+
+      pub members_turn : (who n : ℕ) (me : Private) (s t : StoreState) (os : List Object) → g who ≡ true → IsWithin g me → Fit me → NamesLead g os s → StoresAlike out os s t
+          → CleanFrom g os (steps_in_turn devices who n me s) → TurnsAlike os (turn_of devices n me s) (turn_of devices n me t)
+      members_turn who n me s t os member w fits names agree = by (passes_turn me)
+        where
+          by : (b : Bool) → CleanFrom g os (if b then [] else steps_from devices who n (passes_none me) s)
+              → TurnsAlike os (if b then ended_turn 0 reason.Break (passed_one me) s else turn_on n (passes_none me) s 0) (if b then ended_turn 0 reason.Break (passed_one me) t else turn_on n (passes_none me) t 0)
+          by true clean = record { own = refl; objects = agree; homes = pass_within me (me.pass - 1) w; names = names; fits = fit.pass me (me.pass - 1) fits }
+          by false clean = members_on who n (passes_none me) s t 0 os member (pass_within me 0 w) (fit.pass me 0 fits) names agree clean

@@ -1,5 +1,5 @@
 -- A held device, over the turns of others and over all that happens.
-use Rattle.std.specs.Prelude.{◌≡◌, ◌≢◌, ◌⊎◌, ℕ, zero, suc, List, [], ◌∷◌, Option, Some, None, refl}
+use Rattle.std.specs.Prelude.{◌≡◌, ◌≢◌, ◌⊎◌, ℕ, zero, suc, Bool, true, false, List, [], ◌∷◌, Option, Some, None, refl, if◌then◌else◌}
 use Rattle.std.proofs.Common.{sym, ap, subst, ◌∙◌, inl, inr}
 use Rattle.b2_term.specs.Terminal.{TerminalState, keyed}
 use Rattle.b2_access.specs.Contents.{content_other, put_alike}
@@ -13,23 +13,30 @@ use Rattle.b2_access.specs.declared.objects.Object.{Object}
 use Rattle.b2_access.specs.declared.objects.Object.TheVariants as object
 use Rattle.b2_access.specs.declared.private.Private.{Private}
 use Rattle.b2_audit.specs.Steps.{Step, marks_after}
-use Rattle.b2_machine.specs.Turn.{TurnEnd, counted_on, ended_turn, turn_from, unless_ended}
+use Rattle.b2_machine.specs.Turn.{TurnEnd, counted_on, ended_turn, passed_one, passes_none, passes_turn, turn_from, unless_ended}
 use Rattle.b2_machine.specs.declared.ends.Stepped.{Stepped}
 use Rattle.b2_machine.specs.declared.ends.Turned.{Turned}
 use Rattle.b2_machine.specs.declared.ends.Why.{Why}
+use Rattle.b2_machine.specs.declared.ends.Why.TheVariants as reason
+use Rattle.b2_machine.proofs.PassedTurns.{each_turn}
 use Rattle.b2_store.specs.Changes.{room_at, with_terminal}
 use Rattle.b2_store.specs.DiskWork.{serves}
 use Rattle.b2_sched.proofs.EachRow.{EachIs, each_action, each_ran}
 use Rattle.b2_sched.proofs.HeldSteps.{next_own, step_held, step_keeps_or_frees, step_stays, step_waits, steps_agree}
 use Rattle.b2_sched.proofs.OwnObjects.{IsItself, by_end, keeps_itself, starts_itself}
 use Rattle.b2_sched.specs.Choice.{basic}
-use Rattle.b2_sched.specs.EachStep.{AtEachStep, AtSomeStep, EachInAction, EachInTurn, EachOf, SomeInAction, SomeInTurn, SomeOf}
+use Rattle.b2_sched.specs.EachStep.{AtEachStep, AtSomeStep, EachInAction, EachInTurn, EachOf, IfTaken, SomeInAction, SomeInTurn, SomeOf, UnlessPassed}
 use Rattle.b2_sched.specs.Holding.{AreOfOthers, Frees, HeldUntilFreed, IsHeld, IsOfOthers, IsReached, OthersLeaveHeld, OthersReadNothing, OthersWait, Waits, WorldsAgreeBut, with_store}
 use Rattle.b2_sched.specs.Start.{booted}
-use Rattle.b2_sched.specs.Turns.{step_noted, step_of, steps_in_turn}
+use Rattle.b2_sched.specs.Turns.{step_noted, step_of, steps_from, steps_in_turn, turn_of}
 use Rattle.b2_sched.specs.World.{WorldState, Action, Key, Front, Halt, Reset, Turn, does, does_all, dropped_by, private_of, tallied, with_turn}
 
 -- ---- a turn of another
+
+-- what is so of the steps of a turn is so unless it is passed
+pub unless_passed : (b : Bool) (T : Type 0) → T → UnlessPassed b T
+unless_passed true T h = tt
+unless_passed false T h = h
 
 module _ (devices : List Device) where
   abbrev turn_on : ℕ → Private → StoreState → ℕ → TurnEnd StoreState
@@ -41,7 +48,7 @@ module _ (devices : List Device) where
 
   -- the steps that follow one
   abbrev follow : ℕ → ℕ → Stepped → Private → StoreState → List Step
-  follow who n end me s = unless_ended end.why (λ w. []) (steps_in_turn devices who n me s)
+  follow who n end me s = unless_ended end.why (λ w. []) (steps_from devices who n me s)
 
   -- two turns, of an own state and of two stores
   record TurnsAgreeBut (a : List ℕ) (x y : TurnEnd StoreState) : Type 0 where
@@ -51,28 +58,28 @@ module _ (devices : List Device) where
 
   module _ (a : List ℕ) (p q : ℕ) where
     module _ (apart : q ≢ p) where
-      turn_stays : (n : ℕ) (me : Private) (s : StoreState) (steps : ℕ) → me.part ≡ q → IsHeld a p s → (o : Object) → device_of o ≡ Some a → content (turn_on n me s steps).after o ≡ content s o
+      stays_on : (n : ℕ) (me : Private) (s : StoreState) (steps : ℕ) → me.part ≡ q → IsHeld a p s → (o : Object) → device_of o ≡ Some a → content (turn_on n me s steps).after o ≡ content s o
       unfolding turn_from
-      turn_stays zero me s steps home held o is = refl
-      turn_stays (suc n) me s steps home held o is =
+      stays_on zero me s steps home held o is = refl
+      stays_on (suc n) me s steps home held o is =
           let x = step_of devices me s in
           let here = step_stays devices a p q me s home held apart o is in
           by_end (λ (t : TurnEnd StoreState). content t.after o ≡ content s o) x.end.why (λ w. ended_turn (counted_on steps x.end) w x.me x.after) (turn_on n x.me x.after (counted_on steps x.end)) (λ w. here)
-          (turn_stays n x.me x.after (counted_on steps x.end) (next_own devices a p q me s home held) (step_held devices a p q me s home held apart) o is ∙ here)
+          (stays_on n x.me x.after (counted_on steps x.end) (next_own devices a p q me s home held) (step_held devices a p q me s home held apart) o is ∙ here)
 
-      turn_waits : (n : ℕ) (me : Private) (s : StoreState) → me.part ≡ q → IsHeld a p s → EachInTurn (Waits a) devices n me s
-      turn_waits zero me s home held = tt
-      turn_waits (suc n) me s home held =
-          (step_waits devices a p q me s home held apart, λ on. turn_waits n (step_of devices me s).me (step_of devices me s).after (next_own devices a p q me s home held) (step_held devices a p q me s home held apart))
+      waits_on : (n : ℕ) (me : Private) (s : StoreState) → me.part ≡ q → IsHeld a p s → EachInTurn (Waits a) devices n me s
+      waits_on zero me s home held = tt
+      waits_on (suc n) me s home held =
+          (step_waits devices a p q me s home held apart, λ on. waits_on n (step_of devices me s).me (step_of devices me s).after (next_own devices a p q me s home held) (step_held devices a p q me s home held apart))
 
-      turns_agree : (n : ℕ) (me : Private) (s t : StoreState) (steps : ℕ) → me.part ≡ q → IsHeld a p s → AgreeBut a s t → TurnsAgreeBut a (turn_on n me s steps) (turn_on n me t steps)
+      agree_on : (n : ℕ) (me : Private) (s t : StoreState) (steps : ℕ) → me.part ≡ q → IsHeld a p s → AgreeBut a s t → TurnsAgreeBut a (turn_on n me s steps) (turn_on n me t steps)
       unfolding turn_from
-      turns_agree zero me s t steps home held agree = record { own = refl; turned = refl; stores = agree }
-      turns_agree (suc n) me s t steps home held agree =
+      agree_on zero me s t steps home held agree = record { own = refl; turned = refl; stores = agree }
+      agree_on (suc n) me s t steps home held agree =
           let x = step_of devices me s in
           let y = step_of devices me t in
           let same = steps_agree devices a p q me s t home held apart agree q in
-          let later = turns_agree n x.me x.after y.after (counted_on steps x.end) (next_own devices a p q me s home held) (step_held devices a p q me s home held apart) same.stores in
+          let later = agree_on n x.me x.after y.after (counted_on steps x.end) (next_own devices a p q me s home held) (step_held devices a p q me s home held apart) same.stores in
           subst (λ (e : Stepped). TurnsAgreeBut a (goes_on n x.end steps x.me x.after) (goes_on n e steps y.me y.after)) same.end
           (subst (λ (z : Private). TurnsAgreeBut a (goes_on n x.end steps x.me x.after) (goes_on n x.end steps z y.after)) same.own (by x.end.why x.me x.after y.after (counted_on steps x.end) same.stores later))
         where
@@ -81,30 +88,48 @@ module _ (devices : List Device) where
           by None z u v k same later = later
           by (Some w) z u v k same later = record { own = refl; turned = refl; stores = same }
 
-      noted_agree : (who n : ℕ) (me : Private) (s t : StoreState) → me.part ≡ q → IsHeld a p s → AgreeBut a s t → steps_in_turn devices who n me s ≡ steps_in_turn devices who n me t
-      unfolding steps_in_turn
-      noted_agree who zero me s t home held agree = refl
-      noted_agree who (suc n) me s t home held agree =
+      noted_on : (who n : ℕ) (me : Private) (s t : StoreState) → me.part ≡ q → IsHeld a p s → AgreeBut a s t → steps_from devices who n me s ≡ steps_from devices who n me t
+      unfolding steps_from
+      noted_on who zero me s t home held agree = refl
+      noted_on who (suc n) me s t home held agree =
           let x = step_of devices me s in
           let y = step_of devices me t in
           let same = steps_agree devices a p q me s t home held apart agree who in
-          let later = noted_agree who n x.me x.after y.after (next_own devices a p q me s home held) (step_held devices a p q me s home held apart) same.stores in
+          let later = noted_on who n x.me x.after y.after (next_own devices a p q me s home held) (step_held devices a p q me s home held apart) same.stores in
           ap (λ (z : Step). z ∷ follow who n x.end x.me x.after) same.noted
           ∙ ap (λ (zs : List Step). step_noted devices who me t ∷ zs)
           (ap (λ (zs : List Step). unless_ended x.end.why (λ w. []) zs) later
           ∙ ap (λ (z : Private). follow who n x.end z y.after) same.own
           ∙ ap (λ (e : Stepped). follow who n e y.me y.after) same.end)
 
+      -- passed or taken
+      turn_stays : (n : ℕ) (me : Private) (s : StoreState) → me.part ≡ q → IsHeld a p s → (o : Object) → device_of o ≡ Some a → content (turn_of devices n me s).after o ≡ content s o
+      turn_stays n me s home held o is =
+          each_turn (basic devices) itself serves lends (λ (t : TurnEnd StoreState). content t.after o ≡ content s o) n me s refl (stays_on n (passes_none me) s 0 home held o is)
+
+      turn_waits : (n : ℕ) (me : Private) (s : StoreState) → me.part ≡ q → IsHeld a p s → EachOf (Waits a) devices n (Some me) s
+      turn_waits n me s home held = unless_passed (passes_turn me) (EachInTurn (Waits a) devices n (passes_none me) s) (waits_on n (passes_none me) s home held)
+
+      turns_agree : (n : ℕ) (me : Private) (s t : StoreState) → me.part ≡ q → IsHeld a p s → AgreeBut a s t → TurnsAgreeBut a (turn_of devices n me s) (turn_of devices n me t)
+      turns_agree n me s t home held agree = by (passes_turn me)
+        where
+          by : (b : Bool) → TurnsAgreeBut a (if b then ended_turn 0 reason.Break (passed_one me) s else turn_on n (passes_none me) s 0) (if b then ended_turn 0 reason.Break (passed_one me) t else turn_on n (passes_none me) t 0)
+          by true = record { own = refl; turned = refl; stores = agree }
+          by false = agree_on n (passes_none me) s t 0 home held agree
+
+      noted_agree : (who n : ℕ) (me : Private) (s t : StoreState) → me.part ≡ q → IsHeld a p s → AgreeBut a s t → steps_in_turn devices who n me s ≡ steps_in_turn devices who n me t
+      noted_agree who n me s t home held agree = ap (λ (xs : List Step). if passes_turn me then [] else xs) (noted_on who n (passes_none me) s t home held agree)
+
     -- a turn of anyone
     abbrev KeepsOrFrees : ℕ → Private → StoreState → ℕ → Type 0
     KeepsOrFrees n me s steps = IsHeld a p (turn_on n me s steps).after ⊎ SomeInTurn (Frees a p) devices n me s
 
-    turn_keeps_or_frees : (n : ℕ) (me : Private) (s : StoreState) (steps : ℕ) → me.part ≡ q → IsHeld a p s → KeepsOrFrees n me s steps
+    keeps_or_frees_on : (n : ℕ) (me : Private) (s : StoreState) (steps : ℕ) → me.part ≡ q → IsHeld a p s → KeepsOrFrees n me s steps
     unfolding turn_from
-    turn_keeps_or_frees zero me s steps home held = inl held
-    turn_keeps_or_frees (suc n) me s steps home held =
+    keeps_or_frees_on zero me s steps home held = inl held
+    keeps_or_frees_on (suc n) me s steps home held =
         by (step_keeps_or_frees devices a p q me s home held)
-        (λ still. turn_keeps_or_frees n (step_of devices me s).me (step_of devices me s).after (counted_on steps (step_of devices me s).end) (next_own devices a p q me s home held) still)
+        (λ still. keeps_or_frees_on n (step_of devices me s).me (step_of devices me s).after (counted_on steps (step_of devices me s).end) (next_own devices a p q me s home held) still)
       where
         goes : (why : Option Why) → (step_of devices me s).end.why ≡ why → IsHeld a p (step_of devices me s).after → KeepsOrFrees n (step_of devices me s).me (step_of devices me s).after (counted_on steps (step_of devices me s).end)
             → IsHeld a p (unless_ended why (λ w. ended_turn (counted_on steps (step_of devices me s).end) w (step_of devices me s).me (step_of devices me s).after) (turn_on n (step_of devices me s).me (step_of devices me s).after (counted_on steps (step_of devices me s).end))).after
@@ -117,6 +142,13 @@ module _ (devices : List Device) where
             → IsHeld a p (goes_on n (step_of devices me s).end steps (step_of devices me s).me (step_of devices me s).after).after ⊎ SomeInTurn (Frees a p) devices (suc n) me s
         by (inl still) rest = goes (step_of devices me s).end.why refl still (rest still)
         by (inr frees) rest = inr (inl frees)
+
+    turn_keeps_or_frees : (n : ℕ) (me : Private) (s : StoreState) → me.part ≡ q → IsHeld a p s → IsHeld a p (turn_of devices n me s).after ⊎ SomeOf (Frees a p) devices n (Some me) s
+    turn_keeps_or_frees n me s home held = by (passes_turn me)
+      where
+        by : (b : Bool) → IsHeld a p (if b then ended_turn 0 reason.Break (passed_one me) s else turn_on n (passes_none me) s 0).after ⊎ IfTaken b (SomeInTurn (Frees a p) devices n (passes_none me) s)
+        by true = inl held
+        by false = keeps_or_frees_on n (passes_none me) s 0 home held
 
 -- ---- what happens at once
 
@@ -139,7 +171,7 @@ not_content a t c = elim c [ inl e ↦ cc | inr e ↦ cc ]
 module _ (a : List ℕ) (p : ℕ) where
   turned_stays : (q n : ℕ) (m : Option Private) (w : WorldState) → private_of q w ≡ m → AreThemselves w → q ≢ p → IsHeld a p w.store → (o : Object) → device_of o ≡ Some a → content (with_turn q m n w).store o ≡ content w.store o
   turned_stays q n None w is home apart held o of = refl
-  turned_stays q n (Some me) w is home apart held o of = turn_stays w.devices a p q apart n me w.store 0 (home q me is) held o of
+  turned_stays q n (Some me) w is home apart held o of = turn_stays w.devices a p q apart n me w.store (home q me is) held o of
 
   action_stays : (x : Action) (w : WorldState) → AreThemselves w → IsOfOthers p x → IsHeld a p w.store → (o : Object) → device_of o ≡ Some a → content (does x w).store o ≡ content w.store o
   action_stays (Key t k) w home other held o of = terminal_leaves o a of (content w.store (object.Terminal t)) t (keyed k) w.store
@@ -175,10 +207,10 @@ module _ (a : List ℕ) (p : ℕ) where
       → WorldsAgreeBut a (with_turn q m n w) (with_turn q m n (with_store t w))
   turned_agrees q n None w t is home apart held agree = (refl, agree)
   turned_agrees q n (Some me) w t is home apart held agree =
-      let same = turns_agree w.devices a p q apart n me w.store t 0 (home q me is) held agree in
+      let same = turns_agree w.devices a p q apart n me w.store t (home q me is) held agree in
       let noted = noted_agree w.devices a p q apart q n me w.store t (home q me is) held agree in
-      let x = turn_on w.devices n me w.store 0 in
-      let y = turn_on w.devices n me t 0 in
+      let x = turn_of w.devices n me w.store in
+      let y = turn_of w.devices n me t in
       let W : Private → Turned → List Step → WorldState = λ z d steps.
       record w { privates = with_row q w.privates z; store = y.after; marks = marks_after steps w.marks; turns = tallied w.turns 1; steps = tallied w.steps d.steps } in (
         ap (λ z. W z x.turned (steps_in_turn w.devices q n me w.store)) same.own
@@ -212,7 +244,7 @@ module _ (a : List ℕ) (p : ℕ) where
   -- whoever acts
   turned_keeps_or_frees : (q n : ℕ) (m : Option Private) (w : WorldState) → private_of q w ≡ m → AreThemselves w → IsHeld a p w.store → IsHeld a p (with_turn q m n w).store ⊎ SomeOf (Frees a p) w.devices n m w.store
   turned_keeps_or_frees q n None w is home held = inl held
-  turned_keeps_or_frees q n (Some me) w is home held = turn_keeps_or_frees w.devices a p q n me w.store 0 (home q me is) held
+  turned_keeps_or_frees q n (Some me) w is home held = turn_keeps_or_frees w.devices a p q n me w.store (home q me is) held
 
   action_keeps_or_frees : (x : Action) (w : WorldState) → AreThemselves w → IsHeld a p w.store → IsHeld a p (does x w).store ⊎ SomeInAction (Frees a p) x w
   action_keeps_or_frees (Turn q n) w home held = turned_keeps_or_frees q n (private_of q w) w refl home held

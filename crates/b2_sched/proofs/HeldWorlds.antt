@@ -16,12 +16,14 @@ use Rattle.b2_access.specs.declared.objects.Object.TheVariants as object
 use Rattle.b2_access.specs.declared.private.Private.{Private}
 use Rattle.b2_access.proofs.Locality.{serves_keeps_listed}
 use Rattle.b2_boot.specs.Boots.{BootState}
+use Rattle.b2_boot.specs.Quotas.{quotas_of}
 use Rattle.b2_boot.specs.declared.boot.BootPartition.{BootPartition}
 use Rattle.b2_boot.specs.declared.boot.BootPlatter.{BootPlatter}
 use Rattle.b2_boot.specs.declared.boot.BootPrinter.{BootPrinter}
 use Rattle.b2_machine.proofs.StepDevices.{steps_ask_for_listed}
 use Rattle.b2_machine.specs.Touched.{AskedListed, asking}
-use Rattle.b2_machine.specs.Turn.{TurnEnd, counted_on, ended_turn, turn_from}
+use Rattle.b2_machine.specs.Turn.{TurnEnd, counted_on, ended_turn, passes_none, turn_from}
+use Rattle.b2_machine.proofs.PassedTurns.{each_turn}
 use Rattle.b2_store.specs.Changes.{with_terminal}
 use Rattle.b2_store.specs.DiskWork.{disks, serves}
 use Rattle.b2_store.specs.Start.{free_row}
@@ -89,14 +91,18 @@ module _ (devices : List Device) (few : length devices ≤ 12) (keep : KeepTheLi
         same_agreed devices p (step_of devices me s).me.held (left_where x me.part l.before) (step_of devices me s).after (λ a. l.left (object.Hog a) refl)
         (subst (λ (k : ℕ). Agree devices p (step_of devices me s).me.held (left_where x k l.before)) (sym fit.1) (subst (λ (held : List (List ℕ)). Agree devices p held (left_where x p l.before)) list there))
 
-    own_turn : (n : ℕ) (me : Private) (s : StoreState) (steps : ℕ) → IsFit p me → KnowsAll devices s → Agree devices p me.held s → Agree devices p (turn_on n me s steps).me.held (turn_on n me s steps).after
+    own_on : (n : ℕ) (me : Private) (s : StoreState) (steps : ℕ) → IsFit p me → KnowsAll devices s → Agree devices p me.held s → Agree devices p (turn_on n me s steps).me.held (turn_on n me s steps).after
     unfolding turn_from
-    own_turn zero me s steps fit knows agree = agree
-    own_turn (suc n) me s steps fit knows agree =
+    own_on zero me s steps fit knows agree = agree
+    own_on (suc n) me s steps fit knows agree =
         let x = step_of devices me s in
         let here = own_step me s fit knows agree in
         by_end (λ (t : TurnEnd StoreState). Agree devices p t.me.held t.after) x.end.why (λ w. ended_turn (counted_on steps x.end) w x.me x.after) (turn_on n x.me x.after (counted_on steps x.end)) (λ w. here)
-        (own_turn n x.me x.after (counted_on steps x.end) (fit_after devices p me s fit) (step_knows me s knows) here)
+        (own_on n x.me x.after (counted_on steps x.end) (fit_after devices p me s fit) (step_knows me s knows) here)
+
+    own_turn : (n : ℕ) (me : Private) (s : StoreState) → IsFit p me → KnowsAll devices s → Agree devices p me.held s → Agree devices p (turn_of devices n me s).me.held (turn_of devices n me s).after
+    own_turn n me s fit knows agree =
+        each_turn (basic devices) itself serves lends (λ (t : TurnEnd StoreState). Agree devices p t.me.held t.after) n me s agree (own_on n (passes_none me) s 0 fit knows agree)
 
   -- of all others
   module _ (p q : ℕ) (apart : q ≢ p) where
@@ -112,23 +118,29 @@ module _ (devices : List Device) (few : length devices ≤ 12) (keep : KeepTheLi
         (λ a is. sym (l.lent (object.Hog a) refl) ∙ none_left x a l.before (subst (λ (k : ℕ). IsHeld a p (left_where x k l.before)) fit.1 (sym (l.left (object.Hog a) refl) ∙ is)))
         (λ a is. step_held devices a p q me s fit.1 is apart) agree
 
-    other_turn : (held : List (List ℕ)) (n : ℕ) (me : Private) (s : StoreState) (steps : ℕ) → IsFit q me → Agree devices p held s → Agree devices p held (turn_on n me s steps).after
+    other_on : (held : List (List ℕ)) (n : ℕ) (me : Private) (s : StoreState) (steps : ℕ) → IsFit q me → Agree devices p held s → Agree devices p held (turn_on n me s steps).after
     unfolding turn_from
-    other_turn held zero me s steps fit agree = agree
-    other_turn held (suc n) me s steps fit agree =
+    other_on held zero me s steps fit agree = agree
+    other_on held (suc n) me s steps fit agree =
         let x = step_of devices me s in
         let here = other_step held me s fit agree in
         by_end (λ (t : TurnEnd StoreState). Agree devices p held t.after) x.end.why (λ w. ended_turn (counted_on steps x.end) w x.me x.after) (turn_on n x.me x.after (counted_on steps x.end)) (λ w. here)
-        (other_turn held n x.me x.after (counted_on steps x.end) (fit_after devices q me s fit) here)
+        (other_on held n x.me x.after (counted_on steps x.end) (fit_after devices q me s fit) here)
 
-  turn_knows : (n : ℕ) (me : Private) (s : StoreState) (steps : ℕ) → KnowsAll devices s → KnowsAll devices (turn_on n me s steps).after
+    other_turn : (held : List (List ℕ)) (n : ℕ) (me : Private) (s : StoreState) → IsFit q me → Agree devices p held s → Agree devices p held (turn_of devices n me s).after
+    other_turn held n me s fit agree = each_turn (basic devices) itself serves lends (λ (t : TurnEnd StoreState). Agree devices p held t.after) n me s agree (other_on held n (passes_none me) s 0 fit agree)
+
+  knows_on : (n : ℕ) (me : Private) (s : StoreState) (steps : ℕ) → KnowsAll devices s → KnowsAll devices (turn_on n me s steps).after
   unfolding turn_from
-  turn_knows zero me s steps knows = knows
-  turn_knows (suc n) me s steps knows =
+  knows_on zero me s steps knows = knows
+  knows_on (suc n) me s steps knows =
       let x = step_of devices me s in
       let here = step_knows me s knows in
       by_end (λ (t : TurnEnd StoreState). KnowsAll devices t.after) x.end.why (λ w. ended_turn (counted_on steps x.end) w x.me x.after) (turn_on n x.me x.after (counted_on steps x.end)) (λ w. here)
-      (turn_knows n x.me x.after (counted_on steps x.end) here)
+      (knows_on n x.me x.after (counted_on steps x.end) here)
+
+  turn_knows : (n : ℕ) (me : Private) (s : StoreState) → KnowsAll devices s → KnowsAll devices (turn_of devices n me s).after
+  turn_knows n me s knows = each_turn (basic devices) itself serves lends (λ (t : TurnEnd StoreState). KnowsAll devices t.after) n me s knows (knows_on n (passes_none me) s 0 knows)
 
 -- ---- what happens at once
 
@@ -158,19 +170,19 @@ each_there devices t f s rows each p me is =
 module _ (keep : (devices : List Device) → KeepTheList (basic devices)) where
   turned_good : (q n : ℕ) (m : Option Private) (w : WorldState) → private_of q w ≡ m → AreGood w → AreGood (with_turn q m n w)
   turned_good q n None w is good = good
-  turned_good q n (Some me) w is good = record { few = good.few; knows = turn_knows w.devices good.few (keep w.devices) n me w.store 0 good.knows; each = each }
+  turned_good q n (Some me) w is good = record { few = good.few; knows = turn_knows w.devices good.few (keep w.devices) n me w.store good.knows; each = each }
     where
       own : IsGood w.devices w.store q me
       own = good.each q me is
 
       its_own : IsGood w.devices (turn_of w.devices n me w.store).after q (turn_of w.devices n me w.store).me
-      its_own = (always_fit.turn w.devices q n me w.store own.0, own_turn w.devices good.few (keep w.devices) q n me w.store 0 own.0 good.knows own.1)
+      its_own = (always_fit.turn w.devices q n me w.store own.0, own_turn w.devices good.few (keep w.devices) q n me w.store own.0 good.knows own.1)
 
       each : EachIs (IsGood w.devices (turn_of w.devices n me w.store).after) (with_row q w.privates (turn_of w.devices n me w.store).me)
       each p you there =
           row_comes (λ (z : Private). IsGood w.devices (turn_of w.devices n me w.store).after p z) p q (turn_of w.devices n me w.store).me w.privates
           (λ e. subst (λ (k : ℕ). IsGood w.devices (turn_of w.devices n me w.store).after k (turn_of w.devices n me w.store).me) (sym e) its_own)
-          (λ apart z stood. (let old = good.each p z stood in (old.0, other_turn w.devices good.few (keep w.devices) p q (λ e. apart (sym e)) z.held n me w.store 0 own.0 old.1)))
+          (λ apart z stood. (let old = good.each p z stood in (old.0, other_turn w.devices good.few (keep w.devices) p q (λ e. apart (sym e)) z.held n me w.store own.0 old.1)))
           you there
 
   action_good : (x : Action) (w : WorldState) → AreGood w → AreGood (does x w)
@@ -246,7 +258,7 @@ lists_hold devices p me s few agree =
 
 pub lists_are_what_is_held : ((devices : List Device) → KeepTheList (basic devices)) → ListsAreWhatIsHeld
 lists_are_what_is_held keep b images log p me can is =
-    let acts = all_actions b.quota log in
+    let acts = all_actions (quotas_of b) log in
     let w = booted b images in
     let same = by_actions log w in
     let good = all_good keep acts w (booted_good b images can) in

@@ -31,12 +31,14 @@ use Rattle.b2_access.proofs.Entering.{accesses_enter_as_said}
 use Rattle.b2_access.proofs.Locality.{serves_keeps_listed}
 use Rattle.b2_audit.specs.Steps.{IsPartition}
 use Rattle.b2_boot.specs.Boots.{BootState}
+use Rattle.b2_boot.specs.Quotas.{quotas_of}
 use Rattle.b2_boot.specs.declared.boot.BootPartition.{BootPartition}
 use Rattle.b2_boot.specs.declared.log.Event.{Event}
 use Rattle.b2_machine.proofs.KeptPlace.{step_keeps}
 use Rattle.b2_machine.specs.Step.{no_text, text_in}
 use Rattle.b2_machine.specs.Touched.{asking}
-use Rattle.b2_machine.specs.Turn.{TurnEnd, counted_on, ended_turn, turn_from}
+use Rattle.b2_machine.specs.Turn.{TurnEnd, counted_on, ended_turn, passed_one, passes_none, turn_from}
+use Rattle.b2_machine.proofs.PassedTurns.{each_turn}
 use Rattle.b2_store.specs.Changes.{with_terminal}
 use Rattle.b2_store.specs.DiskWork.{disks, serves}
 use Rattle.b2_store.specs.Start.{borrow_row}
@@ -146,6 +148,18 @@ module _ (there : ℕ → Bool) where
     entered = λ g is. same g is ∙ good.entered g is;
   }
 
+  -- whichever turns it is to pass
+  pass_good : (s : StoreState) (p : ℕ) (me : Private) (k : ℕ) → IsGood s p me → IsGood s p (record me { pass = k })
+  pass_good s p me k h = record {
+    here = h.here;
+    none = h.none;
+    ready = h.ready;
+    line = record { part = h.line.part; place = h.line.place; kept = h.line.kept; frames = h.line.frames };
+    stands = record { place = h.stands.place; kept = h.stands.kept; frames = h.stands.frames };
+    own = h.own;
+    entered = h.entered;
+  }
+
   -- what a step, or a turn, of a partition leaves
   record Leaves (s t : StoreState) (q : ℕ) (after : Private) : Type 0 where
     pub good : IsGood t q after
@@ -198,14 +212,19 @@ module _ (there : ℕ → Bool) where
       text = λ p apart some. k.text p apart (subst (λ (n : ℕ). 1 ≤ n) (sym (h.others p apart q h.good.here)) some) ∙ h.text p apart some;
     }
 
-    turn_leaves : (q n : ℕ) (me : Private) (s : StoreState) (steps : ℕ) → Knows s → IsGood s q me → Leaves s (turn_on n me s steps).after q (turn_on n me s steps).me
+    leaves_on : (q n : ℕ) (me : Private) (s : StoreState) (steps : ℕ) → Knows s → IsGood s q me → Leaves s (turn_on n me s steps).after q (turn_on n me s steps).me
     unfolding turn_from
-    turn_leaves q zero me s steps knows good = record { good = good; knows = knows; others = λ p apart g is. refl; text = λ p apart some. refl }
-    turn_leaves q (suc n) me s steps knows good =
+    leaves_on q zero me s steps knows good = record { good = good; knows = knows; others = λ p apart g is. refl; text = λ p apart some. refl }
+    leaves_on q (suc n) me s steps knows good =
         let x = step_of devices me s in
         let here = step_leaves_of q me s knows good in
         by_end (λ (t : TurnEnd StoreState). Leaves s t.after q t.me) x.end.why (λ w. ended_turn (counted_on steps x.end) w x.me x.after) (turn_on n x.me x.after (counted_on steps x.end)) (λ w. here)
-        (both_leave s x.after _ q x.me _ here (turn_leaves q n x.me x.after (counted_on steps x.end) here.knows here.good))
+        (both_leave s x.after _ q x.me _ here (leaves_on q n x.me x.after (counted_on steps x.end) here.knows here.good))
+
+    turn_leaves : (q n : ℕ) (me : Private) (s : StoreState) → Knows s → IsGood s q me → Leaves s (turn_of devices n me s).after q (turn_of devices n me s).me
+    turn_leaves q n me s knows good =
+        each_turn (basic devices) itself serves lends (λ (t : TurnEnd StoreState). Leaves s t.after q t.me) n me s
+        (record { good = pass_good s q me (me.pass - 1) good; knows = knows; others = λ p apart g is. refl; text = λ p apart some. refl }) (leaves_on q n (passes_none me) s 0 knows (pass_good s q me 0 good))
 
   -- ---- what happens at once
 
@@ -261,7 +280,7 @@ module _ (there : ℕ → Bool) where
     turned_good q n (Some me) w is good = record { knows = left.knows; each = each }
       where
         left : Leaves w.store (turn_of w.devices n me w.store).after q (turn_of w.devices n me w.store).me
-        left = turn_leaves w.devices (enter w.devices) q n me w.store 0 good.knows (good.each q me is)
+        left = turn_leaves w.devices (enter w.devices) q n me w.store good.knows (good.each q me is)
 
         each : EachIs (IsGood (turn_of w.devices n me w.store).after) (with_row q w.privates (turn_of w.devices n me w.store).me)
         each p you there_now =
@@ -286,7 +305,7 @@ module _ (there : ℕ → Bool) where
     turned_text q n (Some me) w is good some = by (inside w.store q) refl (good.each q me is).own some
       where
         left : Leaves w.store (turn_of w.devices n me w.store).after q (turn_of w.devices n me w.store).me
-        left = turn_leaves w.devices (enter w.devices) q n me w.store 0 good.knows (good.each q me is)
+        left = turn_leaves w.devices (enter w.devices) q n me w.store good.knows (good.each q me is)
 
         same_as_it : (k : ℕ) → (k == k) ≡ true
         same_as_it k = grind (arith, nat_tests)
@@ -393,7 +412,7 @@ booted_good b images are = record {
 module _ (enter : (devices : List Device) → EnterAsSaid (basic devices)) where
   ran_good : (b : BootState) (images : Images) (log : List Event) → AreNumbered b.partitions → AreGood (there_by b.partitions) (ran log (booted b images))
   ran_good b images log are =
-      subst (AreGood (there_by b.partitions)) (sym (by_actions log (booted b images))) (all_good (there_by b.partitions) enter (all_actions b.quota log) (booted b images) (booted_good b images are))
+      subst (AreGood (there_by b.partitions)) (sym (by_actions log (booted b images))) (all_good (there_by b.partitions) enter (all_actions (quotas_of b) log) (booted b images) (booted_good b images are))
 
   pub are_inside_as_entered : AreInsideAsEntered
   are_inside_as_entered b images log p me are is =

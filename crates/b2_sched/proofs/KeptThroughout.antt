@@ -1,5 +1,5 @@
 -- What a step keeps, of its partition and of the store, all that happens keeps of each partition and of the store.
-use Rattle.std.specs.Prelude.{◌≡◌, ℕ, zero, suc, ◌==◌, Bool, true, false, cond, List, [], ◌∷◌, map, Option, Some, None, is_some, refl}
+use Rattle.std.specs.Prelude.{◌≡◌, ℕ, zero, suc, ◌-◌, ◌==◌, Bool, true, false, cond, List, [], ◌∷◌, map, Option, Some, None, is_some, refl}
 use Rattle.std.proofs.Common.{ap, subst}
 use Rattle.b2_term.specs.Terminal.{TerminalState, keyed}
 use Rattle.b2_access.specs.Loans.{lends}
@@ -10,22 +10,25 @@ use Rattle.b2_access.specs.declared.devices.Device.{Device}
 use Rattle.b2_access.specs.declared.objects.Object.TheVariants as object
 use Rattle.b2_access.specs.declared.private.Private.{Private}
 use Rattle.b2_boot.specs.declared.boot.BootPartition.{BootPartition}
-use Rattle.b2_machine.specs.Turn.{counted_on, ended_turn, turn_from, unless_ended}
+use Rattle.b2_machine.specs.Turn.{TurnEnd, counted_on, ended_turn, passes_none, turn_from, unless_ended}
 use Rattle.b2_machine.specs.declared.ends.Why.{Why}
+use Rattle.b2_machine.proofs.PassedTurns.{each_turn}
 use Rattle.b2_store.specs.Changes.{with_terminal}
 use Rattle.b2_store.specs.DiskWork.{serves}
 use Rattle.b2_sched.proofs.EachRow.{EachIs, each_changed, each_row}
 use Rattle.b2_sched.proofs.GroupRows.{is_it}
 use Rattle.b2_sched.specs.Choice.{basic}
 use Rattle.b2_sched.specs.Start.{private_row}
-use Rattle.b2_sched.specs.Turns.{step_of}
+use Rattle.b2_sched.specs.Turns.{step_of, turn_of}
 use Rattle.b2_sched.specs.World.{WorldState, Action, Key, Front, Halt, Reset, Turn, asked_to_halt, asked_to_reset, does, does_all, private_of, with_turn}
 
--- a step keeps it, and so does what happens besides: a partition is asked to halt or to reset, and a terminal changes
+-- a step keeps it, and so does what happens besides: a partition is asked to halt or to reset, or is to pass other turns, and a terminal
+-- changes
 pub record AreKept (Own : List Device → Private → Type 0) (Shared : StoreState → Type 0) : Type 0 where
   pub step : (devices : List Device) (me : Private) (s : StoreState) → Own devices me × Shared s → Own devices (step_of devices me s).me × Shared (step_of devices me s).after
   pub halt : (devices : List Device) (me : Private) → Own devices me → Own devices (asked_to_halt me)
   pub reset : (devices : List Device) (me : Private) → Own devices me → Own devices (asked_to_reset me)
+  pub pass : (devices : List Device) (me : Private) (k : ℕ) → Own devices me → Own devices (record me { pass = k })
   pub terminal : (o : Option TerminalState) (t : ℕ) (f : TerminalState → TerminalState) (s : StoreState) → Shared s → Shared (with_terminal o t f s)
 
 module _ (Own : List Device → Private → Type 0) (Shared : StoreState → Type 0) (kept : AreKept Own Shared) where
@@ -59,8 +62,10 @@ module _ (Own : List Device → Private → Type 0) (Shared : StoreState → Typ
   turned : (p n : ℕ) (o : Option Private) (w : WorldState) → private_of p w ≡ o → InWorld w → InWorld (with_turn p o n w)
   turned p n None w is k = k
   turned p n (Some me) w is k =
-      let after = in_turn w.devices n me w.store 0 (k.0 p me is, k.1) in
-      (each_row (EachOwn w.devices) p (turn_from (basic w.devices) itself serves lends n me w.store 0).me w.privates after.0 k.0, after.1)
+      let own = k.0 p me is in
+      let after = each_turn (basic w.devices) itself serves lends (λ (t : TurnEnd StoreState). Both w.devices t.me t.after) n me w.store (kept.pass w.devices me (me.pass - 1) own, k.1)
+      (in_turn w.devices n (passes_none me) w.store 0 (kept.pass w.devices me 0 own, k.1)) in
+      (each_row (EachOwn w.devices) p (turn_of w.devices n me w.store).me w.privates after.0 k.0, after.1)
 
   pub in_action : (x : Action) (w : WorldState) → InWorld w → InWorld (does x w)
   in_action (Key t key) w k = (k.0, kept.terminal (content w.store (object.Terminal t)) t (keyed key) w.store k.1)

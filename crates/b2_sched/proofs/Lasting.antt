@@ -1,12 +1,14 @@
 -- The laws of a world.
 use Rattle.std.specs.Prelude.{◌≡◌, ◌≢◌, ℕ, zero, suc, ◌+◌, ◌*◌, ◌^◌, ◌<◌, ◌==◌, Bool, true, false, List, [], ◌∷◌, Option, Some, None, is_some, option_map, refl, if◌then◌else◌}
 use Rattle.std.proofs.Common.{sym, ap, subst, ◌∙◌, arith}
+use Rattle.b2_boot.specs.Quotas.{quota_at}
 use Rattle.b2_sched.proofs.Numbered.{numbered_same, numbered_other}
 use Rattle.b2_access.specs.Rows.{row_of, with_row}
 use Rattle.b2_access.specs.declared.private.Private.{Private}
-use Rattle.b2_sched.proofs.Folds.{does_append, all_keep_quota}
+use Rattle.b2_sched.proofs.Folds.{does_append, all_keep_quotas}
 use Rattle.b2_sched.proofs.Numbers.{same_number, other_number}
-use Rattle.b2_sched.specs.Laws.{all_actions, RunsByActions, LeavesOthers, KeepsPresent, present_from, present, CountsTurns}
+use Rattle.b2_sched.specs.Laws.{all_actions, RunsByActions, LeavesOthers, KeepsPresent, present_from, present, CountsTurns, QuotasStay}
+use Rattle.b2_sched.specs.Start.{booted}
 use Rattle.b2_sched.specs.Turns.{turn_of}
 use Rattle.b2_sched.specs.World.{WorldState, Action, Key, Front, Halt, Reset, Turn, private_of, tallied, row_changed, asked_to_halt, asked_to_reset, with_turn, actions, does, does_all, turns_from, rounds, happens}
 
@@ -15,8 +17,14 @@ pub by_actions : RunsByActions
 by_actions [] w = refl
 by_actions (e ∷ es) w =
     by_actions es (happens e w)
-    ∙ ap (λ k. does_all (all_actions k es) (happens e w)) (all_keep_quota (actions w.quota e) w)
-    ∙ sym (does_append (actions w.quota e) (all_actions w.quota es) w)
+    ∙ ap (λ k. does_all (all_actions k es) (happens e w)) (all_keep_quotas (actions w.quotas e) w)
+    ∙ sym (does_append (actions w.quotas e) (all_actions w.quotas es) w)
+
+-- the quotas of a boot stay through every run
+pub quotas_stay : QuotasStay
+quotas_stay b images log =
+    let w = booted b images in
+    ap (λ (v : WorldState). v.quotas) (by_actions log w) ∙ all_keep_quotas (all_actions w.quotas log) w
 
 -- the others after a turn
 turned_others : (p q n : ℕ) (m : Option Private) (w : WorldState) → q ≢ p → private_of q (with_turn p m n w) ≡ private_of q w
@@ -60,7 +68,7 @@ all_there q [] w = refl
 all_there q (x ∷ xs) w = all_there q xs (does x w) ∙ does_there q x w
 
 pub same_present : KeepsPresent
-same_present e w p = all_there p (actions w.quota e) w
+same_present e w p = all_there p (actions w.quotas e) w
 
 -- how many are present after a turn, and after a round
 pub there_from : (p n : ℕ) (v w : WorldState) → ((q : ℕ) → is_some (private_of q v) ≡ is_some (private_of q w)) → present_from p n v ≡ present_from p n w
@@ -78,30 +86,31 @@ turn_counts : (p n : ℕ) (m : Option Private) (w : WorldState) → w.turns < 2 
 turn_counts p n None w fits = omega arith
 turn_counts p n (Some me) w fits = refl
 
-from_counts : (quota p k : ℕ) (w : WorldState) → w.turns < 2 ^ 64 → (does_all (turns_from quota p k) w).turns ≡ tallied w.turns (present_from p k w)
-from_counts quota p zero w fits = omega arith
-from_counts quota p (suc k) w fits =
+from_counts : (quotas : List (ℕ × ℕ)) (p k : ℕ) (w : WorldState) → w.turns < 2 ^ 64 → (does_all (turns_from quotas p k) w).turns ≡ tallied w.turns (present_from p k w)
+from_counts quotas p zero w fits = omega arith
+from_counts quotas p (suc k) w fits =
+    let quota = quota_at p quotas in
     let here = if is_some (private_of p w) then 1 else 0 in
     let one : (does (Turn p quota) w).turns ≡ tallied w.turns here = turn_counts p quota (private_of p w) w fits in
     let small : (does (Turn p quota) w).turns < 2 ^ 64 = subst (λ n. n < 2 ^ 64) (sym one) (counted_fits w.turns here) in
-    from_counts quota (p + 1) k (does (Turn p quota) w) small
+    from_counts quotas (p + 1) k (does (Turn p quota) w) small
     ∙ ap (λ n. tallied n (present_from (p + 1) k (does (Turn p quota) w))) one
     ∙ ap (tallied (tallied w.turns here)) (there_from (p + 1) k (does (Turn p quota) w) w (λ q. does_there q (Turn p quota) w))
     ∙ counted_twice w.turns here (present_from (p + 1) k w)
 
-rounds_count : (quota n : ℕ) (w : WorldState) → w.turns < 2 ^ 64 → (does_all (rounds quota n) w).turns ≡ tallied w.turns (n * present w)
-rounds_count quota zero w fits = omega arith
-rounds_count quota (suc n) w fits =
-    let round = turns_from quota 1 16 in
+rounds_count : (quotas : List (ℕ × ℕ)) (n : ℕ) (w : WorldState) → w.turns < 2 ^ 64 → (does_all (rounds quotas n) w).turns ≡ tallied w.turns (n * present w)
+rounds_count quotas zero w fits = omega arith
+rounds_count quotas (suc n) w fits =
+    let round = turns_from quotas 1 16 in
     let after = does_all round w in
-    let one : after.turns ≡ tallied w.turns (present w) = from_counts quota 1 16 w fits in
+    let one : after.turns ≡ tallied w.turns (present w) = from_counts quotas 1 16 w fits in
     let small : after.turns < 2 ^ 64 = subst (λ n. n < 2 ^ 64) (sym one) (counted_fits w.turns (present w)) in
-    ap (λ (v : WorldState). v.turns) (does_append round (rounds quota n) w)
-    ∙ rounds_count quota n after small
+    ap (λ (v : WorldState). v.turns) (does_append round (rounds quotas n) w)
+    ∙ rounds_count quotas n after small
     ∙ ap (λ m. tallied m (n * present after)) one
     ∙ ap (λ k. tallied (tallied w.turns (present w)) (n * k)) (there_from 1 16 after w (λ q. all_there q round w))
     ∙ counted_twice w.turns (present w) (n * present w)
     ∙ ap (tallied w.turns) (omega arith)
 
 pub counts_turns : CountsTurns
-counts_turns n w fits = rounds_count w.quota n w fits
+counts_turns n w fits = rounds_count w.quotas n w fits

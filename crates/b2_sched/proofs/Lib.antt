@@ -8,6 +8,7 @@ mod InPassing
 pub mod Folds
 pub mod Numbers
 pub mod Lasting
+pub mod SameQuotas
 pub mod Foul
 pub mod AskedHomes
 pub mod Reaching

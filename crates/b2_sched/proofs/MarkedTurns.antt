@@ -35,16 +35,17 @@ use Rattle.b2_machine.specs.Readiness.{gives_back, halted, resets}
 use Rattle.b2_machine.specs.Statements.{begins, finish_by, finishes, leaves}
 use Rattle.b2_machine.specs.Step.{StepEnd, acts, carries_out, enters_or_goes_on, executes, goes_through, halts_or_acts, lent_to_begin, line_read, reads_line, resets_by, runs_or_reads, seen_by, shows_or_goes_on, step, texts_lent, types_or_goes_on, whose_by}
 use Rattle.b2_machine.specs.Touched.{Told, begin_touched, step_touched, step_written, tells, tells_carrying, told, told_at, told_entering, told_showing, told_typing, told_unless_halted, written_where}
-use Rattle.b2_machine.specs.Turn.{TurnEnd, counted_on, ended_turn, turn_from, unless_ended}
+use Rattle.b2_machine.specs.Turn.{TurnEnd, counted_on, ended_turn, passed_one, passes_none, passes_turn, turn_from, unless_ended}
 use Rattle.b2_machine.specs.Typing.{put_by, puts_numbered, shown_by, shows_pending, typed_by_key}
 use Rattle.b2_machine.specs.declared.ends.Why.{Why}
 use Rattle.b2_machine.specs.declared.statements.Progress.{Progress}
 use Rattle.b2_machine.specs.declared.statements.Progress.TheVariants as progress
+use Rattle.b2_machine.specs.declared.ends.Why.TheVariants as reason
 use Rattle.b2_sched.specs.Choice.{basic}
 use Rattle.b2_sched.proofs.OwnObjects.{step_part}
 use Rattle.b2_sched.proofs.OwnTexts.{still_own, whole_on}
 use Rattle.b2_sched.specs.Marking.{IsOwnText, TurnsMarkTheirSteps, Watched, store_in}
-use Rattle.b2_sched.specs.Turns.{step_of, steps_in_turn}
+use Rattle.b2_sched.specs.Turns.{step_of, steps_from, steps_in_turn, turn_of}
 
 touch_idle : (p : ℕ) (m : Marks) → IsOwnText p m → touch p (object.Text p) m ≡ m
 touch_idle p m own = ap (λ (b : Bool). if b then record m { clean = without_part m.clean p } else m) own
@@ -213,9 +214,9 @@ module _ (devices : List Device) where
       → step (basic devices) store_in (watching itself serves) (watched_loan itself lends) me (s, m) ≡ with_marks (step_of devices me s) (marked q (step_touched (basic devices) itself serves lends me s) (step_written (basic devices) itself serves lends me s) m))
       same (λ is own_text still. step_is_marked me s m is ts ws own_text still) is_p own after
 
-  pub turn_is_marked : (p n : ℕ) (me : Private) (s : StoreState) (m : Marks) (steps : ℕ) → IsPartition p → me.part ≡ p → AreSteps (steps_in_turn devices p n me s) → length m.writers.indexed ≡ 60 → IsOwnText p m
-      → turn_from (basic devices) store_in (watching itself serves) (watched_loan itself lends) n me (s, m) steps ≡ turn_with (turn_from (basic devices) itself serves lends n me s steps) (marks_after (steps_in_turn devices p n me s) m)
-  unfolding turn_from steps_in_turn
+  pub turn_is_marked : (p n : ℕ) (me : Private) (s : StoreState) (m : Marks) (steps : ℕ) → IsPartition p → me.part ≡ p → AreSteps (steps_from devices p n me s) → length m.writers.indexed ≡ 60 → IsOwnText p m
+      → turn_from (basic devices) store_in (watching itself serves) (watched_loan itself lends) n me (s, m) steps ≡ turn_with (turn_from (basic devices) itself serves lends n me s steps) (marks_after (steps_from devices p n me s) m)
+  unfolding turn_from steps_from
   turn_is_marked p zero me s m steps is_p w are whole own = refl
   turn_is_marked p (suc n) me s m steps is_p w are whole own =
       ap (λ (y : StepEnd Watched). unless_ended y.end.why (λ why. ended_turn (counted_on steps y.end) why y.me y.after) (turn_from (basic devices) store_in (watching itself serves) (watched_loan itself lends) n y.me y.after (counted_on steps y.end)))
@@ -232,16 +233,22 @@ module _ (devices : List Device) where
       as_long = whole_on p (step_touched (basic devices) itself serves lends me s) (step_written (basic devices) itself serves lends me s) m are.2 whole
 
       by : (why : Option Why)
-          → (AreSteps (steps_in_turn devices p n (step_of devices me s).me (step_of devices me s).after)
+          → (AreSteps (steps_from devices p n (step_of devices me s).me (step_of devices me s).after)
           → turn_from (basic devices) store_in (watching itself serves) (watched_loan itself lends) n (step_of devices me s).me ((step_of devices me s).after, marked p (step_touched (basic devices) itself serves lends me s) (step_written (basic devices) itself serves lends me s) m) (counted_on steps (step_of devices me s).end)
-          ≡ turn_with (turn_from (basic devices) itself serves lends n (step_of devices me s).me (step_of devices me s).after (counted_on steps (step_of devices me s).end)) (marks_after (steps_in_turn devices p n (step_of devices me s).me (step_of devices me s).after) (marked p (step_touched (basic devices) itself serves lends me s) (step_written (basic devices) itself serves lends me s) m)))
-          → AreSteps (unless_ended why (λ w. []) (steps_in_turn devices p n (step_of devices me s).me (step_of devices me s).after))
+          ≡ turn_with (turn_from (basic devices) itself serves lends n (step_of devices me s).me (step_of devices me s).after (counted_on steps (step_of devices me s).end)) (marks_after (steps_from devices p n (step_of devices me s).me (step_of devices me s).after) (marked p (step_touched (basic devices) itself serves lends me s) (step_written (basic devices) itself serves lends me s) m)))
+          → AreSteps (unless_ended why (λ w. []) (steps_from devices p n (step_of devices me s).me (step_of devices me s).after))
           → unless_ended why (λ w. ended_turn (counted_on steps (step_of devices me s).end) w (step_of devices me s).me ((step_of devices me s).after, marked p (step_touched (basic devices) itself serves lends me s) (step_written (basic devices) itself serves lends me s) m))
           (turn_from (basic devices) store_in (watching itself serves) (watched_loan itself lends) n (step_of devices me s).me ((step_of devices me s).after, marked p (step_touched (basic devices) itself serves lends me s) (step_written (basic devices) itself serves lends me s) m) (counted_on steps (step_of devices me s).end))
           ≡ turn_with (unless_ended why (λ w. ended_turn (counted_on steps (step_of devices me s).end) w (step_of devices me s).me (step_of devices me s).after) (turn_from (basic devices) itself serves lends n (step_of devices me s).me (step_of devices me s).after (counted_on steps (step_of devices me s).end)))
-          (marks_after (unless_ended why (λ w. []) (steps_in_turn devices p n (step_of devices me s).me (step_of devices me s).after)) (marked p (step_touched (basic devices) itself serves lends me s) (step_written (basic devices) itself serves lends me s) m))
+          (marks_after (unless_ended why (λ w. []) (steps_from devices p n (step_of devices me s).me (step_of devices me s).after)) (marked p (step_touched (basic devices) itself serves lends me s) (step_written (basic devices) itself serves lends me s) m))
       by None later rest = later rest
       by (Some why) later rest = refl
 
 pub turns_mark : TurnsMarkTheirSteps
-turns_mark devices p n me s m is_p w are whole own = turn_is_marked devices p n me s m 0 is_p w are whole own
+turns_mark devices p n me s m is_p w are whole own = by (passes_turn me) are
+  where
+    by : (b : Bool) → AreSteps (if b then [] else steps_from devices p n (passes_none me) s)
+        → ◌≡◌ {A = TurnEnd Watched} (if b then ended_turn 0 reason.Break (passed_one me) (s, m) else turn_from (basic devices) store_in (watching itself serves) (watched_loan itself lends) n (passes_none me) (s, m) 0)
+        (turn_with devices (if b then ended_turn 0 reason.Break (passed_one me) s else turn_from (basic devices) itself serves lends n (passes_none me) s 0) (marks_after (if b then [] else steps_from devices p n (passes_none me) s) m))
+    by true none = refl
+    by false some = turn_is_marked devices p n (passes_none me) s m 0 is_p w some whole own

@@ -47,7 +47,8 @@ use Rattle.b2_access.proofs.Choice.{either}
 use Rattle.b2_access.proofs.Courses.{each_course}
 use Rattle.b2_access.proofs.Tables.{each_row}
 use Rattle.b2_stmt.specs.Arguments.{alpha_argument, argument, arguments, number_argument, operands_of}
-use Rattle.b2_stmt.specs.Asked.{Asks, asked_of, asking_rows, asks_choice, asks_loop, asks_mark, asks_nothing, asks_on, body_place, carried, is_still, line_chosen, place_after}
+use Rattle.b2_stmt.specs.Asked.{Asks, asked_of, asking_rows, asks_choice, asks_loop, asks_mark, asks_nothing, asks_on, asks_pass, body_place, carried, is_still, line_chosen, place_after}
+use Rattle.b2_stmt.specs.Breaks.{turns_to_pass}
 use Rattle.b2_stmt.specs.Borrowing.{asks_of_others, enters}
 use Rattle.b2_stmt.specs.Calls.{back_from, called_where, forgets, leaves_call, may_forget_all}
 use Rattle.b2_stmt.specs.Choices.{calls_a_line, choice_in}
@@ -130,6 +131,10 @@ module _ (s : Context) (h : LooksAtNumbers s) where
   on_asked : (t : Trees) (at : Here) (lines : Lines) → AskedHolds (asks_on t at s lines)
   on_asked t at lines = either AskedHolds (calls_a_line t && not (is_some at.place.line)) _ _ tt (choice_asked (choice_in s t) at lines)
 
+  pass_asked : (turns : Result ℕ ℕ) → AskedHolds (asks_pass turns)
+  pass_asked (Ok turns) = tt
+  pass_asked (Err code) = tt
+
   asked_holds : (r : ℕ) (t : Trees) (at : Here) (lines : Lines) → AskedHolds (asked_of r t at s lines)
   asked_holds r t at lines =
       let F : Asks → Type 0 = λ asks. AskedHolds (asks t at s lines) in
@@ -143,7 +148,7 @@ module _ (s : Context) (h : LooksAtNumbers s) where
               mark_asked (number_called t) (arguments s (operands_of t)) (place_after at lines) (arguments_are (operands_of t)),
               (
                 tt,
-                (tt, (on_asked t at lines, (tt, (tt, (tt, (tt, (tt, tt))))))),
+                (tt, (on_asked t at lines, (tt, (tt, (tt, (tt, (tt, (pass_asked (turns_to_pass s t), tt)))))))),
               ),
             ),
           ),
@@ -240,6 +245,7 @@ carried_holds (asked.Stop shown after) p me own home are h = h
 carried_holds (asked.Select mode) p me own home are h = h
 carried_holds (asked.Run n) p me own home are h = run_holds n own me h
 carried_holds asked.Continue p me own home are h = continues_hold me.kept me h
+carried_holds (asked.Pass turns) p me own home are h = h
 carried_holds (asked.CallMark n args back) p me own home are h = mark_holds (mark_place n p me.part own home) args back me are h
 
 -- DEFFN'

@@ -9,12 +9,15 @@ use Rattle.b2_access.specs.Store.{StoreState}
 use Rattle.b2_access.specs.declared.devices.Device.{Device}
 use Rattle.b2_access.specs.declared.private.Private.{Private}
 use Rattle.b2_boot.specs.Boots.{BootState}
+use Rattle.b2_boot.specs.Quotas.{quotas_of}
 use Rattle.b2_boot.specs.declared.boot.BootPartition.{BootPartition}
 use Rattle.b2_boot.specs.declared.log.Event.{Event}
 use Rattle.b2_machine.specs.Touched.{asking}
+use Rattle.b2_machine.specs.Turn.{passes_none, passes_turn}
 use Rattle.b2_store.specs.Changes.{with_terminal}
 use Rattle.b2_store.specs.Start.{globals_row}
 use Rattle.b2_stmt_file.specs.SavedNumbers.{HoldsNumbers}
+use Rattle.b2_sched.proofs.HeldTurns.{unless_passed}
 use Rattle.b2_sched.proofs.KeptThroughout.{AreKept, InWorld, booted_own, in_action, in_actions}
 use Rattle.b2_sched.proofs.Lasting.{by_actions}
 use Rattle.b2_sched.proofs.NumbersAssigned.{empty_holds}
@@ -58,7 +61,7 @@ abbrev OwnHolds : List Device → Private → Type 0
 OwnHolds devices me = PrivateHolds me
 
 numbers_kept : AreKept OwnHolds StoreHolds
-numbers_kept = record { step = in_step; halt = λ devices me own. own; reset = λ devices me own. own; terminal = at_terminal }
+numbers_kept = record { step = in_step; halt = λ devices me own. own; reset = λ devices me own. own; pass = λ devices me k own. own; terminal = at_terminal }
 
 -- a world
 abbrev AllHold : WorldState → Type 0
@@ -70,7 +73,7 @@ booted_hold b images = (booted_own PrivateHolds (λ x. (empty_holds (private_row
 pub worlds_hold : WorldsHoldNumbers
 worlds_hold b images log p me is =
     let w = booted b images in
-    let h = subst AllHold (sym (by_actions log w)) (in_actions OwnHolds StoreHolds numbers_kept (all_actions b.quota log) w (booted_hold b images)) in
+    let h = subst AllHold (sym (by_actions log w)) (in_actions OwnHolds StoreHolds numbers_kept (all_actions (quotas_of b) log) w (booted_hold b images)) in
     both_hold me (ran log w).store (h.0 p me is, h.1)
 
 -- what holds where variables hold numbers holds at each step of a run
@@ -81,7 +84,7 @@ module _ (P : List Device → Private → StoreState → Type 0) (so : (devices 
 
   each_of : (p n : ℕ) (o : Option Private) (w : WorldState) → private_of p w ≡ o → AllHold w → EachOf P w.devices n o w.store
   each_of p n None w is h = tt
-  each_of p n (Some me) w is h = each_in_turn w.devices n me w.store (h.0 p me is, h.1)
+  each_of p n (Some me) w is h = unless_passed (passes_turn me) (EachInTurn P w.devices n (passes_none me) w.store) (each_in_turn w.devices n (passes_none me) w.store (h.0 p me is, h.1))
 
   each_in_action : (x : Action) (w : WorldState) → AllHold w → EachInAction P x w
   each_in_action (Turn p n) w h = each_of p n (private_of p w) w refl h
@@ -91,8 +94,8 @@ module _ (P : List Device → Private → StoreState → Type 0) (so : (devices 
   each_in_actions [] w h = tt
   each_in_actions (x ∷ rest) w h = (each_in_action x w h, each_in_actions rest (does x w) (in_action OwnHolds StoreHolds numbers_kept x w h))
 
-  each_of_run : (b : BootState) (images : Images) (log : List Event) → AtEachStep P (all_actions b.quota log) (booted b images)
-  each_of_run b images log = each_in_actions (all_actions b.quota log) (booted b images) (booted_hold b images)
+  each_of_run : (b : BootState) (images : Images) (log : List Event) → AtEachStep P (all_actions (quotas_of b) log) (booted b images)
+  each_of_run b images log = each_in_actions (all_actions (quotas_of b) log) (booted b images) (booted_hold b images)
 
 pub runs_save_storable : RunsSaveStorable
 runs_save_storable = each_of_run (λ devices me s. SavesStorable (asking (basic devices) me s)) steps_save_storable

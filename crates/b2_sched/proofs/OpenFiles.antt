@@ -12,6 +12,7 @@ use Rattle.b2_access.specs.declared.objects.Object.TheVariants as object
 use Rattle.b2_access.specs.declared.private.Private.{Private}
 use Rattle.b2_access.proofs.OpenFiles.{none_open}
 use Rattle.b2_boot.specs.Boots.{BootState}
+use Rattle.b2_boot.specs.Quotas.{quotas_of}
 use Rattle.b2_boot.specs.declared.boot.BootPartition.{BootPartition}
 use Rattle.b2_boot.specs.declared.log.Event.{Event}
 use Rattle.b2_machine.proofs.StepOpenFiles.{steps_keep_open_files}
@@ -64,7 +65,7 @@ sound_terminal None t f s sound = sound
 sound_terminal (Some x) t f s sound = sound
 
 open_files_kept : AreKept HasOpenFiles AreSound
-open_files_kept = record { step = in_step; halt = λ devices me own. own; reset = λ devices me own. own; terminal = sound_terminal }
+open_files_kept = record { step = in_step; halt = λ devices me own. own; reset = λ devices me own. own; pass = λ devices me k own. own; terminal = sound_terminal }
 
 -- at the start of a boot no file is open
 booted_open : (devices : List Device) (ps : List BootPartition) → EachIs (λ p me. HasOpenFiles devices me) (map private_row ps)
@@ -74,11 +75,11 @@ booted_open devices ps = booted_own (HasOpenFiles devices) (λ x. none_open devi
 pub booted_stay_sound : (b : BootState) (images : Images) (log : List Event) → AreSound (booted b images).store → AreSound (ran log (booted b images)).store
 booted_stay_sound b images log sound =
     let w = booted b images in
-    subst (λ (x : WorldState). AreSound x.store) (sym (by_actions log w)) (in_actions HasOpenFiles AreSound open_files_kept (all_actions b.quota log) w (booted_open w.devices b.partitions, sound)).1
+    subst (λ (x : WorldState). AreSound x.store) (sym (by_actions log w)) (in_actions HasOpenFiles AreSound open_files_kept (all_actions (quotas_of b) log) w (booted_open w.devices b.partitions, sound)).1
 
 pub open_files_are_listed : OpenFilesAreListed
 open_files_are_listed b images log sound p me is =
     let w = booted b images in
-    let acts = all_actions b.quota log in
+    let acts = all_actions (quotas_of b) log in
     let after = (in_actions HasOpenFiles AreSound open_files_kept acts w (booted_open w.devices b.partitions, sound)).0 in
     subst (λ (ds : List Device). HasOpenFiles ds me) (all_keep_devices acts w) (after p me (ap (private_of p) (sym (by_actions log w)) ∙ is))

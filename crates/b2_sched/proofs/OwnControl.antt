@@ -35,7 +35,8 @@ use Rattle.b2_access.specs.declared.planned.Outcome.{Outcome}
 use Rattle.b2_access.specs.declared.planned.Outcome.TheVariants as outcome
 use Rattle.b2_access.specs.declared.private.Private.{Private}
 use Rattle.b2_expr.specs.Workspace.{WorkLeft}
-use Rattle.b2_stmt.specs.Asked.{Asks, Leads, asked_of, asking_rows, asks_choice, asks_loop, asks_mark, asks_nothing, asks_on, body_place, carried, is_still, left_out, line_chosen, place_after, still, still_rows}
+use Rattle.b2_stmt.specs.Asked.{Asks, Leads, asked_of, asking_rows, asks_choice, asks_loop, asks_mark, asks_nothing, asks_on, asks_pass, body_place, carried, is_still, left_out, line_chosen, place_after, still, still_rows}
+use Rattle.b2_stmt.specs.Breaks.{turns_to_pass}
 use Rattle.b2_stmt.specs.Arguments.{arguments, operands_of}
 use Rattle.b2_stmt.specs.Marked.{calls_into, calls_mark, ends_taken, ends_with_args, mark_in, mark_place, number_called, place_in, takes_args}
 use Rattle.b2_stmt.specs.Parts.{part_came}
@@ -168,7 +169,7 @@ module _ (part : ℕ) where
             goes_in lines h.place (past_colon h.place.unit h.units) k,
             (
               goes_in lines h.place goal.NextLine k,
-              (tt, (tt, (tt, (tt, (passed_in t, (tt, (tt, tt))))))),
+              (tt, (tt, (tt, (tt, (passed_in t, (tt, tt)))))),
             ),
           ),
         ),
@@ -200,6 +201,11 @@ module _ (part : ℕ) where
   mark_asked n (Ok args) back k = k
   mark_asked n (Err code) back k = tt
 
+  pass_asked : (turns : Result ℕ ℕ) → AskedIn (asks_pass turns)
+  unfolding AskedIn
+  pass_asked (Ok turns) = tt
+  pass_asked (Err code) = tt
+
   body_by : (o : Option Place) (p : Place) → PlaceOwn part o → Own p → Own (unwrap_or o p)
   body_by None p h k = k
   body_by (Some q) p h k = h
@@ -225,7 +231,7 @@ module _ (part : ℕ) where
                     on_asked t h s lines k after,
                     (
                       after,
-                      (tt, (tt, (tt, (tt, tt)))),
+                      (tt, (tt, (tt, (tt, (pass_asked (turns_to_pass s t), tt))))),
                     ),
                   ),
                 ),
@@ -361,6 +367,7 @@ module _ (part : ℕ) where
   carried_in (asked.Select mode) p me own home h w k = ((w.kept, w.frames), tt)
   carried_in (asked.Run n) p me own home h w k = run_in n own me w
   carried_in asked.Continue p me own home h w k = continues_in me.kept me w w.kept
+  carried_in (asked.Pass turns) p me own home h w k = ((w.kept, w.frames), tt)
   carried_in (asked.CallMark n args back) p me own home h w k =
       mark_called (mark_place n p me.part own home) args back me w
       (either_in (mark_in p.home n home) (mark_in me.part n own) (spot_in p.home (first_opening (is_mark n) home)) (spot_in me.part (first_opening (is_mark n) own))) k
@@ -423,6 +430,7 @@ module _ (part : ℕ) where
   enters_in g spot (asked.Select mode) me w k = (left me w, tt)
   enters_in g spot (asked.Run n) me w k = (left me w, tt)
   enters_in g spot asked.Continue me w k = (left me w, tt)
+  enters_in g spot (asked.Pass turns) me w k = (left me w, tt)
 
   clears_in : (k : ClearCame) (me : Private) → Within me → EndedIn (clearing_ends k me)
   unfolding EndedIn

@@ -277,7 +277,7 @@ module _ (b : BootState) (images : Images) (once : are_distinct (platter_address
 
   pub part_starts_alike : WorldsAlike (IsLacking b) (has_number b.partitions) [] (booted b images) (booted mine (own_images b images))
   part_starts_alike = record {
-    quota = refl;
+    quotas = λ p member. refl;
     devices = λ p there. tables_alike b p there;
     privates = record {
       members = λ p there. refl;

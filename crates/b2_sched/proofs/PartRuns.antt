@@ -4,6 +4,7 @@ use Rattle.std.specs.List.{list_any}
 use Rattle.std.specs.Str.{bytes_eq}
 use Rattle.std.proofs.Common.{sym, ap, subst, ◌∙◌, inl, inr, append_assoc}
 use Rattle.std.proofs.lemmas.Bool.{true≢false}
+use Rattle.b2_access.proofs.Choice.{either}
 use Rattle.b2_access.proofs.RowLaws.{either_left, either_right}
 use Rattle.b2_access.specs.AccessRows.{reach}
 use Rattle.b2_access.specs.Devices.{has_device, is_platter_for, is_printer_for, may_use, meets, same_kind}
@@ -24,6 +25,7 @@ use Rattle.b2_audit.proofs.CleanSteps.{CleanFrom}
 use Rattle.b2_audit.specs.Steps.{Group, Step, foul}
 use Rattle.b2_boot.specs.Alone.{alone, has_number, kept_if, own_boot, own_events, own_log, own_rounds, own_turns, stands_at}
 use Rattle.b2_boot.specs.Boots.{BootState}
+use Rattle.b2_boot.specs.Quotas.{quota_at, quotas_of}
 use Rattle.b2_boot.specs.declared.boot.BootPartition.{BootPartition}
 use Rattle.b2_boot.specs.declared.boot.BootPlatter.{BootPlatter}
 use Rattle.b2_boot.specs.declared.boot.BootPrinter.{BootPrinter}
@@ -33,7 +35,7 @@ use Rattle.b2_machine.proofs.StepDevices.{steps_ask_for_listed}
 use Rattle.b2_machine.proofs.StepOutput.{step_shows, still_for_terminal}
 use Rattle.b2_machine.proofs.StepTerminal.{steps_ask_at_terminal}
 use Rattle.b2_machine.specs.Touched.{AskedListed, asking}
-use Rattle.b2_machine.specs.Turn.{unless_ended}
+use Rattle.b2_machine.specs.Turn.{passes_none, passes_turn, unless_ended}
 use Rattle.b2_machine.specs.declared.ends.Why.{Why}
 use Rattle.b2_store.specs.Changes.{with_terminal}
 use Rattle.b2_store.specs.DiskWork.{serves}
@@ -56,7 +58,7 @@ use Rattle.b2_sched.specs.Laws.{all_actions}
 use Rattle.b2_sched.specs.Lawful.{basic_asks_for_listed, basic_is_lawful}
 use Rattle.b2_sched.specs.Parts.{HasPart, PartsAreEnough, PartsOfCleanGroupsAreEnough, has_platter, has_printer, own_images, part_boot, part_world}
 use Rattle.b2_sched.specs.Start.{CanStart, Images, booted, devices_of, platter_device, printer_device}
-use Rattle.b2_sched.specs.Turns.{noted_by, step_noted, step_of, steps_in_turn}
+use Rattle.b2_sched.specs.Turns.{noted_by, step_noted, step_of, steps_from, steps_in_turn}
 use Rattle.b2_sched.specs.World.{WorldState, Action, Key, Front, Halt, Reset, Turn, actions, asked_to_halt, asked_to_reset, changed, does, does_all, private_of, ran, rounds, row_changed, turns_from, with_key, with_turn}
 
 clash : (b : Bool) → b ≡ true → b ≡ false → ⊥
@@ -167,6 +169,7 @@ module _ (b : BootState) where
     asks = λ me s fits.
         asked_in me fits (asking (basic table) me s) (steps_ask_at_terminal (basic table) (basic_is_lawful table) itself serves lends me s).1
         (steps_ask_for_listed basic basic_asks_for_listed table me s (for_listed table me.part me.pending fits.shows));
+    pass = λ me k fits. record { there = fits.there; stands = fits.stands; shows = fits.shows };
     next = λ me s fits. record {
       there = ap inside (step_part table me s) ∙ fits.there;
       stands = ap (stands_at b.partitions) (steps_ask_at_terminal (basic table) (basic_is_lawful table) itself serves lends me s).0 ∙ fits.stands;
@@ -192,17 +195,20 @@ module _ (b : BootState) where
   absent (Some me) is = absurd (true≢false is)
 
   -- the steps of partitions that are there foul nothing, and are clean
-  clean_turn : (ds : List Device) (p n : ℕ) (me : Private) (s : StoreState) → inside p ≡ true → CleanFrom inside [] (steps_in_turn ds p n me s)
-  unfolding steps_in_turn
-  clean_turn ds p zero me s member = tt
-  clean_turn ds p (suc n) me s member =
+  clean_on : (ds : List Device) (p n : ℕ) (me : Private) (s : StoreState) → inside p ≡ true → CleanFrom inside [] (steps_from ds p n me s)
+  unfolding steps_from
+  clean_on ds p zero me s member = tt
+  clean_on ds p (suc n) me s member =
       let x = step_of ds me s in
-      let rest = steps_in_turn ds p n x.me x.after in
-      (λ is o i bad. bad, subst (λ (os : List Object). CleanFrom inside os (unless_ended x.end.why (λ w. []) rest)) (sym (own_fouls_nothing inside (step_noted ds p me s) [] member)) (by x.end.why rest (clean_turn ds p n x.me x.after member)))
+      let rest = steps_from ds p n x.me x.after in
+      (λ is o i bad. bad, subst (λ (os : List Object). CleanFrom inside os (unless_ended x.end.why (λ w. []) rest)) (sym (own_fouls_nothing inside (step_noted ds p me s) [] member)) (by x.end.why rest (clean_on ds p n x.me x.after member)))
     where
       by : (why : Option Why) (rest : List Step) → CleanFrom inside [] rest → CleanFrom inside [] (unless_ended why (λ w. []) rest)
       by None rest later = later
       by (Some why) rest later = tt
+
+  clean_turn : (ds : List Device) (p n : ℕ) (me : Private) (s : StoreState) → inside p ≡ true → CleanFrom inside [] (steps_in_turn ds p n me s)
+  clean_turn ds p n me s member = either (CleanFrom inside []) (passes_turn me) [] (steps_from ds p n (passes_none me) s) tt (clean_on ds p n (passes_none me) s member)
 
   abbrev IsQuiet : List Step → Type 0
   IsQuiet xs = CleanFrom inside [] xs × (foul_after inside xs [] ≡ [])
@@ -233,7 +239,7 @@ module _ (b : BootState) where
       → Together (record w { store = with_terminal (content w.store (object.Terminal t)) t f w.store; dropped = dropped }) v
   terminal_alone t f w v dropped other alike = record {
     worlds = record {
-      quota = alike.worlds.quota;
+      quotas = alike.worlds.quotas;
       devices = alike.worlds.devices;
       privates = alike.worlds.privates;
       stores = λ o clear has. terminal_other (content w.store (object.Terminal t)) t f w.store o (λ e. has (subst out (sym e) other)) ∙ alike.worlds.stores o clear has;
@@ -258,7 +264,7 @@ module _ (b : BootState) where
   After w v = Together w v × NoOthers w
 
   abbrev AfterEach : List Action → List Event → Type 0
-  AfterEach acts events = (w v : WorldState) → After w v → After (does_all acts w) (does_all (all_actions b.quota events) v)
+  AfterEach acts events = (w v : WorldState) → After w v → After (does_all acts w) (does_all (all_actions (quotas_of b) events) v)
 
   one_kept : (a : Action) (w v : WorldState) → After w v → After (does a w) (does a v)
   one_kept a w v h = (both_do a w v h.0 h.1, no_others a w h.1)
@@ -284,29 +290,29 @@ module _ (b : BootState) where
   turn_goes p n false is w v h = subst (λ (x : WorldState). After x v) (sym (turn_stays p n w h.1 is)) h
 
   -- one after the other
-  actions_append : (xs ys : List Event) → all_actions b.quota (xs ++ ys) ≡ all_actions b.quota xs ++ all_actions b.quota ys
+  actions_append : (xs ys : List Event) → all_actions (quotas_of b) (xs ++ ys) ≡ all_actions (quotas_of b) xs ++ all_actions (quotas_of b) ys
   actions_append [] ys = refl
-  actions_append (x ∷ xs) ys = ap (λ (rest : List Action). actions b.quota x ++ rest) (actions_append xs ys) ∙ sym (append_assoc (actions b.quota x) (all_actions b.quota xs) (all_actions b.quota ys))
+  actions_append (x ∷ xs) ys = ap (λ (rest : List Action). actions (quotas_of b) x ++ rest) (actions_append xs ys) ∙ sym (append_assoc (actions (quotas_of b) x) (all_actions (quotas_of b) xs) (all_actions (quotas_of b) ys))
 
   both_after : (acts more : List Action) (events rest : List Event) → AfterEach acts events → AfterEach more rest → AfterEach (acts ++ more) (events ++ rest)
   both_after acts more events rest first second w v h =
       let one = first w v h in
-      let two = second (does_all acts w) (does_all (all_actions b.quota events) v) one in
+      let two = second (does_all acts w) (does_all (all_actions (quotas_of b) events) v) one in
       let here : does_all more (does_all acts w) ≡ does_all (acts ++ more) w = sym (does_append acts more w) in
-      let there : does_all (all_actions b.quota rest) (does_all (all_actions b.quota events) v) ≡ does_all (all_actions b.quota (events ++ rest)) v =
-      sym (does_append (all_actions b.quota events) (all_actions b.quota rest) v) ∙ ap (λ (xs : List Action). does_all xs v) (sym (actions_append events rest)) in
-      subst (λ (x : WorldState). After (does_all (acts ++ more) w) x) there (subst (λ (x : WorldState). After x (does_all (all_actions b.quota rest) (does_all (all_actions b.quota events) v))) here two)
+      let there : does_all (all_actions (quotas_of b) rest) (does_all (all_actions (quotas_of b) events) v) ≡ does_all (all_actions (quotas_of b) (events ++ rest)) v =
+      sym (does_append (all_actions (quotas_of b) events) (all_actions (quotas_of b) rest) v) ∙ ap (λ (xs : List Action). does_all xs v) (sym (actions_append events rest)) in
+      subst (λ (x : WorldState). After (does_all (acts ++ more) w) x) there (subst (λ (x : WorldState). After x (does_all (all_actions (quotas_of b) rest) (does_all (all_actions (quotas_of b) events) v))) here two)
 
-  turns_go : (n p : ℕ) → AfterEach (turns_from b.quota p n) (own_turns b p n)
+  turns_go : (n p : ℕ) → AfterEach (turns_from (quotas_of b) p n) (own_turns b p n)
   turns_go zero p = λ w v h. h
   turns_go (suc n) p =
-      both_after (Turn p b.quota ∷ []) (turns_from b.quota (p + 1) n) (kept_if (inside p) (event.Turn p b.quota)) (own_turns b (p + 1) n) (turn_goes p b.quota (inside p) refl) (turns_go n (p + 1))
+      both_after (Turn p (quota_at p (quotas_of b)) ∷ []) (turns_from (quotas_of b) (p + 1) n) (kept_if (inside p) (event.Turn p (quota_at p (quotas_of b)))) (own_turns b (p + 1) n) (turn_goes p (quota_at p (quotas_of b)) (inside p) refl) (turns_go n (p + 1))
 
-  rounds_go : (n : ℕ) → AfterEach (rounds b.quota n) (own_rounds b n)
+  rounds_go : (n : ℕ) → AfterEach (rounds (quotas_of b) n) (own_rounds b n)
   rounds_go zero = λ w v h. h
-  rounds_go (suc n) = both_after (turns_from b.quota 1 16) (rounds b.quota n) (own_turns b 1 16) (own_rounds b n) (turns_go 16 1) (rounds_go n)
+  rounds_go (suc n) = both_after (turns_from (quotas_of b) 1 16) (rounds (quotas_of b) n) (own_turns b 1 16) (own_rounds b n) (turns_go 16 1) (rounds_go n)
 
-  event_goes : (e : Event) → AfterEach (actions b.quota e) (own_events b e)
+  event_goes : (e : Event) → AfterEach (actions (quotas_of b) e) (own_events b e)
   event_goes (event.Key t k) = key_goes t k (stands_at b.partitions t) refl
   event_goes (event.Front t p) = front_goes t p (stands_at b.partitions t) refl
   event_goes (event.Halt p) = halt_goes p (inside p) refl
@@ -314,9 +320,9 @@ module _ (b : BootState) where
   event_goes (event.Turn p n) = turn_goes p n (inside p) refl
   event_goes (event.Rounds n) = rounds_go n
 
-  log_goes : (log : List Event) → AfterEach (all_actions b.quota log) (own_log b log)
+  log_goes : (log : List Event) → AfterEach (all_actions (quotas_of b) log) (own_log b log)
   log_goes [] = λ w v h. h
-  log_goes (e ∷ es) = both_after (actions b.quota e) (all_actions b.quota es) (own_events b e) (own_log b es) (event_goes e) (log_goes es)
+  log_goes (e ∷ es) = both_after (actions (quotas_of b) e) (all_actions (quotas_of b) es) (own_events b e) (own_log b es) (event_goes e) (log_goes es)
 
   module _ (images : Images) (log : List Event) (can : CanStart b) where
     abbrev first : WorldState
@@ -338,7 +344,7 @@ module _ (b : BootState) where
     ends : After (ran log first) (ran (own_log b log) second)
     ends =
         subst (λ (x : WorldState). After (ran log first) x) (sym (by_actions (own_log b log) second))
-        (subst (λ (x : WorldState). After x (does_all (all_actions b.quota (own_log b log)) second)) (sym (by_actions log first)) (log_goes log first second start))
+        (subst (λ (x : WorldState). After x (does_all (all_actions (quotas_of b) (own_log b log)) second)) (sym (by_actions log first)) (log_goes log first second start))
 
     pub own_part_is_enough : HasPart (own_boot b) [] (ran log first) (ran (own_log b log) second)
     own_part_is_enough =

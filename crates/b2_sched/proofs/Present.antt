@@ -68,7 +68,7 @@ turn_present devices q n you rows s t m ends keeps it present = still_present q 
     there_homes = both_within (is_present s) is_number you it.homes it.settled.homes
 
     led : NamesIn (is_there t) t
-    led = λ k p leads. still_there s t keeps p ((turn_within devices (is_there s) n you s 0 there_homes it.names).1 k p (subst (λ (u : StoreState). LeadsTo u k p) ends leads))
+    led = λ k p leads. still_there s t keeps p ((turn_within devices (is_there s) n you s there_homes it.names).1 k p (subst (λ (u : StoreState). LeadsTo u k p) ends leads))
 
     others : (p : ℕ) (me : Private) → IsPresent p me s m → IsPresent p me t (marks_after (steps_in_turn devices q n you s) m)
     others p me is =
@@ -79,9 +79,9 @@ turn_present devices q n you rows s t m ends keeps it present = still_present q 
     itself_then : IsPresent q (turn_of devices n you s).me t (marks_after (steps_in_turn devices q n you s) m)
     itself_then =
         let rest = others q you it in
-        let homes = (turn_within devices (is_present s) n you s 0 it.homes (λ k p leads. there_present s p (it.names k p leads))).0 in
+        let homes = (turn_within devices (is_present s) n you s it.homes (λ k p leads. there_present s p (it.names k p leads))).0 in
         record {
-          settled = turn_settled devices q n you s 0 it.settled numbers;
+          settled = turn_settled devices q n you s it.settled numbers;
           homes = among_more (is_present s) (is_present t) (present_on s t keeps) (turn_of devices n you s).me homes;
           names = led;
           own = rest.own;

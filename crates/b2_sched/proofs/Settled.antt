@@ -1,6 +1,6 @@
 -- Each partition has its number and its terminal, after whatever happened, and names none but such numbers; so its steps touch and write
 -- only what is marked, and no text but its own.
-use Rattle.std.specs.Prelude.{◌≡◌, ◌≤◌, ℕ, zero, suc, ◌==◌, ◌&&◌, nat_le, Bool, true, false, cond, List, [], ◌∷◌, map, Option, Some, None, is_some, refl}
+use Rattle.std.specs.Prelude.{◌≡◌, ◌≤◌, ℕ, zero, suc, ◌-◌, ◌==◌, ◌&&◌, nat_le, Bool, true, false, cond, List, [], ◌∷◌, map, Option, Some, None, is_some, refl}
 use Rattle.std.proofs.Common.{sym, ap, subst, ◌∙◌, arith}
 use Rattle.std.proofs.lemmas.Bool.{and_parts}
 use Rattle.std.proofs.lemmas.Bool.Decides.{nat_tests}
@@ -16,13 +16,15 @@ use Rattle.b2_access.specs.declared.devices.Device.{Device}
 use Rattle.b2_access.specs.declared.accesses.Access.{Access}
 use Rattle.b2_access.specs.declared.objects.Object.TheVariants as object
 use Rattle.b2_access.specs.declared.private.Private.{Private}
+use Rattle.b2_access.proofs.Choice.{either}
 use Rattle.b2_audit.proofs.Accesses.{accesses_are_marked}
-use Rattle.b2_audit.specs.Steps.{AreMarked, AreSteps, IsMarked, IsPartition, IsTerminal, WriteOwnTexts}
+use Rattle.b2_audit.specs.Steps.{AreMarked, AreSteps, IsMarked, IsPartition, IsTerminal, Step, WriteOwnTexts}
 use Rattle.b2_boot.specs.declared.boot.BootPartition.{BootPartition}
 use Rattle.b2_machine.proofs.StepTerminal.{steps_ask_at_terminal}
 use Rattle.b2_machine.specs.Touched.{asking, step_touched, step_written}
-use Rattle.b2_machine.specs.Turn.{TurnEnd, counted_on, ended_turn, turn_from, unless_ended}
+use Rattle.b2_machine.specs.Turn.{TurnEnd, counted_on, ended_turn, passes_none, passes_turn, turn_from, unless_ended}
 use Rattle.b2_machine.specs.declared.ends.Why.{Why}
+use Rattle.b2_machine.proofs.PassedTurns.{each_turn}
 use Rattle.b2_sched.specs.Choice.{basic}
 use Rattle.b2_sched.specs.Lawful.{basic_is_lawful}
 use Rattle.b2_sched.proofs.AloneBoots.{starts_within}
@@ -30,13 +32,13 @@ use Rattle.b2_sched.proofs.EachRow.{EachIs}
 use Rattle.b2_sched.proofs.GroupRows.{is_it}
 use Rattle.b2_sched.proofs.GroupTurns.{local}
 use Rattle.b2_sched.proofs.Numbers.{same_number}
-use Rattle.b2_sched.proofs.OwnObjects.{starts_itself, step_part, step_within}
+use Rattle.b2_sched.proofs.OwnObjects.{pass_within, starts_itself, step_part, step_within}
 use Rattle.b2_sched.proofs.AskedHomes.{HomesIfAny, asks_within}
 use Rattle.b2_sched.proofs.Reaching.{Covers, MayIfAny, holder_led, stepped}
 use Rattle.b2_sched.proofs.TextsWritten.{writes_own_text}
 use Rattle.b2_sched.specs.Presence.{IsSettled, is_number}
 use Rattle.b2_sched.specs.Start.{AreNumbered, private_row}
-use Rattle.b2_sched.specs.Turns.{step_of, steps_in_turn}
+use Rattle.b2_sched.specs.Turns.{step_of, steps_from, steps_in_turn, turn_of}
 
 -- numbers of partitions
 pub numbered : (p : ℕ) → is_number p ≡ true → IsPartition p
@@ -99,28 +101,40 @@ module _ (devices : List Device) where
   abbrev turn_on : ℕ → Private → StoreState → ℕ → TurnEnd StoreState
   turn_on n me s steps = turn_from (basic devices) itself serves lends n me s steps
 
-  pub turn_settled : (p n : ℕ) (me : Private) (s : StoreState) (steps : ℕ) → IsSettled p me → NamesIn is_number s → IsSettled p (turn_on n me s steps).me
+  settled_on : (p n : ℕ) (me : Private) (s : StoreState) (steps : ℕ) → IsSettled p me → NamesIn is_number s → IsSettled p (turn_on n me s steps).me
   unfolding turn_from
-  turn_settled p zero me s steps is names = is
-  turn_settled p (suc n) me s steps is names =
-      by (step_of devices me s).end.why (turn_settled p n (step_of devices me s).me (step_of devices me s).after (counted_on steps (step_of devices me s).end) (next_settled p me s is names) (next_names p me s is names))
+  settled_on p zero me s steps is names = is
+  settled_on p (suc n) me s steps is names =
+      by (step_of devices me s).end.why (settled_on p n (step_of devices me s).me (step_of devices me s).after (counted_on steps (step_of devices me s).end) (next_settled p me s is names) (next_names p me s is names))
     where
       by : (why : Option Why) → IsSettled p (turn_on n (step_of devices me s).me (step_of devices me s).after (counted_on steps (step_of devices me s).end)).me
           → IsSettled p (unless_ended why (λ w. ended_turn (counted_on steps (step_of devices me s).end) w (step_of devices me s).me (step_of devices me s).after) (turn_on n (step_of devices me s).me (step_of devices me s).after (counted_on steps (step_of devices me s).end))).me
       by None later = later
       by (Some why) later = next_settled p me s is names
 
-  pub turn_steps : (p n : ℕ) (me : Private) (s : StoreState) → IsSettled p me → NamesIn is_number s → AreSteps (steps_in_turn devices p n me s) × WriteOwnTexts (steps_in_turn devices p n me s)
-  unfolding steps_in_turn
-  turn_steps p zero me s is names = (tt, tt)
-  turn_steps p (suc n) me s is names =
-      let rest = by (step_of devices me s).end.why (turn_steps p n (step_of devices me s).me (step_of devices me s).after (next_settled p me s is names) (next_names p me s is names)) in
+  steps_on : (p n : ℕ) (me : Private) (s : StoreState) → IsSettled p me → NamesIn is_number s → AreSteps (steps_from devices p n me s) × WriteOwnTexts (steps_from devices p n me s)
+  unfolding steps_from
+  steps_on p zero me s is names = (tt, tt)
+  steps_on p (suc n) me s is names =
+      let rest = by (step_of devices me s).end.why (steps_on p n (step_of devices me s).me (step_of devices me s).after (next_settled p me s is names) (next_names p me s is names)) in
       ((is.number, touched_marked p me s is names, written_marked p me s is names, rest.0), (step_writes_own p me s is names, rest.1))
     where
-      by : (why : Option Why) → AreSteps (steps_in_turn devices p n (step_of devices me s).me (step_of devices me s).after) × WriteOwnTexts (steps_in_turn devices p n (step_of devices me s).me (step_of devices me s).after)
-          → AreSteps (unless_ended why (λ w. []) (steps_in_turn devices p n (step_of devices me s).me (step_of devices me s).after)) × WriteOwnTexts (unless_ended why (λ w. []) (steps_in_turn devices p n (step_of devices me s).me (step_of devices me s).after))
+      by : (why : Option Why) → AreSteps (steps_from devices p n (step_of devices me s).me (step_of devices me s).after) × WriteOwnTexts (steps_from devices p n (step_of devices me s).me (step_of devices me s).after)
+          → AreSteps (unless_ended why (λ w. []) (steps_from devices p n (step_of devices me s).me (step_of devices me s).after)) × WriteOwnTexts (unless_ended why (λ w. []) (steps_from devices p n (step_of devices me s).me (step_of devices me s).after))
       by None later = later
       by (Some why) later = (tt, tt)
+
+  -- whichever turns it is to pass
+  pass_settled : (p : ℕ) (me : Private) (k : ℕ) → IsSettled p me → IsSettled p (record me { pass = k })
+  pass_settled p me k is = record { number = is.number; terminal = is.terminal; part = is.part; homes = pass_within devices is_number me k is.homes }
+
+  pub turn_settled : (p n : ℕ) (me : Private) (s : StoreState) → IsSettled p me → NamesIn is_number s → IsSettled p (turn_of devices n me s).me
+  turn_settled p n me s is names =
+      each_turn (basic devices) itself serves lends (λ (t : TurnEnd StoreState). IsSettled p t.me) n me s (pass_settled p me (me.pass - 1) is) (settled_on p n (passes_none me) s 0 (pass_settled p me 0 is) names)
+
+  pub turn_steps : (p n : ℕ) (me : Private) (s : StoreState) → IsSettled p me → NamesIn is_number s → AreSteps (steps_in_turn devices p n me s) × WriteOwnTexts (steps_in_turn devices p n me s)
+  turn_steps p n me s is names =
+      either (λ (xs : List Step). AreSteps xs × WriteOwnTexts xs) (passes_turn me) [] (steps_from devices p n (passes_none me) s) (tt, tt) (steps_on p n (passes_none me) s (pass_settled p me 0 is) names)
 
 pub halt_settled : (p : ℕ) (me : Private) → IsSettled p me → IsSettled p (record me { halt = true })
 halt_settled p me is = record { number = is.number; terminal = is.terminal; part = is.part; homes = record { part = is.homes.part; place = is.homes.place; kept = is.homes.kept; frames = is.homes.frames } }

@@ -5,6 +5,7 @@ use Rattle.std.proofs.lemmas.List.Elements.{All-append, All-cons, All-head, All-
 use Rattle.b2_flow.specs.declared.frame.Frame.{Frame}
 use Rattle.b2_flow.specs.declared.frame.Frame.TheVariants.{For, Call}
 use Rattle.b2_flow.specs.declared.frame.Place.{Place}
+use Rattle.b2_access.proofs.Choice.{either}
 use Rattle.b2_access.specs.AccessRows.{holder_at, reach}
 use Rattle.b2_access.specs.Devices.{is_platter_for, is_printer_for}
 use Rattle.b2_access.specs.Holding.{device_of}
@@ -23,10 +24,11 @@ use Rattle.b2_access.specs.declared.private.Private.{Private}
 use Rattle.b2_access.specs.declared.reached.TextUse.{TextUse}
 use Rattle.b2_access.specs.declared.reached.TextUse.TheVariants as text
 use Rattle.b2_audit.specs.Steps.{Step}
+use Rattle.b2_boot.specs.Quotas.{quotas_of}
 use Rattle.b2_machine.proofs.StepDevices.{steps_ask_for_listed}
 use Rattle.b2_machine.proofs.StepOutput.{step_shows, still_for_terminal}
 use Rattle.b2_machine.specs.Touched.{AskedListed, asking, step_touched}
-use Rattle.b2_machine.specs.Turn.{unless_ended}
+use Rattle.b2_machine.specs.Turn.{passes_none, passes_turn, unless_ended}
 use Rattle.b2_machine.specs.declared.ends.Why.{Why}
 use Rattle.b2_store.specs.DiskWork.{serves}
 use Rattle.b2_sched.proofs.EachRow.{EachIs, IsKept, each_action}
@@ -40,7 +42,7 @@ use Rattle.b2_sched.specs.Groups.{steps_along, steps_at}
 use Rattle.b2_sched.specs.Laws.{all_actions}
 use Rattle.b2_sched.specs.Lawful.{basic_asks_for_listed, basic_is_lawful}
 use Rattle.b2_sched.specs.Start.{booted, devices_of}
-use Rattle.b2_sched.specs.Turns.{noted_by, step_noted, step_of, steps_in_turn}
+use Rattle.b2_sched.specs.Turns.{noted_by, step_noted, step_of, steps_from, steps_in_turn}
 use Rattle.b2_sched.specs.World.{WorldState, Action, Key, Front, Halt, Reset, Turn, does, private_of}
 
 -- a device that is listed as one of a kind is listed
@@ -212,17 +214,20 @@ module _ (table : List Device) (p : ℕ) where
     step_part table me s ∙ fit.1,
   )
 
-  turn_fine : (n : ℕ) (me : Private) (s : StoreState) → IsFit p me → StepsFine (steps_in_turn table p n me s)
-  unfolding steps_in_turn
-  turn_fine zero me s fit = no_steps
-  turn_fine (suc n) me s fit =
+  fine_on : (n : ℕ) (me : Private) (s : StoreState) → IsFit p me → StepsFine (steps_from table p n me s)
+  unfolding steps_from
+  fine_on zero me s fit = no_steps
+  fine_on (suc n) me s fit =
       let x = step_of table me s in
-      let rest = steps_in_turn table p n x.me x.after in
-      All-cons (TouchesListed table) (step_noted table p me s) (unless_ended x.end.why (λ w. []) rest) (step_fine me s fit) (by x.end.why rest (turn_fine n x.me x.after (fit_after me s fit)))
+      let rest = steps_from table p n x.me x.after in
+      All-cons (TouchesListed table) (step_noted table p me s) (unless_ended x.end.why (λ w. []) rest) (step_fine me s fit) (by x.end.why rest (fine_on n x.me x.after (fit_after me s fit)))
     where
       by : (why : Option Why) (rest : List Step) → StepsFine rest → StepsFine (unless_ended why (λ w. []) rest)
       by None rest later = later
       by (Some why) rest later = no_steps
+
+  turn_fine : (n : ℕ) (me : Private) (s : StoreState) → IsFit p me → StepsFine (steps_in_turn table p n me s)
+  turn_fine n me s fit = either StepsFine (passes_turn me) [] (steps_from table p n (passes_none me) s) no_steps (fine_on n (passes_none me) s fit)
 
   noted_fine : (n : ℕ) (o : Option Private) (s : StoreState) → ((me : Private) → o ≡ Some me → IsFit p me) → StepsFine (noted_by table p n o s)
   noted_fine n None s fit = no_steps
@@ -251,5 +256,5 @@ module _ (table : List Device) where
 
 pub runs_touch_listed_devices : RunsTouchListedDevices
 runs_touch_listed_devices b images log =
-    all_fine (devices_of b.printers b.platters) (all_actions b.quota log) (booted b images) refl
+    all_fine (devices_of b.printers b.platters) (all_actions (quotas_of b) log) (booted b images) refl
     (λ p me is. (booted_shows b.partitions p me is, starts_itself b.partitions p me is))

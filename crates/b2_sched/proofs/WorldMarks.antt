@@ -9,6 +9,7 @@ use Rattle.b2_audit.proofs.Said.{marks_say_clean}
 use Rattle.b2_audit.specs.Marks.{Marks, is_clean, marked}
 use Rattle.b2_audit.specs.Steps.{AreSteps, IsClean, Step, just, marks_after}
 use Rattle.b2_boot.specs.Boots.{BootState}
+use Rattle.b2_boot.specs.Quotas.{quotas_of}
 use Rattle.b2_store.specs.Changes.{with_terminal}
 use Rattle.b2_term.specs.Terminal.{TerminalState, keyed}
 use Rattle.b2_sched.proofs.AloneBoots.{as_alone, held_by_nobody}
@@ -48,7 +49,7 @@ all_mark (a ∷ rest) w =
     all_mark rest (does a w) ∙ ap (λ (m : Marks). marks_after later m) (action_marks a w) ∙ sym (marks_append (steps_at a w) later w.marks)
 
 pub runs_mark : RunsMarkTheirSteps
-runs_mark log w = ap (λ (v : WorldState). v.marks) (by_actions log w) ∙ all_mark (all_actions w.quota log) w
+runs_mark log w = ap (λ (v : WorldState). v.marks) (by_actions log w) ∙ all_mark (all_actions w.quotas log) w
 
 -- the steps touch and write what is marked
 both_are : (xs ys : List Step) → AreSteps xs → AreSteps ys → AreSteps (xs ++ ys)
@@ -65,8 +66,8 @@ turned_settled p n None w is h = h
 turned_settled p n (Some me) w is h =
     let own = h.each p me is in
     record {
-      each = each_row (λ p me. IsSettled p me) p (turn_of w.devices n me w.store).me w.privates (turn_settled w.devices p n me w.store 0 own h.names) h.each;
-      names = (turn_within w.devices is_number n me w.store 0 own.homes h.names).1;
+      each = each_row (λ p me. IsSettled p me) p (turn_of w.devices n me w.store).me w.privates (turn_settled w.devices p n me w.store own h.names) h.each;
+      names = (turn_within w.devices is_number n me w.store own.homes h.names).1;
     }
 
 names_at : (c : Option TerminalState) (t : ℕ) (f : TerminalState → TerminalState) (s : StoreState) → NamesIn is_number s → NamesIn is_number (with_terminal c t f s)
@@ -103,7 +104,7 @@ pub who_is_clean : MarksSayWhoIsClean
 who_is_clean b images log p are is_p =
     let w = booted b images in
     let steps = steps_of log w in
-    let said = marks_say_clean steps p (all_steps (all_actions b.quota log) w (booted_settled b images are)) is_p in
+    let said = marks_say_clean steps p (all_steps (all_actions (quotas_of b) log) w (booted_settled b images are)) is_p in
     subst (λ (m : Marks). (is_clean p m ≡ true) ↔ IsClean (just p) steps) (sym (runs_mark log w)) said
 
 pub clean_as_alone : CleanOnesAreAsAlone

@@ -11,6 +11,7 @@ use Rattle.b2_audit.specs.Steps.{Step, Group, foul, IsClean}
 use Rattle.b2_language.specs.Languages.{ListAlike}
 use Rattle.b2_boot.specs.Alone.{alone}
 use Rattle.b2_boot.specs.Boots.{BootState}
+use Rattle.b2_boot.specs.Quotas.{quota_at}
 use Rattle.b2_boot.specs.declared.log.Event.{Event}
 use Rattle.b2_sched.specs.Laws.{all_actions}
 use Rattle.b2_sched.specs.Start.{Images, booted}
@@ -31,7 +32,7 @@ steps_along (a ∷ rest) w = steps_at a w ++ steps_along rest (does a w)
 
 -- ALL STEPS OF A LOG, in order
 abbrev pub steps_of : List Event → WorldState → List Step
-steps_of log w = steps_along (all_actions w.quota log) w
+steps_of log w = steps_along (all_actions w.quotas log) w
 
 -- the objects of partitions outside a group, which two worlds need not have in common
 abbrev pub IsOutside : Group → Object → Type 0
@@ -55,9 +56,10 @@ StoresAlike out dirty s t = (o : Object) → (IsIn o dirty → ⊥) → (out o �
 abbrev pub NamesLead : Group → List Object → StoreState → Type 0
 NamesLead g dirty s = (n : List ℕ) (p : ℕ) → (IsIn (object.Name n) dirty → ⊥) → LeadsTo s n p → g p ≡ true
 
--- THE INVARIANT of a world and that of a group alone, where some objects are foul: the tables of devices list the same for members
+-- THE INVARIANT of a world and that of a group alone, where some objects are foul: members have the same quotas, and the tables of devices
+-- list the same for them
 pub record WorldsAlike (out : Object → Type 0) (g : Group) (dirty : List Object) (w v : WorldState) : Type 0 where
-  pub quota : w.quota ≡ v.quota
+  pub quotas : (p : ℕ) → g p ≡ true → quota_at p w.quotas ≡ quota_at p v.quotas
   pub devices : (p : ℕ) → g p ≡ true → ListAlike p w.devices v.devices
   pub privates : MembersAlike g w.privates v.privates
   pub stores : StoresAlike out dirty w.store v.store

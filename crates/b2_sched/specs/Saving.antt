@@ -13,6 +13,7 @@ use Rattle.b2_access.specs.declared.devices.Device.{Device}
 use Rattle.b2_access.specs.declared.objects.Object.TheVariants as object
 use Rattle.b2_access.specs.declared.private.Private.{Private}
 use Rattle.b2_boot.specs.Boots.{BootState}
+use Rattle.b2_boot.specs.Quotas.{quotas_of}
 use Rattle.b2_boot.specs.declared.log.Event.{Event}
 use Rattle.b2_machine.specs.Touched.{asking}
 use Rattle.b2_stmt_file.specs.SavedNumbers.{HoldsNumbers}
@@ -58,11 +59,11 @@ WorldsHoldNumbers =
 
 -- So each value that any step of a run asks to be saved is such as a record may hold,
 abbrev pub RunsSaveStorable : Type 0
-RunsSaveStorable = (b : BootState) (images : Images) (log : List Event) → AtEachStep (λ devices me s. SavesStorable (asking (basic devices) me s)) (all_actions b.quota log) (booted b images)
+RunsSaveStorable = (b : BootState) (images : Images) (log : List Event) → AtEachStep (λ devices me s. SavesStorable (asking (basic devices) me s)) (all_actions (quotas_of b) log) (booted b images)
 
 -- and each record follows the records up to its place.
 abbrev pub SavesRecord : List Device → Private → StoreState → Type 0
 SavesRecord devices me s = (slot : Slot) (values : List Value) → asking (basic devices) me s ≡ Some (access.DataSave slot values) → FollowsRecords me.part slot values
 
 abbrev pub RunsSaveRecords : Type 0
-RunsSaveRecords = (b : BootState) (images : Images) (log : List Event) → AtEachStep SavesRecord (all_actions b.quota log) (booted b images)
+RunsSaveRecords = (b : BootState) (images : Images) (log : List Event) → AtEachStep SavesRecord (all_actions (quotas_of b) log) (booted b images)

@@ -13,6 +13,7 @@ use Rattle.b2_audit.specs.Marks.{unmarked}
 use Rattle.b2_audit.specs.Steps.{IsPartition, IsTerminal}
 use Rattle.b2_store.specs.Start.{Areas, Round, text_row, borrow_row, globals_row, has_order, idle_row, blank_row, with_keys, free_row}
 use Rattle.b2_boot.specs.Boots.{BootState, is_program_name}
+use Rattle.b2_boot.specs.Quotas.{quotas_of}
 use Rattle.b2_boot.specs.declared.boot.BootPartition.{BootPartition}
 use Rattle.b2_boot.specs.declared.boot.BootPlatter.{BootPlatter}
 use Rattle.b2_boot.specs.declared.boot.BootPrinter.{BootPrinter}
@@ -98,7 +99,7 @@ store_booted b images = record {
 -- THE WORLD OF A BOOT: each partition as it starts, and nothing marked or tallied
 abbrev pub booted : BootState → Images → WorldState
 booted b images = record {
-  quota = b.quota;
+  quotas = quotas_of b;
   devices = devices_of b.printers b.platters;
   privates = map private_row b.partitions;
   store = store_booted b images;

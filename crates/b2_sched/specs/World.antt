@@ -10,15 +10,16 @@ use Rattle.b2_access.specs.Store.{StoreState, content}
 use Rattle.b2_audit.specs.Marks.{Marks}
 use Rattle.b2_audit.specs.Steps.{marks_after}
 use Rattle.b2_store.specs.Changes.{keyed_at, front_at, room_at}
+use Rattle.b2_boot.specs.Quotas.{quota_at}
 use Rattle.b2_boot.specs.declared.log.Event.{Event}
 use Rattle.b2_boot.specs.declared.log.Event.TheVariants as event
 use Rattle.b2_machine.specs.Turn.{TurnEnd}
 use Rattle.b2_sched.specs.Turns.{steps_in_turn, turn_of}
 
--- the quota of a turn in a round, the devices that there are, the own state of each partition by its number, the store, the marks of all steps, and how many
+-- the partitions that are present, each with its quota in a round, the devices that there are, the own state of each partition by its number, the store, the marks of all steps, and how many
 -- turns and counting steps there were and how many keys were dropped
 pub record WorldState : Type 0 where
-  pub quota : ℕ
+  pub quotas : List (ℕ × ℕ)
   pub devices : List Device
   pub privates : List (ℕ × Private)
   pub store : StoreState
@@ -97,24 +98,24 @@ abbrev pub does_all : List Action → WorldState → WorldState
 does_all [] w = w
 does_all (a ∷ rest) w = does_all rest (does a w)
 
--- a turn of each of some partitions, from a number on
-abbrev pub turns_from : ℕ → ℕ → ℕ → List Action
-turns_from quota p zero = []
-turns_from quota p (suc n) = Turn p quota ∷ turns_from quota (p + 1) n
+-- a turn of each of some partitions, from a number on, with its quota
+abbrev pub turns_from : List (ℕ × ℕ) → ℕ → ℕ → List Action
+turns_from quotas p zero = []
+turns_from quotas p (suc n) = Turn p (quota_at p quotas) ∷ turns_from quotas (p + 1) n
 
 -- in each round a turn of all sixteen numbers in order
-abbrev pub rounds : ℕ → ℕ → List Action
-rounds quota zero = []
-rounds quota (suc n) = turns_from quota 1 16 ++ rounds quota n
+abbrev pub rounds : List (ℕ × ℕ) → ℕ → List Action
+rounds quotas zero = []
+rounds quotas (suc n) = turns_from quotas 1 16 ++ rounds quotas n
 
--- what an event is, with the quota of a turn in a round
-abbrev pub actions : ℕ → Event → List Action
-actions quota (event.Key t k) = Key t k ∷ []
-actions quota (event.Front t p) = Front t p ∷ []
-actions quota (event.Halt p) = Halt p ∷ []
-actions quota (event.Reset p) = Reset p ∷ []
-actions quota (event.Turn p n) = Turn p n ∷ []
-actions quota (event.Rounds n) = rounds quota n
+-- what an event is, with the quotas of a round
+abbrev pub actions : List (ℕ × ℕ) → Event → List Action
+actions quotas (event.Key t k) = Key t k ∷ []
+actions quotas (event.Front t p) = Front t p ∷ []
+actions quotas (event.Halt p) = Halt p ∷ []
+actions quotas (event.Reset p) = Reset p ∷ []
+actions quotas (event.Turn p n) = Turn p n ∷ []
+actions quotas (event.Rounds n) = rounds quotas n
 
 -- an event that gives turns: in these alone memory may fail
 abbrev pub GivesTurns : Event → Type 0
@@ -124,7 +125,7 @@ GivesTurns e = ⊥
 
 -- AN EVENT
 abbrev pub happens : Event → WorldState → WorldState
-happens e w = does_all (actions w.quota e) w
+happens e w = does_all (actions w.quotas e) w
 
 -- A RUN: the events in order
 abbrev pub ran : List Event → WorldState → WorldState

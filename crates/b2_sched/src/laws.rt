@@ -8,7 +8,7 @@ ghost use Rattle.b2_sched.specs.Files.{FilesOutlastTurns, HeldFilesStay};
 ghost use Rattle.b2_sched.specs.Groups.{CleanGroupsAreAsAlone, GroupsRelyOnTheirOwn, TurnsChangeTheirOwn};
 ghost use Rattle.b2_sched.specs.Holding.{HeldUntilFreed, ListsAreWhatIsHeld, OthersLeaveHeld, OthersReadNothing, OthersWait, StepsKeepTheList};
 ghost use Rattle.b2_sched.specs.Inside.{AreInsideAsEntered, StepsEnterAsSaid, TextsStayWhileInside};
-ghost use Rattle.b2_sched.specs.Laws.{RunsByActions, LeavesOthers, KeepsPresent, RoundsAscend, CountsTurns, NoPlaceIsKept, RunsKeepToTheirGrant, TurnsCountAllButOne};
+ghost use Rattle.b2_sched.specs.Laws.{RunsByActions, LeavesOthers, KeepsPresent, QuotasStay, RoundsAscend, CountsTurns, NoPlaceIsKept, RunsKeepToTheirGrant, TurnsCountAllButOne};
 ghost use Rattle.b2_sched.specs.Marking.{TurnsMarkTheirSteps};
 ghost use Rattle.b2_sched.specs.OpenFiles.{OpenFilesAreListed};
 ghost use Rattle.b2_sched.specs.Parts.{PartsAreEnough, PartsOfCleanGroupsAreEnough};
@@ -31,12 +31,17 @@ pub fn law_the_same_are_present()
     ensures { KeepsPresent }
 {}
 
-/// In a round each of the sixteen numbers has exactly one turn, in ascending order.
+/// In a round each of the sixteen numbers has exactly one turn, with its own quota, in ascending order.
 pub fn law_a_round_has_a_turn_of_each()
     ensures { RoundsAscend }
 {}
 
-/// In a round as many turns are counted as partitions are present.
+/// Through every run each partition has the quota of its boot: its own, or the boot's where it has none.
+pub fn law_quotas_stay()
+    ensures { QuotasStay }
+{}
+
+/// In a round as many turns are counted as partitions are present, also of those that pass them.
 pub fn law_a_round_counts_those_present()
     ensures { CountsTurns }
 {}
@@ -46,7 +51,7 @@ pub fn law_a_run_keeps_to_its_grant()
     ensures { RunsKeepToTheirGrant }
 {}
 
-/// A turn has at most one step that doesn't count.
+/// A turn has at most one step that doesn't count; one that is passed has none.
 pub fn law_a_turn_counts_all_but_one()
     ensures { TurnsCountAllButOne }
 {}

@@ -2,6 +2,7 @@
 ghost use Rattle.std.specs.Prelude.{◌≡◌, ◌++◌, IfOk, OnOk, map, true};
 ghost use Rattle.std.specs.List.{list_all};
 ghost use Rattle.b2_boot.specs.Boots.{is_program_name};
+ghost use Rattle.b2_boot.specs.Quotas.{quota_row};
 ghost use Rattle.b2_sched.specs.Start.{AreNumbered, in_bytes, load_line, may_start, private_row, starting_line, areas_of, front_of_boot};
 ghost use Rattle.b2_sched.specs.Start.{devices_of, platter_addresses, platter_device, printer_addresses, printer_device};
 
@@ -70,6 +71,21 @@ pub fn privates_of(
     let mut rows = Rows::new(alloc);
     for p in partitions {
         rows.add(p.number, private_of(alloc, p)?)?;
+    }
+    Ok(rows)
+}
+
+/// Each partition, with its quota in a round: its own, or that of the boot.
+pub fn quotas_of(
+    alloc: Global,
+    partitions: &[BootPartition],
+    of_boot: u16,
+) -> Result<Rows<Part, u16>, NoMemory>
+    ensures { IfOk result (λ rows. rows ≡ map (quota_row of_boot) partitions.now) }
+{
+    let mut rows = Rows::new(alloc);
+    for p in partitions {
+        rows.add(p.number, p.quota_or(of_boot))?;
     }
     Ok(rows)
 }

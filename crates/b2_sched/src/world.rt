@@ -1,12 +1,13 @@
 // The world: events and runs.
 ghost use Rattle.std.specs.Prelude.{◌≡◌, [], IfOk, IfErr, OnOk, length};
 ghost use Rattle.b2_audit.specs.Marks.{is_clean};
+ghost use Rattle.b2_boot.specs.Quotas.{quota_at};
 ghost use Rattle.b2_sched.specs.Start.{CanStart, booted};
 ghost use Rattle.b2_sched.specs.World.{does, does_all, turns_from, rounds, happens, ran, GivesTurns, Key, Front, Halt, Reset, Turn};
 
 use crate::basic::Basic;
 use crate::start::{
-    areas_of, devices_of, fronts_of, platter_addresses, printer_addresses, privates_of,
+    areas_of, devices_of, fronts_of, platter_addresses, printer_addresses, privates_of, quotas_of,
 };
 use b2_access::{DeviceTable, Private};
 use b2_audit::{Seen, Watched};
@@ -19,12 +20,12 @@ use b2_term::KeyItem;
 use std::alloc::Global;
 use std::marker::Model;
 
-/// The devices that there are, partitions, the store that they share, the marks of what they touch and write there, and counts of turns, counting steps and
+/// The devices that there are, partitions with their quotas, the store that they share, the marks of what they touch and write there, and counts of turns, counting steps and
 /// dropped keys. Contracts see it as one record.
 #[derive(Drop)]
 pub struct World<S: Ends> {
     alloc: Global,
-    quota: u16,
+    quotas: Rows<Part, u16>,
     devices: DeviceTable,
     privates: Rows<Part, Private>,
     stores: S,
@@ -44,7 +45,7 @@ impl<S: Ends> Model for World<S> {
 
     ghost coded = { Prim.hlevel (codes, coded_vars) };
 
-    ghost view = { λ w. record { quota = w.quota; devices = w.devices; privates = w.privates; store = S.store (S.meaning w.stores); marks = w.seen; turns = w.turns; steps = w.steps; dropped = w.dropped } };
+    ghost view = { λ w. record { quotas = w.quotas; devices = w.devices; privates = w.privates; store = S.store (S.meaning w.stores); marks = w.seen; turns = w.turns; steps = w.steps; dropped = w.dropped } };
 
     ghost invariant = { λ w. ArePresent w.privates (S.store (S.meaning w.stores)) w.seen };
 }
@@ -57,6 +58,7 @@ impl<S: Ends + Drop> World<S> {
         requires as_many { length b.now.platters ≡ length platters.items }
         ensures started { IfOk result (λ w. w ≡ booted b.now platters.items) }
     {
+        let quotas = quotas_of(alloc, &b.partitions, b.quota)?;
         let privates = privates_of(alloc, &b.partitions)?;
         let devices = DeviceTable::new(devices_of(alloc, &b.printers, &b.platters)?);
         let start = StoreBoot {
@@ -69,7 +71,7 @@ impl<S: Ends + Drop> World<S> {
         let seen = Seen::new(alloc);
         Ok(World {
             alloc,
-            quota: b.quota,
+            quotas,
             devices,
             privates,
             stores,
@@ -202,25 +204,50 @@ impl<S: Ends + Drop> World<S> {
         }
     }
 
+    /// A turn of a partition with its quota; an absent one has none.
+    #[inline(always)]
+    fn turn_in_round(&mut self, part: Part) -> Result<(), NoMemory>
+        ensures turned { OnOk result (self.new ≡ does (Turn part (quota_at part self.old.quotas)) self.old) }
+        ensures ended { IfErr result (λ _. self.new.privates ≡ []) }
+    {
+        if self.privates.get(part).is_some() {
+            let quota = quota_of(&self.quotas, part);
+            self.turn(part, quota)
+        } else {
+            Ok(())
+        }
+    }
+
     /// A turn of each partition, by number.
     fn round(&mut self) -> Result<(), NoMemory>
-        ensures turned { OnOk result (self.new ≡ does_all (turns_from self.old.quota 1 16) self.old) }
+        ensures turned { OnOk result (self.new ≡ does_all (turns_from self.old.quotas 1 16) self.old) }
         ensures ended { IfErr result (λ _. self.new.privates ≡ []) }
     {
         for n in 1..17u8 {
-            self.turn(Part::known(n), self.quota)?;
+            self.turn_in_round(Part::known(n))?;
         }
         Ok(())
     }
 
     /// Some rounds.
     fn rounds(&mut self, n: u32) -> Result<(), NoMemory>
-        ensures turned { OnOk result (self.new ≡ does_all (rounds self.old.quota n) self.old) }
+        ensures turned { OnOk result (self.new ≡ does_all (rounds self.old.quotas n) self.old) }
         ensures ended { IfErr result (λ _. self.new.privates ≡ []) }
     {
         for _ in 0..n {
             self.round()?;
         }
         Ok(())
+    }
+}
+
+/// The quota of a partition in a round, and 1 where it isn't listed.
+#[inline(always)]
+fn quota_of(quotas: &Rows<Part, u16>, part: Part) -> u16
+    ensures { result ≡ quota_at part quotas.now }
+{
+    match quotas.get(part) {
+        Some(quota) => *quota,
+        None => 1,
     }
 }

@@ -28,7 +28,8 @@ use Rattle.b2_access.specs.declared.private.Private.{Private}
 use Rattle.b2_access.proofs.Choice.{either}
 use Rattle.b2_access.proofs.Courses.{each_course}
 use Rattle.std.specs.Option.{option_map, option_map_or}
-use Rattle.b2_stmt.specs.Asked.{Asks, asked_of, asks_choice, asks_loop, asks_mark, asks_on, body_place, is_still, line_chosen, place_after}
+use Rattle.b2_stmt.specs.Asked.{Asks, asked_of, asks_choice, asks_loop, asks_mark, asks_on, asks_pass, body_place, is_still, line_chosen, place_after}
+use Rattle.b2_stmt.specs.Breaks.{turns_to_pass}
 use Rattle.b2_stmt.specs.Arguments.{arguments, operands_of}
 use Rattle.b2_stmt.specs.Borrowing.{asks_of_others, asks_selected, asks_to_drop, asks_to_enter, asks_to_leave, finds_line}
 use Rattle.b2_stmt.specs.Calls.{may_forget_all}
@@ -98,6 +99,11 @@ module _ (t : Trees) (h : Here) (s : Context) (lines : Lines) where
   unfolding NotReturn
   on_not = either NotReturn (calls_a_line t && not (is_some h.place.line)) _ _ tt (choice_not (choice_in s t))
 
+  pass_not : (turns : Result ℕ ℕ) → NotReturn (asks_pass turns)
+  unfolding NotReturn
+  pass_not (Ok turns) = tt
+  pass_not (Err code) = tt
+
   no_return : (r : ℕ) → (r == row.RETURN) ≡ false → NotReturn (asked_of r t h s lines)
   unfolding NotReturn
   no_return r other =
@@ -113,7 +119,8 @@ module _ (t : Trees) (h : Here) (s : Context) (lines : Lines) where
       (either F (r == row.RUN) _ _ tt
       (either F (r == row.CONTINUE) _ _ tt
       (either F (r == row.SELECT) _ _ tt
-      (either F (r == row.SELECT_NO_ROUND) _ _ tt tt)))))))))))
+      (either F (r == row.SELECT_NO_ROUND) _ _ tt
+      (either F (r == row.BREAK) _ _ (pass_not (turns_to_pass s t)) tt))))))))))))
 
 -- in an immediate line it is refused
 not_there : (a b c d e f g : Bool) → (a || b || c || d || e || f || g) ≡ false → c ≡ false

@@ -96,6 +96,7 @@ module _ (F : Option Access → Type 0) (none : F None) (me : Private) (leaves :
   each_of_others (asked.Stop shown after) p own home = none
   each_of_others (asked.Select mode) p own home = none
   each_of_others asked.Continue p own home = none
+  each_of_others (asked.Pass turns) p own home = none
 
 pub may_ask_others : (x : Asked) (p : Place) (me : Private) (own home : Lines) → MayAskAny (asks_of_others x p me own home)
 unfolding MayAsk MayAskAny

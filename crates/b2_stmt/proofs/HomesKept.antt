@@ -37,7 +37,8 @@ use Rattle.b2_access.specs.declared.planned.Outcome.{Outcome}
 use Rattle.b2_access.specs.declared.planned.Outcome.TheVariants as outcome
 use Rattle.b2_access.specs.declared.private.Private.{Private}
 use Rattle.b2_expr.specs.Workspace.{WorkLeft}
-use Rattle.b2_stmt.specs.Asked.{Asks, Leads, asked_of, asking_rows, asks_choice, asks_loop, asks_mark, asks_nothing, asks_on, body_place, carried, is_still, left_out, line_chosen, place_after, still, still_rows}
+use Rattle.b2_stmt.specs.Asked.{Asks, Leads, asked_of, asking_rows, asks_choice, asks_loop, asks_mark, asks_nothing, asks_on, asks_pass, body_place, carried, is_still, left_out, line_chosen, place_after, still, still_rows}
+use Rattle.b2_stmt.specs.Breaks.{turns_to_pass}
 use Rattle.b2_stmt.specs.Arguments.{arguments, operands_of}
 use Rattle.b2_stmt.specs.Marked.{calls_into, calls_mark, ends_taken, ends_with_args, mark_in, mark_place, number_called, place_in, takes_args}
 use Rattle.b2_stmt.specs.Parts.{part_came}
@@ -131,7 +132,7 @@ module _ (among : ℕ → Bool) where
             goes_in among lines h.place (past_colon h.place.unit h.units) k,
             (
               goes_in among lines h.place goal.NextLine k,
-              (tt, (tt, (tt, (tt, (passed_in t, (tt, (tt, tt))))))),
+              (tt, (tt, (tt, (tt, (passed_in t, (tt, tt)))))),
             ),
           ),
         ),
@@ -163,6 +164,11 @@ module _ (among : ℕ → Bool) where
   mark_asked n (Ok args) back k = k
   mark_asked n (Err code) back k = tt
 
+  pass_asked : (turns : Result ℕ ℕ) → AskedIn (asks_pass turns)
+  unfolding AskedIn
+  pass_asked (Ok turns) = tt
+  pass_asked (Err code) = tt
+
   body_by : (o : Option Place) (p : Place) → PlaceIn among o → among p.home ≡ true → among (unwrap_or o p).home ≡ true
   body_by None p h k = k
   body_by (Some q) p h k = h
@@ -188,7 +194,7 @@ module _ (among : ℕ → Bool) where
                     on_asked t h s lines k after,
                     (
                       after,
-                      (tt, (tt, (tt, (tt, tt)))),
+                      (tt, (tt, (tt, (tt, (pass_asked (turns_to_pass s t), tt))))),
                     ),
                   ),
                 ),
@@ -324,6 +330,7 @@ module _ (among : ℕ → Bool) where
   carried_in (asked.Select mode) p me own home h w k = ((w.kept, w.frames), tt)
   carried_in (asked.Run n) p me own home h w k = run_in n own me w
   carried_in asked.Continue p me own home h w k = continues_in me.kept me w w.kept
+  carried_in (asked.Pass turns) p me own home h w k = ((w.kept, w.frames), tt)
   carried_in (asked.CallMark n args back) p me own home h w k =
       mark_called (mark_place n p me.part own home) args back me w
       (either_in (mark_in p.home n home) (mark_in me.part n own) (spot_in p.home (first_opening (is_mark n) home) h) (spot_in me.part (first_opening (is_mark n) own) w.part)) k
@@ -415,6 +422,7 @@ module _ (among : ℕ → Bool) where
   enters_in g spot (asked.Select mode) me w h k = (left me w, tt)
   enters_in g spot (asked.Run n) me w h k = (left me w, tt)
   enters_in g spot asked.Continue me w h k = (left me w, tt)
+  enters_in g spot (asked.Pass turns) me w h k = (left me w, tt)
 
   clears_in : (k : ClearCame) (me : Private) → Within me → EndedIn (clearing_ends k me)
   unfolding EndedIn

@@ -166,6 +166,7 @@ carries (asked.Stop shown after) p me own home h = inr refl
 carries (asked.Select mode) p me own home h = inl h
 carries (asked.Run n) p me own home h = run n own me h
 carries asked.Continue p me own home h = continued me.kept me h
+carries (asked.Pass turns) p me own home h = inl h
 carries (asked.CallMark n args to) p me own home h = mark_called (mark_place n p me.part own home) args to me h
 
 -- what is planned
@@ -222,6 +223,7 @@ enters_none home spot (asked.Stop shown after) me k = inl k
 enters_none home spot (asked.Select mode) me k = inl k
 enters_none home spot (asked.Run n) me k = inl k
 enters_none home spot asked.Continue me k = inl k
+enters_none home spot (asked.Pass turns) me k = inl k
 
 edits_none : (x : Access) (a : Answer) (me : Private) → KeepsNoPlace me → KeepsNothing (edit_finishes x a me)
 unfolding KeepsNothing

@@ -1,7 +1,7 @@
 -- The proofs of statements of control, by what they are about.
 --
 -- GoalUnits: the units that goals name. Framed: frames that are put. BranchRows, LoopRows, CallRows, CourseRows, ChoiceRows,
--- ClearRows, ArgumentRows, MarkRows and PartRows have what the rows of statements say at their bytes, one fact at a time. Executed: a
+-- ClearRows, ArgumentRows, MarkRows, PartRows and BreakRows have what the rows of statements say at their bytes, one fact at a time. Executed: a
 -- unit by its row and its tree. Erased: what CLEAR P asks for. EachPlan: what is planned and how it ends, case by case. HomesKept: which partitions a statement names as homes.
 -- KeptPlaces: where it stands, at which terminal, and what it keeps for CONTINUE. Waits: what has to wait.
 -- Reached: what becomes of the `@` variables. PartsCame: what came of a name. LeftAlone: all of
@@ -21,6 +21,7 @@ pub mod ClearRows
 pub mod ArgumentRows
 pub mod MarkRows
 pub mod PartRows
+pub mod BreakRows
 pub mod PartsCame
 pub mod Executed
 pub mod Erased

@@ -310,6 +310,7 @@ module _ (me : Private) (w : Stands me) where
   asked_well (asked.Select mode) q own home is h none = (good, w.place)
   asked_well (asked.Run n) q own home is h none = run_well n own none
   asked_well asked.Continue q own home is h none = continues_well me.kept refl
+  asked_well (asked.Pass turns) q own home is h none = (good, w.place)
   asked_well (asked.CallMark n args back) q own home is h none =
       let at_home = spot_in (is_open me.part me.stack) q.home (first_opening (is_mark n) home) (subst (PlaceStands me.part me.stack) is w.place) in
       let in_own = spot_in (is_open me.part me.stack) me.part (first_opening (is_mark n) own) own_open in

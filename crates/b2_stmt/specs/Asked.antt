@@ -18,6 +18,7 @@ use Rattle.b2_access.specs.declared.planned.Outcome.{Outcome}
 use Rattle.b2_access.specs.declared.planned.Outcome.TheVariants as outcome
 use Rattle.b2_access.specs.declared.private.Private.{Private}
 use Rattle.b2_stmt.specs.Branches.{goto_goal, if_goal, passed_function}
+use Rattle.b2_stmt.specs.Breaks.{breaks, turns_to_pass}
 use Rattle.b2_stmt.specs.Calls.{called_where, forgets, goes_back, has_all, line_called}
 use Rattle.b2_stmt.specs.Choices.{calls_a_line, choice_in}
 use Rattle.b2_stmt.specs.Course.{continues, line_to_run, runs, selects, stop_text, stops_program, text_of_stop}
@@ -61,6 +62,11 @@ abbrev pub asks_mark : ℕ → Result (List Value) ℕ → Option Place → Aske
 asks_mark n (Ok args) back = asked.CallMark n args back
 asks_mark n (Err code) back = asked.Nothing (outcome.Failed code)
 
+-- $BREAK: that so many turns are passed
+abbrev pub asks_pass : Result ℕ ℕ → Asked
+asks_pass (Ok turns) = asked.Pass turns
+asks_pass (Err code) = asked.Nothing (outcome.Failed code)
+
 -- what a statement that changes nothing leads to, a line a row
 abbrev pub Leads : Type 0
 Leads = Trees → Here → Context → Lines → Outcome
@@ -76,7 +82,6 @@ still_rows =
     ∷ (row.IMAGE_LINE, λ t h s lines. outcome.Next)
     ∷ (row.DATA, λ t h s lines. outcome.Next)
     ∷ (row.DEFFN, λ t h s lines. passed_function t)
-    ∷ (row.BREAK, λ t h s lines. outcome.Break)
     ∷ (row.SELECT_PART, λ t h s lines. outcome.Failed D87_FILE_NAME)
     ∷ []
 
@@ -108,6 +113,7 @@ asking_rows =
     ∷ (row.CONTINUE, λ t h s lines. asked.Continue)
     ∷ (row.SELECT, λ t h s lines. asked.Select Round)
     ∷ (row.SELECT_NO_ROUND, λ t h s lines. asked.Select Cut)
+    ∷ (row.BREAK, λ t h s lines. asks_pass (turns_to_pass s t))
     ∷ []
 
 abbrev pub asks_nothing : Asks
@@ -129,6 +135,7 @@ carried (asked.Select mode) p me own home = selects mode me
 carried (asked.Run n) p me own home = runs n own me
 carried asked.Continue p me own home = continues me.kept me
 carried (asked.CallMark n args back) p me own home = calls_mark (mark_place n p me.part own home) args back me
+carried (asked.Pass turns) p me own home = breaks turns me
 
 -- the names in it are legal
 abbrev pub HasLegalNames : Asked → Type 0

@@ -4,6 +4,7 @@ pub mod Loops
 pub mod Calls
 pub mod Course
 pub mod Choices
+pub mod Breaks
 pub mod Lines
 pub mod Arguments
 pub mod Asked

@@ -9,6 +9,7 @@ ghost use Rattle.b2_stmt.specs.Arguments.{arguments, operands_of};
 ghost use Rattle.b2_stmt.specs.Marked.{number_called as called_number};
 ghost use Rattle.b2_expr.specs.Workspace.{workspace};
 ghost use Rattle.b2_stmt.specs.Branches.{if_goal as if_goal_of};
+ghost use Rattle.b2_stmt.specs.Breaks.{turns_to_pass as turns_of_break};
 ghost use Rattle.b2_access.specs.Going.{to_found};
 ghost use Rattle.b2_stmt.specs.Loops.{loop_in};
 ghost use Rattle.b2_stmt.specs.Course.{stop_text as shown_by_stop, text_of_stop};
@@ -18,6 +19,7 @@ ghost use Rattle.b2_access.specs.Steering.{steered};
 
 use crate::arguments::arguments_of;
 use crate::branches::{goto_goal, if_goal, passed_function, passed_goal};
+use crate::breaks::{pass_turns, turns_to_pass};
 use crate::calls::{call_line, forget, go_back, has_all, line_called};
 use crate::choices::{calls_a_line, choice_at};
 use crate::course::{line_to_run, resume, run_program, select, stop, stop_text, text_of_stop};
@@ -59,6 +61,8 @@ pub enum Asked {
     Continue,
     /// A call of the DEFFN' of a number, which passes values and leads back to a place.
     CallMark(u8, ValueList, Option<Place>),
+    /// That the turn ends, and so many of the next are passed.
+    Pass(u8),
 }
 
 /// The place of a loop's body, which stands after the FOR also where no unit follows.
@@ -168,7 +172,6 @@ pub fn still(
         rows::END => Outcome::Ready,
         rows::REMARK | rows::IMAGE_LINE | rows::DATA => Outcome::Next,
         rows::DEFFN => passed_function(unit),
-        rows::BREAK => Outcome::Break,
         rows::SELECT_PART => failed(D87_FILE_NAME),
         _ => failed(S27_LEFT_OUT),
     }
@@ -201,6 +204,19 @@ fn ask_mark(
             let outcome = failing(fault)?;
             Ok(Asked::Nothing(outcome))
         }
+    }
+}
+
+/// What $BREAK asks for.
+fn ask_pass(work: &Workspace<'_>, unit: &[u8]) -> Asked
+    requires part { is_part row.BREAK unit.now ≡ true }
+    ensures asked { result ≡ spec.asks_pass (turns_of_break (context_of (workspace work.now)) (tree_at row.BREAK unit.now)) }
+    ensures named { HasLegalNames result }
+{
+    let e = surroundings_of(work);
+    match turns_to_pass(&e, unit) {
+        Ok(turns) => Asked::Pass(turns),
+        Err(code) => Asked::Nothing(Outcome::Failed(code)),
     }
 }
 
@@ -243,6 +259,7 @@ pub fn ask(
         rows::CONTINUE => Ok(Asked::Continue),
         rows::GOSUB_MARKED => ask_mark(alloc, work, bytes, place_after(work.home, line, place)),
         rows::ON => Ok(ask_choice(work, line, place, bytes)),
+        rows::BREAK => Ok(ask_pass(work, bytes)),
         _ => Ok(Asked::Nothing(failed(S27_LEFT_OUT))),
     }
 }
@@ -271,5 +288,6 @@ pub fn do_asked(
         Asked::Run(n) => Ok(run_program(me, own, n)),
         Asked::Continue => Ok(resume(me)),
         Asked::CallMark(n, args, back) => Ok(call_mark(me, own, home, place, n, args, back)),
+        Asked::Pass(turns) => Ok(pass_turns(me, turns)),
     }
 }

@@ -13,6 +13,7 @@ mod arguments;
 mod asked;
 mod borrowing;
 mod branches;
+mod breaks;
 mod calls;
 mod choices;
 mod clearing;

@@ -41,7 +41,6 @@ fn is_still(row: u16) -> bool
             | rows::IMAGE_LINE
             | rows::DATA
             | rows::DEFFN
-            | rows::BREAK
             | rows::SELECT_PART
     )
 }
@@ -65,6 +64,7 @@ pub fn is_built(row: u16) -> bool
                 | rows::CONTINUE
                 | rows::SELECT
                 | rows::SELECT_NO_ROUND
+                | rows::BREAK
                 | rows::DEFFN_MARKED
                 | rows::CLEAR
                 | rows::CLEAR_P

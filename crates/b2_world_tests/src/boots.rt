@@ -93,6 +93,13 @@ platter=[{address=\"D12\",blank=16,for=2},{address=\"D11\",blank=16}]
 printer=[{address=\"215\",for=2},{address=\"204\"}]
 ";
 
+/// Partitions 1 and 2, each on the terminal of its number, of which 1 has a quota of its own. A round grants 70 steps.
+const UNLIKE: &[u8] = b"\
+quota=20
+terminal=[{number=2,front=2},{number=1,front=1}]
+partition=[{number=2,terminal=2,text=8,data=8,globals=2},{number=1,terminal=1,text=8,data=8,globals=2,quota=50}]
+";
+
 /// The file of the boot of a name, an empty one where there is none.
 fn file_named(name: &[u8]) -> &'static [u8] {
     match str_of(name) {
@@ -106,6 +113,7 @@ fn file_named(name: &[u8]) -> &'static [u8] {
         "disks" => DISKS,
         "loading" => LOADING,
         "devices" => DEVICES,
+        "unlike" => UNLIKE,
         _ => b"",
     }
 }
@@ -150,7 +158,7 @@ fn show_address(sheet: &mut Sheet<'_>, address: Addr) {
     sheet.show_letters(&address.bytes());
 }
 
-/// Shows a partition, where it is and the sizes of its areas; its disk, and the name of its program with all blanks.
+/// Shows a partition, where it is and the sizes of its areas; its disk, the name of its program with all blanks, and its own quota.
 fn show_partition(sheet: &mut Sheet<'_>, partition: &BootPartition) {
     show_count(sheet, ", partition ", u64::from(partition.number.number()));
     show_count(sheet, " terminal ", u64::from(partition.terminal.number()));
@@ -165,6 +173,9 @@ fn show_partition(sheet: &mut Sheet<'_>, partition: &BootPartition) {
         sheet.show(" program \"");
         sheet.show_letters(&name.bytes());
         sheet.show("\"");
+    }
+    if let Some(quota) = partition.quota {
+        show_count(sheet, " quota ", u64::from(quota));
     }
 }
 

@@ -39,7 +39,7 @@ returns-in-Ok-clause-turned g c =
     let me = c.in-Some.me.now in
     let inside = c.self.inside in
     let watched = c.new-watched.result in
-    let w : WorldState = record { quota = inside.quota; devices = inside.devices; privates = inside.privates; store = g.S.Shared.store (g.S.Shared.meaning inside.stores); marks = inside.seen; turns = inside.turns; steps = inside.steps; dropped = inside.dropped } in
+    let w : WorldState = record { quotas = inside.quotas; devices = inside.devices; privates = inside.privates; store = g.S.Shared.store (g.S.Shared.meaning inside.stores); marks = inside.seen; turns = inside.turns; steps = inside.steps; dropped = inside.dropped } in
     let stores_are = ap (λ x. g.S.Shared.store (g.S.Shared.meaning x)) c.new-watched.ensures.inner in
     let stores = subst (λ (s : StoreState). ArePresent inside.privates s inside.seen) (sym stores_are) c.self.invariant in
     let present = subst (λ (m : Marks). ArePresent inside.privates (g.S.Shared.store (g.S.Shared.meaning watched.inner.now)) m) (sym c.new-watched.ensures.seen) stores in

@@ -2,7 +2,7 @@ use Rattle.std.proofs.Common.{◌≡◌, ◌-◌, ◌≤◌}
 use Rattle.b2_machine.specs.Advancing.{ArePresent}
 use Rattle.b2_machine.specs.Stays.{KeepsAll}
 use Rattle.b2_machine.specs.Turn.{turn_from}
-use Rattle.b2_machine.proofs.turning.turn.Given as goal
+use Rattle.b2_machine.proofs.turning.take_steps.Given as goal
 
 abbrev pub invariant-loop-taken : goal.invariant-loop-taken
 invariant-loop-taken g l =

@@ -1,0 +1,7 @@
+use Rattle.std.proofs.Common.{◌≡◌, ◌+◌, ◌-◌, ◌^◌, drop, map, min}
+use Rattle.b2_boot.specs.Quotas.{quota_row, steps_of_round}
+use Rattle.b2_boot.proofs.log.steps_granted.Given as goal
+
+abbrev pub invariant-loop-partition : goal.invariant-loop-partition
+invariant-loop-partition l =
+    min (l.steps + steps_of_round (map (quota_row l.quota) (drop l.partition-index l.partitions))) (2 ^ 64 - 1) ≡ min (steps_of_round (map (quota_row l.quota) l.partitions)) (2 ^ 64 - 1)
