@@ -23,7 +23,7 @@ use Rattle.b2_access.specs.Store.{ContentOf, IsIn, StoreState, content, holder_o
 use Rattle.b2_access.specs.Task.{AreIn, Task, Look, Tell, Refuse, Missing, also_puts, puts, answers, in_left, in_right}
 use Rattle.b2_access.proofs.RowLaws.{locks, misses, refuses, waits}
 use Rattle.b2_access.proofs.TaskLaws.{is_told}
-use Rattle.b2_access.proofs.Told.{rows_tell_their_answers}
+use Rattle.b2_access.proofs.RowAnswers.{rows_tell_their_answers}
 
 pub waits_for_the_first : WaitsForTheFirst
 waits_for_the_first disks who q a s = waits (row a) disks who (rows_tell_their_answers disks a who) s q

@@ -28,7 +28,7 @@ use Rattle.b2_access.proofs.Unwritten.{no_borrow, no_borrow_entered, no_borrows,
 use Rattle.b2_access.proofs.Holders.{also_first, performs_on, performs_same, wider_same}
 use Rattle.b2_access.proofs.RowLaws.{leaves}
 use Rattle.b2_access.proofs.TaskLaws.{gives_alike, leaves_others}
-use Rattle.b2_access.proofs.Told.{of_freeing, tells_wider, written_is_reached}
+use Rattle.b2_access.proofs.RowAnswers.{of_freeing, tells_wider, written_is_reached}
 
 abbrev IsAmong : {A : Type 0} → A → List A → Type 0
 IsAmong x [] = ⊥

@@ -16,7 +16,7 @@ use Rattle.b2_access.specs.Serving.{performs, put_each}
 use Rattle.b2_access.specs.Sharing.{Gives}
 use Rattle.b2_access.specs.Store.{StoreState, ContentOf, IsIn, content, put}
 use Rattle.b2_access.specs.Task.{AreIn, Put, Task, Look, Tell, Refuse, Missing, also_puts, put_wider, wider, in_left, in_right}
-use Rattle.b2_access.proofs.Told.{of_giving_back, of_text}
+use Rattle.b2_access.proofs.RowAnswers.{of_giving_back, of_text}
 
 abbrev pub performs_on : {reached written : List Object} → Task reached written → (looked onto : StoreState) → Gives StoreState
 performs_on (Look o there next) s w = performs_on (next (content s o)) s w

@@ -6,7 +6,7 @@ use Rattle.b2_rows.specs.declared.following.Goal.{Goal}
 use Rattle.b2_rows.specs.declared.following.Goal.TheVariants as goal
 use Rattle.b2_text.specs.Program.{Lines, line_at, number_after}
 use Rattle.b2_access.specs.Borrowers.{is_inside}
-use Rattle.b2_access.specs.Going.{to_found, to_goal, to_place, where_there}
+use Rattle.b2_access.specs.Jumps.{to_found, to_goal, to_place, where_there}
 use Rattle.b2_access.specs.Homes.{HomesIn, OutcomeIn, PlaceIn, homes_of}
 use Rattle.b2_access.specs.Places.{goal_place, line_after, line_start}
 use Rattle.b2_access.specs.Planning.{goes_or}

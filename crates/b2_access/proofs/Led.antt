@@ -1,11 +1,11 @@
--- The place of a line and a unit to which a goal leads, as a statement is led that is done in passing: it is at home.
+-- The place of a line and a unit to which a goal leads, as a statement is led that is done fast: it is at home.
 use Rattle.std.proofs.Common.{◌≡◌, ◌+◌, ℕ, Option, Some, None, option_map, ap}
 use Rattle.b2_flow.specs.declared.frame.Place.{Place}
 use Rattle.b2_rows.specs.Following.{tree_units, unit_or_next}
 use Rattle.b2_rows.specs.declared.following.Goal.{Goal}
 use Rattle.b2_rows.specs.declared.following.Goal.TheVariants as goal
 use Rattle.b2_text.specs.Program.{Lines, number_after}
-use Rattle.b2_access.specs.Passing.{lead_of, place_following, place_led}
+use Rattle.b2_access.specs.Fast.{lead_of, place_following, place_led}
 use Rattle.b2_access.specs.Places.{goal_place, line_start}
 use Rattle.b2_access.specs.declared.placed.Found.{Found}
 

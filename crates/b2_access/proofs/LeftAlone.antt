@@ -2,7 +2,7 @@
 -- asks, the `@` variables, and that an answer by which it waits changes nothing.
 use Rattle.std.proofs.Common.{ℕ, Bool, refl}
 use Rattle.b2_vars.specs.Globals.{Globals, MayBecome}
-use Rattle.b2_access.specs.Courses.{Here, course}
+use Rattle.b2_access.specs.Dispatch.{Here, dispatch}
 use Rattle.b2_access.specs.Homes.{FinishesWithin, OutcomeIn, PlannedIn}
 use Rattle.b2_access.specs.Keeping.{FinishesKeepNone}
 use Rattle.b2_access.specs.LeftAlone.{FinishesLeave, LeaveTheRest, PlansLeave}
@@ -16,7 +16,7 @@ use Rattle.b2_access.specs.declared.accesses.Access.{Access}
 use Rattle.b2_access.specs.declared.accesses.Answer.{Answer}
 use Rattle.b2_access.specs.declared.planned.Outcome.TheVariants as outcome
 use Rattle.b2_access.specs.declared.private.Private.{Private}
-use Rattle.b2_access.proofs.Courses.{each_course}
+use Rattle.b2_access.proofs.Dispatch.{each_dispatch}
 use Rattle.b2_access.proofs.Working.{LeavesFrames, LeavesRest}
 use Rattle.b2_access.proofs.Working as form
 
@@ -79,7 +79,7 @@ steering_leaves way within keep_none nothing = finishes_leave_by steering form.s
 -- A STATEMENT THAT ENDS AT ONCE, and goes on or has a code: it asks for nothing, and nothing is finished
 module _ (refused : ℕ → Bool → Bool) (ended : Statement → Private → SeenLent → Worked) where
   abbrev at_once : Private → SeenLent → Working
-  at_once me s = course refused stops (λ (u : Statement) (h : Here). Ends (ended u me s)) me.place me s
+  at_once me s = dispatch refused stops (λ (u : Statement) (h : Here). Ends (ended u me s)) me.place me s
 
   abbrev nothing_finished : FinishingIn Work
   nothing_finished x a me s = leaves me outcome.Repeat
@@ -89,7 +89,7 @@ module _ (refused : ℕ → Bool → Bool) (ended : Statement → Private → Se
   ends_at_once leads reach =
       joined (plans_by at_once) (finishes_by nothing_finished)
       (plans_leave at_once
-      (λ among me s w. each_course refused stops (λ u h. Ends (ended u me s)) me s (λ (k : Working). PlannedIn among (planned_of k)) tt tt (λ p is u. leads among u me s))
-      (λ me s. each_course refused stops (λ u h. Ends (ended u me s)) me s (λ (k : Working). PlannedAt me.term (planned_of k)) tt tt (λ p is u. tt))
-      (λ me s. each_course refused stops (λ u h. Ends (ended u me s)) me s (λ (k : Working). MayBecome s.globals (globals_after (told_of_globals k) s.globals)) (untouched s.globals) (untouched s.globals) (λ p is u. reach u me s)))
+      (λ among me s w. each_dispatch refused stops (λ u h. Ends (ended u me s)) me s (λ (k : Working). PlannedIn among (planned_of k)) tt tt (λ p is u. leads among u me s))
+      (λ me s. each_dispatch refused stops (λ u h. Ends (ended u me s)) me s (λ (k : Working). PlannedAt me.term (planned_of k)) tt tt (λ p is u. tt))
+      (λ me s. each_dispatch refused stops (λ u h. Ends (ended u me s)) me s (λ (k : Working). MayBecome s.globals (globals_after (told_of_globals k) s.globals)) (untouched s.globals) (untouched s.globals) (λ p is u. reach u me s)))
       (finishes_leave plain form.plain_rest form.plain_frames nothing_finished (λ among x a me s w. tt) (λ x a me s is. refl) (λ x a me s. untouched s.globals))

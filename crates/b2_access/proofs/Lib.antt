@@ -1,6 +1,6 @@
 pub mod TaskLaws
 pub mod RowLaws
-pub mod Told
+pub mod RowAnswers
 pub mod Unwritten
 pub mod Borrowers
 pub mod Entering
@@ -19,7 +19,7 @@ pub mod EnteredHomes
 pub mod OwnTerminal
 pub mod OwnDevices
 pub mod Choice
-pub mod Courses
+pub mod Dispatch
 pub mod Tables
 pub mod MarkRows
 pub mod Shown

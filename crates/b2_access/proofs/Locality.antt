@@ -14,7 +14,7 @@ use Rattle.b2_access.specs.Sharing.{IsLocal, KeepsListed, ServesAlike}
 use Rattle.b2_access.specs.Store.{StoreState, AgreeOn, IsIn, content}
 use Rattle.b2_access.specs.Touching.{entered_in, touched, written_by}
 use Rattle.b2_access.proofs.RowLaws.{answered, keeps, leaves, same_holder, served_alike, stops_unchanged, wrote}
-use Rattle.b2_access.proofs.Told.{rows_tell_their_answers, rows_write_as_told, written_is_reached}
+use Rattle.b2_access.proofs.RowAnswers.{rows_tell_their_answers, rows_write_as_told, written_is_reached}
 
 pub stopped_unchanged : StopsUnchanged
 stopped_unchanged disks who a s = stops_unchanged (row a) disks who (rows_tell_their_answers disks a who) s

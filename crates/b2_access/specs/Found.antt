@@ -5,7 +5,7 @@ use Rattle.b2_rows.specs.Laws.{IsRow}
 use Rattle.b2_rows.specs.Rows.{tree_at}
 use Rattle.b2_text.specs.Program.{Lines}
 use Rattle.b2_vars.specs.Globals.{Globals}
-use Rattle.b2_access.specs.Courses.{Here}
+use Rattle.b2_access.specs.Dispatch.{Here}
 use Rattle.b2_access.specs.Lending.{SeenLent}
 use Rattle.b2_access.specs.Placed.{Statement, line_named, statement_on}
 use Rattle.b2_access.specs.declared.placed.Found.{Found}

@@ -17,7 +17,7 @@ use Rattle.b2_access.specs.Reach.{DevicePart, DeviceReach, HoldFreed, HoldTaken,
 use Rattle.b2_access.specs.Store.{StoreState, IsIn}
 use Rattle.b2_access.specs.Touching.{entered_in, touched, written_by}
 use Rattle.b2_access.proofs.RowLaws.{either_left, either_right}
-use Rattle.b2_access.proofs.Told.{written_is_reached}
+use Rattle.b2_access.proofs.RowAnswers.{written_is_reached}
 use Rattle.b2_audit.specs.Steps.{IsPartition, IsTerminal, IsMarked, AreMarked, AccessesAreMarked, AccessesWriteOwnTexts}
 use Rattle.b2_audit.proofs.CleanSteps.{in_both}
 

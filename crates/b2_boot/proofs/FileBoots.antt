@@ -12,7 +12,7 @@ use Rattle.b2_boot.specs.Rows.{RowsState, all_known, document_of, is_between, is
 use Rattle.b2_boot.specs.Boots.{BootState, IsGood, boot_by_document, boot_by_rows, boot_from, check_of_rows, is_either, partitions_by_number, terminals_by_number, unless_failed}
 use Rattle.b2_boot.specs.Laws.{BootsOfFilesAreGood}
 use Rattle.b2_boot.proofs.OwnQuotas.{document_quotas}
-use Rattle.b2_boot.proofs.Passed.{good_boot, passed}
+use Rattle.b2_boot.proofs.ChecksHeld.{good_boot, passed}
 use Rattle.b2_boot.proofs.Sources.{document_sources}
 
 -- a quota that a document says is in range

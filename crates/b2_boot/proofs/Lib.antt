@@ -5,7 +5,7 @@ pub mod ByAddress
 pub mod SaidRows
 pub mod Sources
 pub mod OwnQuotas
-pub mod Passed
+pub mod ChecksHeld
 pub mod Shuffled
 pub mod Lines
 pub mod LogSteps

@@ -9,7 +9,7 @@ use Rattle.b2_boot.specs.Quotas.{quota_row, steps_of_round}
 use Rattle.b2_boot.specs.declared.boot.BootPartition.{BootPartition}
 use Rattle.b2_boot.specs.Laws.{LogsKeepToTheBound, LogsAreOfTheirBoot, AloneGrantsNoMore}
 use Rattle.b2_boot.specs.LogLines.{asked_by_line, text_lines}
-use Rattle.b2_boot.specs.Logs.{LogRead, Events, Refused, log_from, log_line, onto_log, events_of, steps_asked, checks_of_asked, unless_failing, checked_line, Passes, grants, granted_by, is_of_boot}
+use Rattle.b2_boot.specs.Logs.{LogRead, Events, Refused, log_from, log_line, onto_log, events_of, steps_asked, checks_of_asked, unless_failing, checked_line, LineHolds, grants, granted_by, is_of_boot}
 use Rattle.b2_boot.proofs.Events.{events_fit}
 use Rattle.b2_boot.proofs.Granted.{granted_by-append, events_grant}
 use Rattle.b2_boot.proofs.LogSteps.{by_first, passes}
@@ -20,11 +20,11 @@ use Rattle.b2_boot.specs.declared.log_lines.LineRead.{LineRead}
 use Rattle.b2_boot.specs.declared.log_lines.LineRead.TheVariants.{Nothing, Asks, Fails}
 
 -- a line that asks passes its checks
-unless_passes : (b : BootState) (granted : ℕ) (a asked : Asked) (o : Option ℕ) → first_failed (checks_of_asked b granted a) ≡ o → unless_failing o a ≡ Asks asked → Passes b granted (Asks asked)
-unless_passes b granted a asked None is h = let same : a ≡ asked = cc in subst (λ x. Passes b granted (Asks x)) same (passes b granted a (sym is))
+unless_passes : (b : BootState) (granted : ℕ) (a asked : Asked) (o : Option ℕ) → first_failed (checks_of_asked b granted a) ≡ o → unless_failing o a ≡ Asks asked → LineHolds b granted (Asks asked)
+unless_passes b granted a asked None is h = let same : a ≡ asked = cc in subst (λ x. LineHolds b granted (Asks x)) same (passes b granted a (sym is))
 unless_passes b granted a asked (Some check) is h = cc
 
-asked_passes : (b : BootState) (granted : ℕ) (read : LineRead) (asked : Asked) → checked_line b granted read ≡ Asks asked → Passes b granted (Asks asked)
+asked_passes : (b : BootState) (granted : ℕ) (read : LineRead) (asked : Asked) → checked_line b granted read ≡ Asks asked → LineHolds b granted (Asks asked)
 asked_passes b granted Nothing asked h = cc
 asked_passes b granted (Fails check) asked h = cc
 asked_passes b granted (Asks a) asked h = unless_passes b granted a asked (first_failed (checks_of_asked b granted a)) refl h
@@ -34,13 +34,13 @@ abbrev KeepsTo : BootState → ℕ → List Event → Type 0
 KeepsTo b granted events = (granted + granted_by b events ≤ 5000000) × (list_all (is_of_boot b) events ≡ true)
 
 -- with the events of a line before them
-asked_keeps : (b : BootState) (granted : ℕ) (a : Asked) (later : List Event) → Passes b granted (Asks a) → KeepsTo b (granted + steps_asked b a) later → KeepsTo b granted (events_of a ++ later)
+asked_keeps : (b : BootState) (granted : ℕ) (a : Asked) (later : List Event) → LineHolds b granted (Asks a) → KeepsTo b (granted + steps_asked b a) later → KeepsTo b granted (events_of a ++ later)
 asked_keeps b granted a later (range, there, within) (few, fit) =
     let both = granted_by-append b (events_of a) later in
     let one = events_grant b a in
     (omega arith, list_all-append (is_of_boot b) (events_of a) later ∙ rw (events_fit b a range there, fit) refl)
 
-onto_keeps : (b : BootState) (granted : ℕ) (a : Asked) (rest : LogRead) (events : List Event) → Passes b granted (Asks a)
+onto_keeps : (b : BootState) (granted : ℕ) (a : Asked) (rest : LogRead) (events : List Event) → LineHolds b granted (Asks a)
     → ((later : List Event) → rest ≡ Events later → KeepsTo b (granted + steps_asked b a) later) → onto_log (events_of a) rest ≡ Events events → KeepsTo b granted events
 onto_keeps b granted a (Events later) events pass each h =
     let same : events_of a ++ later ≡ events = cc in

@@ -3,8 +3,8 @@ use Rattle.std.proofs.Common.{◌≡◌, ℕ, ◌+◌, ◌-◌, ◌^◌, ◌≤�
 use Rattle.std.specs.List.{list_all}
 use Rattle.std.proofs.lemmas.Bool.{leb-true}
 use Rattle.b2_boot.specs.Boots.{BootState, first_failed}
-use Rattle.b2_boot.specs.Logs.{LogRead, Events, Refused, log_from, onto_log, log_line, events_of, steps_asked, by_line, is_in_range, is_in_boot, checks_of_asked, Passes, granted_by, is_of_boot}
-use Rattle.b2_boot.proofs.Passed.{none_ahead}
+use Rattle.b2_boot.specs.Logs.{LogRead, Events, Refused, log_from, onto_log, log_line, events_of, steps_asked, by_line, is_in_range, is_in_boot, checks_of_asked, LineHolds, granted_by, is_of_boot}
+use Rattle.b2_boot.proofs.ChecksHeld.{none_ahead}
 use Rattle.b2_boot.proofs.Granted.{granted_more}
 use Rattle.b2_boot.proofs.Events.{fits_more}
 use Rattle.b2_boot.specs.declared.log.Event.{Event}
@@ -45,7 +45,7 @@ after_failure b line granted events check l before after all cut_is is so_far =
     sym so_far ∙ ap (onto_log events) (first_says b line granted l before after (Fails check) cut_is is)
 
 -- what fails none of its checks
-pub passes : (b : BootState) (granted : ℕ) (a : Asked) → None ≡ first_failed (checks_of_asked b granted a) → Passes b granted (Asks a)
+pub passes : (b : BootState) (granted : ℕ) (a : Asked) → None ≡ first_failed (checks_of_asked b granted a) → LineHolds b granted (Asks a)
 passes b granted a h =
     let few = nat_le (granted + steps_asked b a) 5000000 in
     let (range, h5) = none_ahead 4 (is_in_range a) ((5, is_in_boot b a) ∷ (6, few) ∷ []) h in
@@ -55,7 +55,7 @@ passes b granted a h =
 
 -- a log after one more line that passes
 pub kept : (b : BootState) (line granted steps : ℕ) (events grown : List Event) (a : Asked) (l : List ℕ) (before after : List (List ℕ)) (all : LogRead)
-    → before ≡ l ∷ after → Asks a ≡ log_line b granted l → Passes b granted (Asks a) → steps ≡ min (steps_asked b a) (2 ^ 64 - 1) → grown ≡ events ++ events_of a
+    → before ≡ l ∷ after → Asks a ≡ log_line b granted l → LineHolds b granted (Asks a) → steps ≡ min (steps_asked b a) (2 ^ 64 - 1) → grown ≡ events ++ events_of a
     → onto_log events (log_from b line granted before) ≡ all → granted_by b events ≡ granted → list_all (is_of_boot b) events ≡ true
     → (onto_log grown (log_from b (line + 1) (granted + steps) after) ≡ all) × (granted + steps ≤ 5000000) × (granted_by b grown ≡ granted + steps) × (list_all (is_of_boot b) grown ≡ true)
 kept b line granted steps events grown a l before after all cut_is is (range, there, within) counted grown_is so_far in_all fit =

@@ -130,6 +130,6 @@ is_of_boot b (event.Rounds n) = is_between 1 100000 n
 is_of_boot b e = true
 
 -- a line that passes its checks keeps to the numbers, to the boot and to the bound on granted steps
-abbrev pub Passes : BootState → ℕ → LineRead → Type 0
-Passes b granted (Asks a) = (is_in_range a ≡ true) × (is_in_boot b a ≡ true) × (granted + steps_asked b a ≤ 5000000)
-Passes b granted read = Unit {0}
+abbrev pub LineHolds : BootState → ℕ → LineRead → Type 0
+LineHolds b granted (Asks a) = (is_in_range a ≡ true) × (is_in_boot b a ≡ true) × (granted + steps_asked b a ≤ 5000000)
+LineHolds b granted read = Unit {0}

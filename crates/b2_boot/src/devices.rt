@@ -88,7 +88,7 @@ fn is_for(who: u16, only: Option<u16>) -> bool
 }
 
 /// Whether a platter has an address and is for a partition.
-fn meets(address: &[u8], who: u16, platter: &PlatterRow) -> bool
+fn is_usable_platter(address: &[u8], who: u16, platter: &PlatterRow) -> bool
     ensures { result ≡ (spells address.now platter.now.address && spec.is_for who platter.now.only) }
 {
     platter.address.bytes() == address && is_for(who, platter.only)
@@ -98,7 +98,7 @@ fn meets(address: &[u8], who: u16, platter: &PlatterRow) -> bool
 fn is_platter_for(address: &[u8], who: u16, platters: &[PlatterRow]) -> bool
     ensures { result ≡ list_any (λ p. spells address.now p.address && spec.is_for who p.only) platters.now }
 {
-    platters.iter().any(|p| meets(address, who, p))
+    platters.iter().any(|p| is_usable_platter(address, who, p))
 }
 
 /// Whether a disk is a platter that its partition may use.

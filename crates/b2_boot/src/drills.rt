@@ -35,7 +35,7 @@ fn terminal_of(clerk: u8) -> BootTerminal
 }
 
 /// The terminals of clerks.
-fn terminals_of(alloc: Global, clerks: &[u8]) -> Result<Vec<BootTerminal>, NoMemory>
+fn drill_terminals(alloc: Global, clerks: &[u8]) -> Result<Vec<BootTerminal>, NoMemory>
     requires { list_all spec.is_clerk clerks.now ≡ true }
     ensures { IfOk result (λ terminals. terminals.items ≡ map spec.terminal_of clerks.now) }
 {
@@ -76,7 +76,7 @@ fn partitions_of(alloc: Global, clerks: &[u8]) -> Result<Vec<BootPartition>, NoM
 }
 
 /// The platters of clerks, each with ten sectors more than the number, at least 16.
-fn platters_of(alloc: Global, clerks: &[u8], n: u16) -> Result<Vec<BootPlatter>, NoMemory>
+fn drill_platters(alloc: Global, clerks: &[u8], n: u16) -> Result<Vec<BootPlatter>, NoMemory>
     requires clerks { list_all spec.is_clerk clerks.now ≡ true }
     requires few { n ≤ 5000 }
     ensures { IfOk result (λ platters. platters.items ≡ map (spec.platter_of n) clerks.now) }
@@ -102,15 +102,15 @@ fn drill_boot(alloc: Global, n: u16) -> Result<Boot, NoMemory>
 {
     Ok(Boot {
         quota: 20,
-        terminals: terminals_of(alloc, &CLERKS)?,
+        terminals: drill_terminals(alloc, &CLERKS)?,
         partitions: partitions_of(alloc, &CLERKS)?,
-        platters: platters_of(alloc, &CLERKS, n)?,
+        platters: drill_platters(alloc, &CLERKS, n)?,
         printers: Vec::new(alloc),
     })
 }
 
 /// Adds the digits of a number.
-fn push_number(line: &mut Vec<u8>, n: u16) -> Result<(), NoMemory>
+fn push_digits(line: &mut Vec<u8>, n: u16) -> Result<(), NoMemory>
     ensures { OnOk result (line.new.items ≡ line.old.items ++ decimal n) }
 {
     let mut buffer = Buffer::new();
@@ -126,9 +126,9 @@ fn typed_line(alloc: Global, n: u16) -> Result<Vec<u8>, NoMemory>
 {
     let mut line = Vec::new(alloc);
     line.extend_from_slice(b"DATASAVE DC OPEN T,#1,")?;
-    push_number(&mut line, n + 2)?;
+    push_digits(&mut line, n + 2)?;
     line.extend_from_slice(b",\"F\":FOR I=1 TO ")?;
-    push_number(&mut line, n)?;
+    push_digits(&mut line, n)?;
     line.extend_from_slice(b":DATASAVE DC #1,I:NEXT I:DATASAVE DC #1,END:PRINT I\r")?;
     Ok(line)
 }

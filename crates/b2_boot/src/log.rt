@@ -53,7 +53,7 @@ impl From<NoMemory> for LogErr {
 const MOST_STEPS: u64 = 5_000_000;
 
 /// Whether a number is a terminal's.
-fn is_terminal(n: u32) -> bool
+fn is_terminal_number(n: u32) -> bool
     ensures { result ≡ is_between 1 12 n }
 {
     1 <= n && n <= 12
@@ -71,9 +71,9 @@ fn is_in_range(asked: &Asked<'_>) -> bool
     ensures { result ≡ spec.is_in_range asked.now }
 {
     match asked {
-        Asked::Keys(t, _keys) => is_terminal(*t),
-        Asked::Special(t, n) => is_terminal(*t) && *n <= 31,
-        Asked::Front(t, p) => is_terminal(*t) && is_partition(*p),
+        Asked::Keys(t, _keys) => is_terminal_number(*t),
+        Asked::Special(t, n) => is_terminal_number(*t) && *n <= 31,
+        Asked::Front(t, p) => is_terminal_number(*t) && is_partition(*p),
         Asked::Halt(p) => is_partition(*p),
         Asked::Reset(p) => is_partition(*p),
         Asked::Turn(p, n) => is_partition(*p) && 1 <= *n && *n <= 1000,
@@ -162,7 +162,7 @@ fn check_of_asked(boot: &Boot, granted: u64, asked: &Asked<'_>) -> Option<u8>
 fn read_log_line<'a>(boot: &Boot, granted: u64, line: &'a [u8]) -> LineRead<'a>
     requires { granted ≤ 5000000 }
     ensures value { result ≡ spec.log_line boot.now granted line.now }
-    ensures passes { spec.Passes boot.now granted result }
+    ensures holds { spec.LineHolds boot.now granted result }
 {
     match asked_by_line(line) {
         LineRead::Nothing => LineRead::Nothing,

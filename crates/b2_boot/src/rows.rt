@@ -610,7 +610,7 @@ impl TableRow for PrinterRow {
 }
 
 /// The row that an item of an array is, None where it is none.
-fn row_in<R: TableRow>(alloc: Global, item: &Value) -> Result<Option<R>, NoMemory>
+fn table_row_in<R: TableRow>(alloc: Global, item: &Value) -> Result<Option<R>, NoMemory>
     ensures { IfOk result (λ found. found ≡ option_and_then R.of_table (as_table (view item.now))) }
 {
     match item.as_table() {
@@ -625,7 +625,7 @@ fn rows_in<R: TableRow>(alloc: Global, items: &[Value]) -> Result<Option<Vec<R>>
 {
     let mut rows = Vec::new(alloc);
     for item in items {
-        match row_in(alloc, item)? {
+        match table_row_in(alloc, item)? {
             Some(row) => rows.push(row)?,
             None => return Ok(None),
         }

@@ -15,7 +15,7 @@ use b2_base::codes::{Code, D82_NO_FILE, D83_NAME_PRESENT, D84_NOT_SCRATCHED, D85
 use b2_platter::Platter;
 
 /// Whether two names are one.
-fn is_same(old: Name8, name: Name8) -> bool
+fn is_name_same(old: Name8, name: Name8) -> bool
     ensures { result ≡ bytes_eq old name }
 {
     old == name
@@ -27,7 +27,7 @@ fn is_name_taken(p: &Platter, old: Name8, name: Name8) -> bool
     ensures good { IsGood p.now }
 {
     let _image = p.image();
-    !is_same(old, name) && lookup::look_slot(p, name).is_some()
+    !is_name_same(old, name) && lookup::look_slot(p, name).is_some()
 }
 
 /// The slot for the file in slot k: its own where the name stays, else the place of the new name.
@@ -35,7 +35,7 @@ fn new_place(p: &Platter, k: usize, old: Name8, name: Name8) -> Option<usize>
     requires { slot_found p.now old ≡ Some k }
     ensures { result ≡ reused_place p.now old name }
 {
-    if is_same(old, name) {
+    if is_name_same(old, name) {
         return Some(k);
     }
     place::place_for(p.image(), &name.bytes())

@@ -21,7 +21,7 @@ use Rattle.b2_datafile.specs.Files.{IsEndOfRecords, end_mark, ends_records}
 use Rattle.b2_datafile.specs.Slots.{file_of}
 use Rattle.b2_datafile.specs.Loading.{IsRecordAt, LoadFails, LoadsRecord, RecordFails, agree, first_asked, loaded_from, values_loaded}
 use Rattle.b2_datafile.specs.Moving.{Ahead, Behind, IsNoRecordBefore, IsRecordBefore, NoneAhead, NoneBehind, ending_before, moved_in, of_length, over, place_ahead, place_behind, place_moved, record_before}
-use Rattle.b2_datafile.proofs.Passing.{before-number, before-some}
+use Rattle.b2_datafile.proofs.SkippedRecords.{before-number, before-some}
 
 -- ---- where the records end
 

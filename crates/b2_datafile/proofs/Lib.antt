@@ -1,8 +1,8 @@
 pub mod Writing
 pub mod Fronts
-pub mod Passing
+pub mod SkippedRecords
 pub mod Saved
-pub mod Marked
+pub mod EndSector
 pub mod Functions
 pub mod Opened
 pub mod FromFunctions

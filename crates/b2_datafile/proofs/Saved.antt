@@ -25,7 +25,7 @@ use Rattle.std.specs.FinMap.{get, insert}
 use Rattle.b2_catalog.proofs.Spelled.{control_long}
 use Rattle.b2_platter.proofs.SectorRuns.{PutFrom, put-from}
 use Rattle.b2_datafile.proofs.Fronts.{long-record, fills-same, fills-more, fills-le}
-use Rattle.b2_datafile.proofs.Passing.{some-groups}
+use Rattle.b2_datafile.proofs.SkippedRecords.{some-groups}
 use Rattle.b2_record.proofs.Unique.{record-length, length-unique, values-unique}
 use Rattle.std.proofs.lemmas.Bool.{cases_order}
 

@@ -11,7 +11,7 @@ use Rattle.b2_catalog.specs.Changes.{control_sector}
 use Rattle.b2_catalog.specs.Making.{MakesFile, file_made}
 use Rattle.b2_record.specs.Records.{Spells}
 use Rattle.b2_datafile.specs.Slots.{opened}
-use Rattle.b2_datafile.specs.declared.marks.TheConstants.{END_MARK}
+use Rattle.b2_datafile.specs.declared.end_sector.TheConstants.{END_MARK}
 
 -- the sector that ends a file's records
 abbrev pub end_mark : List ℕ

@@ -13,7 +13,7 @@
 
 pub mod laws;
 mod loading;
-pub mod marks;
+pub mod end_sector;
 mod moving;
 mod opening;
 mod saving;

@@ -3,8 +3,8 @@ ghost use Rattle.std.specs.Prelude.{◌≡◌, true};
 ghost use Rattle.b2_base.specs.Byte as byte;
 ghost use Rattle.b2_atom.specs.declared.forms.Start.TheVariants as start;
 ghost use Rattle.b2_atom.specs.declared.rows.TheConstants as row;
-ghost use Rattle.b2_rows.specs.Optional.{after_maybe, maybe_part, maybe_tree};
-ghost use Rattle.b2_rows.specs.Rows.{after_part, is_part, tree_at};
+ghost use Rattle.b2_rows.specs.Optional.{after_maybe, maybe_phrase, maybe_tree};
+ghost use Rattle.b2_rows.specs.Rows.{after_phrase, is_phrase, tree_at};
 ghost use Rattle.b2_expr.specs.Reads.{Gives};
 ghost use Rattle.b2_expr.specs.Scope.{surroundings};
 ghost use Rattle.b2_expr.specs.Value.{in_statement, value};
@@ -29,8 +29,8 @@ pub struct Dimensions {
 
 /// The number at a text, and what stands after it.
 pub fn number_at<'t>(e: &Env<'_>, text: &'t [u8]) -> Result<(Dec, &'t [u8]), Code>
-    requires part { is_part row.SUM text.now ≡ true }
-    ensures { Gives (value (in_statement (surroundings e.now)) level.Sum (tree_at row.SUM text.now)) (after_part row.SUM text.now) result }
+    requires phrase { is_phrase row.SUM text.now ≡ true }
+    ensures { Gives (value (in_statement (surroundings e.now)) level.Sum (tree_at row.SUM text.now)) (after_phrase row.SUM text.now) result }
 {
     let mut c = Cursor::over(text);
     match number(&mut c, e) {
@@ -52,7 +52,7 @@ fn dimension(most: u16, n: Option<i64>) -> Result<u16, Code>
 /// The second dimension, 0 where none is written, and what stands after it.
 #[tactic(auto, using(crate::proofs::DimensionRows::columns_part, crate::proofs::DimensionRows::columns_is, crate::proofs::DimensionRows::columns_rest, crate::proofs::DimensionRows::no_columns, crate::proofs::DimensionRows::no_columns_rest))]
 fn columns_at<'t>(e: &Env<'_>, text: &'t [u8]) -> Result<(u16, &'t [u8]), Code>
-    requires part { maybe_part (start.Code byte.comma) row.COMMA_NUMBER text.now ≡ true }
+    requires phrase { maybe_phrase (start.Code byte.comma) row.COMMA_NUMBER text.now ≡ true }
     ensures { Gives (spec.columns_in (in_statement (surroundings e.now)) (maybe_tree (start.Code byte.comma) row.COMMA_NUMBER text.now)) (after_maybe (start.Code byte.comma) row.COMMA_NUMBER text.now) result }
 {
     if !is_at(b',', text) {
@@ -79,8 +79,8 @@ fn most_rows(two: bool) -> u16
 /// from 1 to 255, or to 4,000 where it is the only one.
 #[tactic(auto, using(crate::proofs::DimensionRows::rows_part, crate::proofs::DimensionRows::columns_here, crate::proofs::DimensionRows::dimensions_is, crate::proofs::DimensionRows::dimensions_rest))]
 pub fn dimensions_at<'t>(e: &Env<'_>, text: &'t [u8]) -> Result<(Dimensions, &'t [u8]), Code>
-    requires part { is_part row.SUBSCRIPTS text.now ≡ true }
-    ensures { Gives (spec.dimensions_in (in_statement (surroundings e.now)) (tree_at row.SUBSCRIPTS text.now)) (after_part row.SUBSCRIPTS text.now) result }
+    requires phrase { is_phrase row.SUBSCRIPTS text.now ≡ true }
+    ensures { Gives (spec.dimensions_in (in_statement (surroundings e.now)) (tree_at row.SUBSCRIPTS text.now)) (after_phrase row.SUBSCRIPTS text.now) result }
 {
     let (x, after) = match number_at(e, rest_after(text, 1)) {
         Ok(found) => found,
@@ -117,7 +117,7 @@ fn length_after<'t>(
     alpha: bool,
     text: &'t [u8],
 ) -> Result<(u8, &'t [u8]), Code>
-    requires part { maybe_part start.Numeric row.SUM text.now ≡ true }
+    requires phrase { maybe_phrase start.Numeric row.SUM text.now ≡ true }
     ensures { Gives (spec.length_after (in_statement (surroundings e.now)) otherwise alpha (maybe_tree start.Numeric row.SUM text.now)) (after_maybe start.Numeric row.SUM text.now) result }
 {
     if !is_numeric_at(text) {
@@ -142,8 +142,8 @@ pub fn array_shape_at<'t>(
     alpha: bool,
     text: &'t [u8],
 ) -> Result<(Shape, &'t [u8]), Code>
-    requires part { is_part row.SUBSCRIPTS_AND_LENGTH text.now ≡ true }
-    ensures { Gives (spec.array_shape (in_statement (surroundings e.now)) otherwise alpha (tree_at row.SUBSCRIPTS_AND_LENGTH text.now)) (after_part row.SUBSCRIPTS_AND_LENGTH text.now) result }
+    requires phrase { is_phrase row.SUBSCRIPTS_AND_LENGTH text.now ≡ true }
+    ensures { Gives (spec.array_shape (in_statement (surroundings e.now)) otherwise alpha (tree_at row.SUBSCRIPTS_AND_LENGTH text.now)) (after_phrase row.SUBSCRIPTS_AND_LENGTH text.now) result }
 {
     let (size, after) = match dimensions_at(e, text) {
         Ok(found) => found,

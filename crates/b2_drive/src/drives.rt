@@ -5,7 +5,7 @@ ghost use Rattle.b2_base.specs.Lexical.{first};
 ghost use Rattle.b2_atom.specs.declared.forms.Leaf.TheVariants as leaf;
 ghost use Rattle.b2_atom.specs.declared.rows.TheConstants as row;
 ghost use Rattle.b2_rows.specs.Leaves.{is_leaf};
-ghost use Rattle.b2_rows.specs.Rows.{after_part, is_part, tree_at};
+ghost use Rattle.b2_rows.specs.Rows.{after_phrase, is_phrase, tree_at};
 ghost use Rattle.b2_drive.specs.Drives as spec;
 
 use b2_access::{DeviceTable, Private};
@@ -79,7 +79,7 @@ pub fn used_at(d: &Drives<'_>, text: &[u8]) -> Result<Addr, Code>
 /// The platter of a drive at the end of a statement.
 #[tactic(auto, using(crate::proofs::DriveRows::last_address, crate::proofs::DriveRows::last_is))]
 pub fn last_drive(d: &Drives<'_>, text: &[u8]) -> Result<Addr, Code>
-    requires part { is_part row.DRIVE text.now ≡ true }
+    requires phrase { is_phrase row.DRIVE text.now ≡ true }
     ensures { result ≡ spec.drive_used (spec.drives_seen d.now) (tree_at row.DRIVE text.now) }
 {
     used_at(d, text)
@@ -88,7 +88,7 @@ pub fn last_drive(d: &Drives<'_>, text: &[u8]) -> Result<Addr, Code>
 /// The platter of a drive with a comma after it.
 #[tactic(auto, using(crate::proofs::DriveRows::drive_address, crate::proofs::DriveRows::drive_is))]
 pub fn drive(d: &Drives<'_>, text: &[u8]) -> Result<Addr, Code>
-    requires part { is_part row.DRIVE_COMMA text.now ≡ true }
+    requires phrase { is_phrase row.DRIVE_COMMA text.now ≡ true }
     ensures { result ≡ spec.drive_used (spec.drives_seen d.now) (tree_at row.DRIVE_COMMA text.now) }
 {
     used_at(d, text)
@@ -97,8 +97,8 @@ pub fn drive(d: &Drives<'_>, text: &[u8]) -> Result<Addr, Code>
 /// What stands after a drive and its comma.
 #[tactic(auto, using(crate::proofs::DriveRows::after_named, crate::proofs::DriveRows::after_selected))]
 pub fn past_drive(text: &[u8]) -> &[u8]
-    requires part { is_part row.DRIVE_COMMA text.now ≡ true }
-    ensures { result.now ≡ after_part row.DRIVE_COMMA text.now }
+    requires phrase { is_phrase row.DRIVE_COMMA text.now ≡ true }
+    ensures { result.now ≡ after_phrase row.DRIVE_COMMA text.now }
 {
     let after = rest_after(text, 1);
     if is_at(b'/', after) {
@@ -111,7 +111,7 @@ pub fn past_drive(text: &[u8]) -> &[u8]
 /// The platter that SELECT DISK selects.
 #[tactic(auto, using(crate::proofs::DriveRows::select_address, crate::proofs::DriveRows::select_is))]
 pub fn select(d: &Drives<'_>, unit: &[u8]) -> Result<Addr, Code>
-    requires part { is_part row.SELECT_DISK unit.now ≡ true }
+    requires phrase { is_phrase row.SELECT_DISK unit.now ≡ true }
     ensures { result ≡ spec.selects (spec.drives_seen d.now) (tree_at row.SELECT_DISK unit.now) }
 {
     platter_used(d, Some(address_at(rest_after(rest_after(unit, 1), 1))))

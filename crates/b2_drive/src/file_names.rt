@@ -1,7 +1,7 @@
 // The names of files.
 ghost use Rattle.std.specs.Prelude.{◌≡◌, true};
 ghost use Rattle.b2_atom.specs.declared.rows.TheConstants as row;
-ghost use Rattle.b2_rows.specs.Rows.{is_part, tree_at};
+ghost use Rattle.b2_rows.specs.Rows.{is_phrase, tree_at};
 ghost use Rattle.b2_expr.specs.Scope.{surroundings};
 ghost use Rattle.b2_expr.specs.Value.{in_statement};
 ghost use Rattle.b2_drive.specs.FileNames as spec;
@@ -24,7 +24,7 @@ fn file_name(bytes: &[u8]) -> Result<Name8, Code>
 
 /// The name of a file at a text.
 pub fn name_at(e: &Env<'_>, text: &[u8]) -> Result<Name8, Code>
-    requires part { is_part row.ALPHA text.now ≡ true }
+    requires phrase { is_phrase row.ALPHA text.now ≡ true }
     ensures { result ≡ spec.name_given (in_statement (surroundings e.now)) (tree_at row.ALPHA text.now) }
 {
     let mut bytes = Bytes::new();

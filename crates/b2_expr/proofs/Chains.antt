@@ -4,7 +4,7 @@ use Rattle.b2_base.specs.Lexical.{first}
 use Rattle.b2_atom.specs.Words.{Text}
 use Rattle.b2_atom.specs.Tree.{Trees}
 use Rattle.b2_atom.specs.Tree.Trees.{Done, Put, In}
-use Rattle.b2_rows.specs.Rows.{is_part, tree_at, after_part, is_list, list_at, after_list}
+use Rattle.b2_rows.specs.Rows.{is_phrase, tree_at, after_phrase, is_list, list_at, after_list}
 use Rattle.b2_rows.specs.Chains.{is_operator_of, more_start, more_row, item_row}
 use Rattle.b2_rows.specs.Links.{IsLink}
 use Rattle.b2_rows.specs.declared.chains.Chain.{Chain}
@@ -20,21 +20,21 @@ use Rattle.b2_expr.specs.declared.operators.Level.{Level}
 use Rattle.b2_expr.specs.declared.operators.Level.TheVariants as level
 
 -- a row of a chain: its first item, and the list of what follows
-pub chain_item : (l : Level) (t : Text) → is_chain l ≡ true → is_part (row_of_level l) t ≡ true → is_part (row_of_level (item_level l)) t ≡ true
+pub chain_item : (l : Level) (t : Text) → is_chain l ≡ true → is_phrase (row_of_level l) t ≡ true → is_phrase (row_of_level (item_level l)) t ≡ true
 chain_item level.Sum t h ok = each.chain_item chain.Sum t ok
 chain_item level.Product t h ok = each.chain_item chain.Product t ok
 chain_item level.Factor t h ok = cc
 chain_item level.Power t h ok = each.chain_item chain.Power t ok
 chain_item level.Operand t h ok = cc
 
-pub chain_list : (l : Level) (t : Text) → is_chain l ≡ true → is_part (row_of_level l) t ≡ true → is_list (more_start (chain_of l)) (more_row (chain_of l)) (tail_of l t) ≡ true
+pub chain_list : (l : Level) (t : Text) → is_chain l ≡ true → is_phrase (row_of_level l) t ≡ true → is_list (more_start (chain_of l)) (more_row (chain_of l)) (tail_of l t) ≡ true
 chain_list level.Sum t h ok = each.chain_list chain.Sum t ok
 chain_list level.Product t h ok = each.chain_list chain.Product t ok
 chain_list level.Factor t h ok = cc
 chain_list level.Power t h ok = each.chain_list chain.Power t ok
 chain_list level.Operand t h ok = cc
 
-pub chain_value : (e : Context) (l : Level) (t : Text) → is_chain l ≡ true → is_part (row_of_level l) t ≡ true
+pub chain_value : (e : Context) (l : Level) (t : Text) → is_chain l ≡ true → is_phrase (row_of_level l) t ≡ true
     → value e l (tree_at (row_of_level l) t) ≡ further e l (value e (item_level l) (tree_at (row_of_level (item_level l)) t)) (list_of l (tail_of l t))
 unfolding value
 chain_value e level.Sum t h ok = ap (value e level.Sum) (each.chain_tree chain.Sum t ok)
@@ -43,7 +43,7 @@ chain_value e level.Factor t h ok = cc
 chain_value e level.Power t h ok = ap (value e level.Power) (each.chain_tree chain.Power t ok)
 chain_value e level.Operand t h ok = cc
 
-pub chain_rest : (l : Level) (t : Text) → is_chain l ≡ true → is_part (row_of_level l) t ≡ true → after_part (row_of_level l) t ≡ after_list (more_start (chain_of l)) (more_row (chain_of l)) (tail_of l t)
+pub chain_rest : (l : Level) (t : Text) → is_chain l ≡ true → is_phrase (row_of_level l) t ≡ true → after_phrase (row_of_level l) t ≡ after_list (more_start (chain_of l)) (more_row (chain_of l)) (tail_of l t)
 chain_rest level.Sum t h ok = each.chain_rest chain.Sum t ok
 chain_rest level.Product t h ok = each.chain_rest chain.Product t ok
 chain_rest level.Factor t h ok = cc
@@ -51,7 +51,7 @@ chain_rest level.Power t h ok = each.chain_rest chain.Power t ok
 chain_rest level.Operand t h ok = cc
 
 -- a further item, where an operator of the level stands
-pub more_item : (l : Level) (t : Text) → is_chain l ≡ true → is_list (more_start (chain_of l)) (more_row (chain_of l)) t ≡ true → is_operator l (first t) ≡ true → is_part (row_of_level (item_level l)) (drop 1 t) ≡ true
+pub more_item : (l : Level) (t : Text) → is_chain l ≡ true → is_list (more_start (chain_of l)) (more_row (chain_of l)) t ≡ true → is_operator l (first t) ≡ true → is_phrase (row_of_level (item_level l)) (drop 1 t) ≡ true
 more_item level.Sum t h ok b = each.more_item chain.Sum t ok b
 more_item level.Product t h ok b = each.more_item chain.Product t ok b
 more_item level.Factor t h ok b = cc
@@ -76,7 +76,7 @@ link_value e l x more c a u is = link_means (λ u. further e l x (In 1 u more)) 
 
 more_by : (e : Context) (l : Level) (c : Chain) (x : Answer) (t : Text) → is_list (more_start c) (more_row c) t ≡ true → is_operator_of c (first t) ≡ true
     → further e l x (list_at (more_start c) (more_row c) t)
-    ≡ joins e l x (list_at (more_start c) (more_row c) (after_part (item_row c) (drop 1 t))) (first t) (tree_at (item_row c) (drop 1 t))
+    ≡ joins e l x (list_at (more_start c) (more_row c) (after_phrase (item_row c) (drop 1 t))) (first t) (tree_at (item_row c) (drop 1 t))
 more_by e l c x t ok b = ap (further e l x) (each.more_tree c t ok b) ∙ link_value e l x _ (first t) _ _ (each.more_link c t ok b)
 
 pub more_value : (e : Context) (l : Level) (x : Answer) (t : Text) → is_chain l ≡ true → is_list (more_start (chain_of l)) (more_row (chain_of l)) t ≡ true → is_operator l (first t) ≡ true

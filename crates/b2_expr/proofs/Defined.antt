@@ -27,7 +27,7 @@ use Rattle.b2_text.specs.Program.{TextState, Lines, line_at}
 use Rattle.b2_text.specs.Spots.{unit_at, unit_of, is_function, first_opening}
 use Rattle.b2_text.specs.declared.spots.Spot.{Spot}
 use Rattle.b2_text.proofs.Statements.{chosen_of, function_is}
-use Rattle.b2_rows.specs.Rows.{is_part, tree_at, after_part, When}
+use Rattle.b2_rows.specs.Rows.{is_phrase, tree_at, after_phrase, When}
 use Rattle.b2_rows.specs.Laws.{IsRow, IsRowUnit}
 use Rattle.b2_rows.specs.Leaves.{is_leaf, leaf_bytes}
 use Rattle.b2_rows.specs.Values.{variable_name}
@@ -43,21 +43,21 @@ use Rattle.b2_rows.proofs.RowsRead.{stands_of}
 same_row : (m n : ℕ) (b c : Bool) → b ≡ true → b ≡ ((m == n) && c) → m ≡ n
 same_row m n b c h is = grind (arith, nat_tests)
 
-of_unit : (u : LineUnit) (name : ℕ) → IsRowUnit u → (is_letter name || is_digit name) ≡ true → is_function name u.bytes ≡ true → is_part row.DEFFN u.bytes ≡ true
+of_unit : (u : LineUnit) (name : ℕ) → IsRowUnit u → (is_letter name || is_digit name) ≡ true → is_function name u.bytes ≡ true → is_phrase row.DEFFN u.bytes ≡ true
 of_unit u name r k h =
     let is : IsRowUnit.row r ≡ row.DEFFN = same_row (IsRowUnit.row r) row.DEFFN _ _ h (function_is name u.position u.bytes (IsRowUnit.row r) (IsRowUnit.tree r) k (chosen_of u.position u.bytes (IsRowUnit.row r) (IsRowUnit.tree r) (IsRowUnit.read r))) in
-    subst (λ (n : ℕ). is_part n u.bytes ≡ true) is (IsRow.part (IsRowUnit.is r))
+    subst (λ (n : ℕ). is_phrase n u.bytes ≡ true) is (IsRow.part (IsRowUnit.is r))
 
 among_units : (us : List LineUnit) (k name : ℕ) (bytes : Text) → All IsRowUnit us → option_map (λ (u : LineUnit). u.bytes) (slice_get us k) ≡ Some bytes
-    → (is_letter name || is_digit name) ≡ true → is_function name bytes ≡ true → is_part row.DEFFN bytes ≡ true
+    → (is_letter name || is_digit name) ≡ true → is_function name bytes ≡ true → is_phrase row.DEFFN bytes ≡ true
 among_units [] k name bytes each found l h = cc
 among_units (u ∷ us) zero name bytes each found l h =
     let is : u.bytes ≡ bytes = cc in
-    subst (λ (t : Text). is_part row.DEFFN t ≡ true) is (of_unit u name (All-head IsRowUnit u us each) l (subst (λ (t : Text). is_function name t ≡ true) (sym is) h))
+    subst (λ (t : Text). is_phrase row.DEFFN t ≡ true) is (of_unit u name (All-head IsRowUnit u us each) l (subst (λ (t : Text). is_function name t ≡ true) (sym is) h))
 among_units (u ∷ us) (suc k) name bytes each found l h = among_units us k name bytes (All-tail IsRowUnit u us each) found l h
 
 pub is_definition : (line : Text) (k name : ℕ) (bytes : Text) → is_line line ≡ true → option_map (λ (u : LineUnit). u.bytes) (slice_get (units_of line) k) ≡ Some bytes
-    → (is_letter name || is_digit name) ≡ true → is_function name bytes ≡ true → is_part row.DEFFN bytes ≡ true
+    → (is_letter name || is_digit name) ≡ true → is_function name bytes ≡ true → is_phrase row.DEFFN bytes ≡ true
 is_definition line k name bytes h found l f = among_units (units_of line) k name bytes (each_unit_is_a_row line h) found l f
 
 -- the rows of a function
@@ -97,12 +97,12 @@ unfolding starts
 begins t b is = is
 
 abbrev IsDefinition : ℕ → Text → Type 0
-IsDefinition name t = (is_part row.DEFFN t ≡ true) × ((is_letter name || is_digit name) ≡ true) × (is_function name t ≡ true)
+IsDefinition name t = (is_phrase row.DEFFN t ≡ true) × ((is_letter name || is_digit name) ≡ true) × (is_function name t ≡ true)
 
 no_part : (name : ℕ) (t : Text) → IsDefinition name t → starts Atoms (start.Code word.GLOBAL_PART) (drop 1 t) ≡ false
 no_part name t d = begins (drop 1 t) false (not_global name t d.1 d.2)
 
-body_at : (name : ℕ) (t : Text) → IsDefinition name t → is_part row.FUNCTION_BODY (drop 1 t) ≡ true
+body_at : (name : ℕ) (t : Text) → IsDefinition name t → is_phrase row.FUNCTION_BODY (drop 1 t) ≡ true
 body_at name t d = second_of (starts Atoms (start.Code word.GLOBAL_PART) (drop 1 t)) _ _ _ _ (no_part name t d) (stands_of row.DEFFN deffn_items t deffn_row d.0).0.1
 
 one_letter : (b : Bool) → nat_lt 0 (if b then 1 else 0) ≡ true → ◌≡◌ {A = ℕ} (if b then 1 else 0) 1
@@ -124,13 +124,13 @@ opened t = drop 1 (drop (leaf_width Atoms leaf.FunctionName (drop 1 t)) (drop 1 
 opened_is : (name : ℕ) (t : Text) → IsDefinition name t → opened t ≡ drop 3 t
 opened_is name t d = ap (λ (n : ℕ). drop 1 (drop n (drop 1 t))) (name_size name t d) ∙ drop_three t
 
-parameter_opened : (name : ℕ) (t : Text) → IsDefinition name t → is_part row.NUMERIC_NAME (opened t) ≡ true
+parameter_opened : (name : ℕ) (t : Text) → IsDefinition name t → is_phrase row.NUMERIC_NAME (opened t) ≡ true
 parameter_opened name t d = (stands_of row.FUNCTION_BODY body_items (drop 1 t) body_row (body_at name t d)).0.1.1.0
 
-parameter_at : (name : ℕ) (t : Text) → IsDefinition name t → is_part row.NUMERIC_NAME (drop 3 t) ≡ true
-parameter_at name t d = subst (λ (u : Text). is_part row.NUMERIC_NAME u ≡ true) (opened_is name t d) (parameter_opened name t d)
+parameter_at : (name : ℕ) (t : Text) → IsDefinition name t → is_phrase row.NUMERIC_NAME (drop 3 t) ≡ true
+parameter_at name t d = subst (λ (u : Text). is_phrase row.NUMERIC_NAME u ≡ true) (opened_is name t d) (parameter_opened name t d)
 
-pub parameter_here : (name : ℕ) (t : Text) → is_part row.DEFFN t ≡ true → (is_letter name || is_digit name) ≡ true → is_function name t ≡ true → is_leaf leaf.Name (drop 3 t) ≡ true
+pub parameter_here : (name : ℕ) (t : Text) → is_phrase row.DEFFN t ≡ true → (is_letter name || is_digit name) ≡ true → is_function name t ≡ true → is_leaf leaf.Name (drop 3 t) ≡ true
 parameter_here name t ok l f = (stands_of row.NUMERIC_NAME name_items (drop 3 t) name_row (parameter_at name t (ok, l, f))).0.0
 
 -- where the expression stands
@@ -140,16 +140,16 @@ body_of t = drop (leaf_width Atoms leaf.Name (drop 3 t) + 2) (drop 3 t)
 drop_two : (n : ℕ) (t : Text) → drop 1 (drop 1 (drop n t)) ≡ drop (n + 2) t
 drop_two n t = drop-drop 1 1 (drop n t) ∙ drop-drop 2 n t
 
-after_name : (name : ℕ) (t : Text) → IsDefinition name t → drop 1 (drop 1 (after_part row.NUMERIC_NAME (opened t))) ≡ body_of t
+after_name : (name : ℕ) (t : Text) → IsDefinition name t → drop 1 (drop 1 (after_phrase row.NUMERIC_NAME (opened t))) ≡ body_of t
 after_name name t d =
-    ap (λ (u : Text). drop 1 (drop 1 (after_part row.NUMERIC_NAME u))) (opened_is name t d)
+    ap (λ (u : Text). drop 1 (drop 1 (after_phrase row.NUMERIC_NAME u))) (opened_is name t d)
     ∙ ap (λ (u : Text). drop 1 (drop 1 u)) (stands_of row.NUMERIC_NAME name_items (drop 3 t) name_row (parameter_at name t d)).2
     ∙ drop_two (leaf_width Atoms leaf.Name (drop 3 t)) (drop 3 t)
 
-pub body_part : (name : ℕ) (t : Text) → is_part row.DEFFN t ≡ true → (is_letter name || is_digit name) ≡ true → is_function name t ≡ true → is_part row.SUM (body_of t) ≡ true
+pub body_part : (name : ℕ) (t : Text) → is_phrase row.DEFFN t ≡ true → (is_letter name || is_digit name) ≡ true → is_function name t ≡ true → is_phrase row.SUM (body_of t) ≡ true
 body_part name t ok l f =
     let d : IsDefinition name t = (ok, l, f) in
-    subst (λ (u : Text). is_part row.SUM u ≡ true) (after_name name t d) (stands_of row.FUNCTION_BODY body_items (drop 1 t) body_row (body_at name t d)).0.1.1.1.1.1.0
+    subst (λ (u : Text). is_phrase row.SUM u ≡ true) (after_name name t d) (stands_of row.FUNCTION_BODY body_items (drop 1 t) body_row (body_at name t d)).0.1.1.1.1.1.0
 
 pub body_is : (t u : Text) (n : ℕ) → u ≡ drop 3 t → n ≡ leaf_width Atoms leaf.Name u → drop (n + 2) u ≡ body_of t
 body_is t u n is_u is_n = ap (λ (k : ℕ). drop (k + 2) u) is_n ∙ ap (λ (v : Text). drop (leaf_width Atoms leaf.Name v + 2) v) is_u
@@ -170,14 +170,14 @@ name_tree name t d =
     ap (tree_at row.NUMERIC_NAME) (opened_is name t d)
     ∙ (stands_of row.NUMERIC_NAME name_items (drop 3 t) name_row (parameter_at name t d)).1
 
-pub applied_is : (s : Parameter → Context) (x : Number) (name : ℕ) (t : Text) → is_part row.DEFFN t ≡ true → (is_letter name || is_digit name) ≡ true → is_function name t ≡ true
+pub applied_is : (s : Parameter → Context) (x : Number) (name : ℕ) (t : Text) → is_phrase row.DEFFN t ≡ true → (is_letter name || is_digit name) ≡ true → is_function name t ≡ true
     → applied s x (tree_at row.DEFFN t) ≡ value (s (record { name = variable_name false (leaf_bytes leaf.Name (drop 3 t)); value = x })) level.Sum (tree_at row.SUM (body_of t))
 applied_is s x name t ok l f =
     let d : IsDefinition name t = (ok, l, f) in
     let w = leaf_bytes leaf.FunctionName (drop 1 t) in
     ap (applied s x) (deffn_tree name t d)
     ∙ ap (λ (a : Trees). applied s x (Put (Coded word.DEFFN) (In 0 a Done))) (stands_of row.FUNCTION_BODY body_items (drop 1 t) body_row (body_at name t d)).1
-    ∙ ap (λ (a : Trees). applied s x (Put (Coded word.DEFFN) (In 0 (Put (Plain leaf.FunctionName w) (Put (Coded byte.opening) (In 2 a (Put (Coded byte.closing) (Put (Coded byte.equals) (In 2 (tree_at row.SUM (drop 1 (drop 1 (after_part row.NUMERIC_NAME (opened t))))) Done)))))) Done))) (name_tree name t d)
+    ∙ ap (λ (a : Trees). applied s x (Put (Coded word.DEFFN) (In 0 (Put (Plain leaf.FunctionName w) (Put (Coded byte.opening) (In 2 a (Put (Coded byte.closing) (Put (Coded byte.equals) (In 2 (tree_at row.SUM (drop 1 (drop 1 (after_phrase row.NUMERIC_NAME (opened t))))) Done)))))) Done))) (name_tree name t d)
     ∙ ap (λ (u : Text). value (s (record { name = variable_name false (leaf_bytes leaf.Name (drop 3 t)); value = x })) level.Sum (tree_at row.SUM u)) (after_name name t d)
 
 -- a call, by what is found
@@ -203,7 +203,7 @@ called_too_deep e zero name x t h is = ap (λ f. f >>= (λ t. Err A04_TOO_DEEP))
 called_too_deep e (suc room) name x t h is = cc
 
 pub called_body : (e : Surroundings) (room k name : ℕ) (x : Number) (t : Text) → Some t ≡ option_map (λ s. unit_at s e.home.lines) (first_opening (is_function name) e.home.lines)
-    → is_part row.DEFFN t ≡ true → (is_letter name || is_digit name) ≡ true → is_function name t ≡ true → room ≡ suc k
+    → is_phrase row.DEFFN t ≡ true → (is_letter name || is_digit name) ≡ true → is_function name t ≡ true → room ≡ suc k
     → called e room name x ≡ value (record { around = e; parameter = Some (record { name = variable_name false (leaf_bytes leaf.Name (drop 3 t)); value = x }); call = called e k }) level.Sum (tree_at row.SUM (body_of t))
 unfolding called
 called_body e zero k name x t h ok l f is = cc
@@ -227,6 +227,6 @@ found_is lines spot line bytes k is_line is_k is_b =
 
 pub there_is : (lines : Lines) (spot : Spot) (line bytes : Text) (k name : ℕ) → is_line line ≡ true → (is_letter name || is_digit name) ≡ true
     → Some line ≡ line_at spot.line lines → k ≡ spot.unit → Some bytes ≡ option_map (λ (u : LineUnit). u.bytes) (slice_get (units_of line) k)
-    → is_function name (unit_at spot lines) ≡ true → is_part row.DEFFN bytes ≡ true
+    → is_function name (unit_at spot lines) ≡ true → is_phrase row.DEFFN bytes ≡ true
 there_is lines spot line bytes k name h l is_l is_k is_b f =
     is_definition line k name bytes h (sym is_b) l (subst (λ (t : Text). is_function name t ≡ true) (found_is lines spot line bytes k is_l is_k is_b) f)

@@ -15,8 +15,8 @@ use Rattle.b2_atom.specs.declared.rows.TheConstants as row
 use Rattle.b2_atom.specs.declared.forms.Start.TheVariants as start
 use Rattle.b2_atom.specs.declared.forms.Item.{Item}
 use Rattle.b2_atom.specs.declared.forms.Item.TheVariants.{Sign, Part, Maybe}
-use Rattle.b2_rows.specs.Rows.{is_part, tree_at, after_part}
-use Rattle.b2_rows.specs.Optional.{maybe_part, maybe_tree, after_maybe}
+use Rattle.b2_rows.specs.Rows.{is_phrase, tree_at, after_phrase}
+use Rattle.b2_rows.specs.Optional.{maybe_phrase, maybe_tree, after_maybe}
 use Rattle.b2_rows.proofs.Levels.{part_no_longer}
 use Rattle.b2_rows.proofs.Optional.{maybe_stands, begun_part, begun_tree, begun_rest, left_out_tree, left_out_rest}
 use Rattle.b2_expr.specs.Answers.{Answer, ◌>>=◌}
@@ -53,10 +53,10 @@ six_rows = (refl, (refl, (refl, (refl, (refl, refl)))))
 
 -- a row of one number and of those that follow it
 record Stood (n : ℕ) (k : ℕ) (t : Text) : Type 0 where
-  part : is_part row.SUM (drop 1 t) ≡ true
-  further : are_further k (after_part row.SUM (drop 1 t)) ≡ true
-  gives : (e : Context) (c : ℕ) (x : Answer) → extremes e c x (tree_at n t) ≡ extremes e c x (Put (Coded byte.comma) (In 2 (tree_at row.SUM (drop 1 t)) (further_tree k (after_part row.SUM (drop 1 t)))))
-  rest : after_part n t ≡ after_further k (after_part row.SUM (drop 1 t))
+  part : is_phrase row.SUM (drop 1 t) ≡ true
+  further : are_further k (after_phrase row.SUM (drop 1 t)) ≡ true
+  gives : (e : Context) (c : ℕ) (x : Answer) → extremes e c x (tree_at n t) ≡ extremes e c x (Put (Coded byte.comma) (In 2 (tree_at row.SUM (drop 1 t)) (further_tree k (after_phrase row.SUM (drop 1 t)))))
+  rest : after_phrase n t ≡ after_further k (after_phrase row.SUM (drop 1 t))
 
 -- such a row, where it may be left out
 record Maybes (n : ℕ) (k : ℕ) (t : Text) : Type 0 where
@@ -79,23 +79,23 @@ none_more : (e : Context) (c : ℕ) (x : Answer) → extremes e c x (In 0 Done D
 unfolding extremes
 none_more e c x = refl
 
-maybe_by : (n k : ℕ) (t : Text) (b : Bool) → (first t == byte.comma) ≡ b → maybe_part (start.Code byte.comma) n t ≡ true → (is_part n t ≡ true → Stood n k t) → Maybes n (suc k) t
+maybe_by : (n k : ℕ) (t : Text) (b : Bool) → (first t == byte.comma) ≡ b → maybe_phrase (start.Code byte.comma) n t ≡ true → (is_phrase n t ≡ true → Stood n k t) → Maybes n (suc k) t
 unfolding are_further further_tree after_further
 maybe_by n k t true is ok stood =
     let s = stood (begun_part (start.Code byte.comma) n t ok (begins t true is)) in
     record {
-      further = ap (λ (b : Bool). if b then is_part row.SUM (drop 1 t) && are_further k (after_part row.SUM (drop 1 t)) else true) is ∙ both _ _ (Stood.part s) (Stood.further s);
+      further = ap (λ (b : Bool). if b then is_phrase row.SUM (drop 1 t) && are_further k (after_phrase row.SUM (drop 1 t)) else true) is ∙ both _ _ (Stood.part s) (Stood.further s);
       gives = λ e c x. ap (extremes e c x) (begun_tree (start.Code byte.comma) n t (begins t true is)) ∙ one_more e c x (tree_at n t) ∙ Stood.gives s e c x
-          ∙ sym (ap (λ (b : Bool). extremes e c x (if b then Put (Coded byte.comma) (In 2 (tree_at row.SUM (drop 1 t)) (further_tree k (after_part row.SUM (drop 1 t)))) else Done)) is);
+          ∙ sym (ap (λ (b : Bool). extremes e c x (if b then Put (Coded byte.comma) (In 2 (tree_at row.SUM (drop 1 t)) (further_tree k (after_phrase row.SUM (drop 1 t)))) else Done)) is);
       rest = begun_rest (start.Code byte.comma) n t (begins t true is) ∙ Stood.rest s
-          ∙ sym (ap (λ (b : Bool). if b then after_further k (after_part row.SUM (drop 1 t)) else t) is);
+          ∙ sym (ap (λ (b : Bool). if b then after_further k (after_phrase row.SUM (drop 1 t)) else t) is);
     }
 maybe_by n k t false is ok stood = record {
-  further = ap (λ (b : Bool). if b then is_part row.SUM (drop 1 t) && are_further k (after_part row.SUM (drop 1 t)) else true) is;
+  further = ap (λ (b : Bool). if b then is_phrase row.SUM (drop 1 t) && are_further k (after_phrase row.SUM (drop 1 t)) else true) is;
   gives = λ e c x. ap (extremes e c x) (left_out_tree (start.Code byte.comma) n t (begins t false is)) ∙ none_more e c x
-      ∙ sym (ap (λ (b : Bool). extremes e c x (if b then Put (Coded byte.comma) (In 2 (tree_at row.SUM (drop 1 t)) (further_tree k (after_part row.SUM (drop 1 t)))) else Done)) is);
+      ∙ sym (ap (λ (b : Bool). extremes e c x (if b then Put (Coded byte.comma) (In 2 (tree_at row.SUM (drop 1 t)) (further_tree k (after_phrase row.SUM (drop 1 t)))) else Done)) is);
   rest = left_out_rest (start.Code byte.comma) n t (begins t false is)
-      ∙ sym (ap (λ (b : Bool). if b then after_further k (after_part row.SUM (drop 1 t)) else t) is);
+      ∙ sym (ap (λ (b : Bool). if b then after_further k (after_phrase row.SUM (drop 1 t)) else t) is);
 }
 
 tail_gives : (e : Context) (c : ℕ) (x : Answer) (a u v : Trees) → ((y : Answer) → extremes e c y u ≡ extremes e c y v) → extremes e c x (Put (Coded byte.comma) (In 2 a u)) ≡ extremes e c x (Put (Coded byte.comma) (In 2 a v))
@@ -106,18 +106,18 @@ maybe_is : (n : ℕ) (t : Text) → (if starts Atoms (start.Code byte.comma) t t
 unfolding maybe_tree
 maybe_is n t = refl
 
-after_is : (n : ℕ) (t : Text) → (if starts Atoms (start.Code byte.comma) t then after_part n t else t) ≡ after_maybe (start.Code byte.comma) n t
+after_is : (n : ℕ) (t : Text) → (if starts Atoms (start.Code byte.comma) t then after_phrase n t else t) ≡ after_maybe (start.Code byte.comma) n t
 unfolding after_maybe
 after_is n t = refl
 
-stood : (k : ℕ) (t : Text) → AreRows (suc k) → is_part (further_row (suc k)) t ≡ true → Stood (further_row (suc k)) k t
+stood : (k : ℕ) (t : Text) → AreRows (suc k) → is_phrase (further_row (suc k)) t ≡ true → Stood (further_row (suc k)) k t
 unfolding are_further further_tree after_further
 stood zero t same ok =
     let r = stands_of row.COMMA_NUMBER (Sign byte.comma S13_SEPARATOR ∷ Part row.SUM ∷ []) t same ok in
     record { part = r.0.1.0; further = refl; gives = λ e c x. ap (extremes e c x) r.1; rest = r.2 }
 stood (suc k) t same ok =
     let n = further_row (suc k) in
-    let u = after_part row.SUM (drop 1 t) in
+    let u = after_phrase row.SUM (drop 1 t) in
     let r = stands_of (further_row (suc (suc k))) (longer n) t same.0 ok in
     let m = maybe_by n k u (first u == byte.comma) refl (maybe_stands (start.Code byte.comma) n u r.0.1.1) (stood k u same.1) in
     record {
@@ -136,16 +136,16 @@ numbers_row : row_items row.NUMBERS_2 ≡ numbers_items
 unfolding row_items
 numbers_row = refl
 
-pub numbers_front : (t : Text) → is_part row.NUMBERS_2 t ≡ true → is_part row.SUM t ≡ true
+pub numbers_front : (t : Text) → is_phrase row.NUMBERS_2 t ≡ true → is_phrase row.SUM t ≡ true
 numbers_front t ok = (stands_of row.NUMBERS_2 numbers_items t numbers_row ok).0.0
 
 abbrev second_at : Text → Text
-second_at t = after_part row.SUM t
+second_at t = after_phrase row.SUM t
 
 abbrev third_at : Text → Text
-third_at t = after_part row.SUM (drop 1 (second_at t))
+third_at t = after_phrase row.SUM (drop 1 (second_at t))
 
-others : (t : Text) → is_part row.NUMBERS_2 t ≡ true → Maybes row.NUMBERS_3 6 (third_at t)
+others : (t : Text) → is_phrase row.NUMBERS_2 t ≡ true → Maybes row.NUMBERS_3 6 (third_at t)
 others t ok =
     maybe_by row.NUMBERS_3 5 (third_at t) (first (third_at t) == byte.comma) refl
     (maybe_stands (start.Code byte.comma) row.NUMBERS_3 (third_at t) (stands_of row.NUMBERS_2 numbers_items t numbers_row ok).0.1.1.1) (stood 5 (third_at t) six_rows)
@@ -153,46 +153,46 @@ others t ok =
 is_comma : (t : Text) (c : ℕ) → first t ≡ c → (first t == c) ≡ true
 is_comma t c h = grind (arith, nat_tests)
 
-comma_at : (t : Text) → is_part row.NUMBERS_2 t ≡ true → (first (second_at t) == byte.comma) ≡ true
+comma_at : (t : Text) → is_phrase row.NUMBERS_2 t ≡ true → (first (second_at t) == byte.comma) ≡ true
 comma_at t ok = is_comma (second_at t) byte.comma (stands_of row.NUMBERS_2 numbers_items t numbers_row ok).0.1.0
 
-pub numbers_further : (t : Text) → is_part row.NUMBERS_2 t ≡ true → are_further 7 (after_part row.SUM t) ≡ true
+pub numbers_further : (t : Text) → is_phrase row.NUMBERS_2 t ≡ true → are_further 7 (after_phrase row.SUM t) ≡ true
 unfolding are_further further_tree after_further
 numbers_further t ok =
-    ap (λ (b : Bool). if b then is_part row.SUM (drop 1 (second_at t)) && are_further 6 (third_at t) else true) (comma_at t ok)
+    ap (λ (b : Bool). if b then is_phrase row.SUM (drop 1 (second_at t)) && are_further 6 (third_at t) else true) (comma_at t ok)
     ∙ both _ _ (stands_of row.NUMBERS_2 numbers_items t numbers_row ok).0.1.1.0 (Maybes.further (others t ok))
 
-pub numbers_tree : (t : Text) → is_part row.NUMBERS_2 t ≡ true
+pub numbers_tree : (t : Text) → is_phrase row.NUMBERS_2 t ≡ true
     → tree_at row.NUMBERS_2 t ≡ In 2 (tree_at row.SUM t) (Put (Coded byte.comma) (In 2 (tree_at row.SUM (drop 1 (second_at t))) (maybe_tree (start.Code byte.comma) row.NUMBERS_3 (third_at t))))
 unfolding maybe_tree
 numbers_tree t ok = (stands_of row.NUMBERS_2 numbers_items t numbers_row ok).1
 
-pub numbers_gives : (e : Context) (c : ℕ) (x : Answer) (t : Text) → is_part row.NUMBERS_2 t ≡ true
+pub numbers_gives : (e : Context) (c : ℕ) (x : Answer) (t : Text) → is_phrase row.NUMBERS_2 t ≡ true
     → extremes e c x (Put (Coded byte.comma) (In 2 (tree_at row.SUM (drop 1 (second_at t))) (maybe_tree (start.Code byte.comma) row.NUMBERS_3 (third_at t))))
-    ≡ extremes e c x (further_tree 7 (after_part row.SUM t))
+    ≡ extremes e c x (further_tree 7 (after_phrase row.SUM t))
 unfolding are_further further_tree after_further
 numbers_gives e c x t ok =
     tail_gives e c x (tree_at row.SUM (drop 1 (second_at t))) _ _ (λ y. Maybes.gives (others t ok) e c y)
     ∙ sym (ap (λ (b : Bool). extremes e c x (if b then Put (Coded byte.comma) (In 2 (tree_at row.SUM (drop 1 (second_at t))) (further_tree 6 (third_at t))) else Done)) (comma_at t ok))
 
-pub numbers_rest : (t : Text) → is_part row.NUMBERS_2 t ≡ true → after_part row.NUMBERS_2 t ≡ after_further 7 (after_part row.SUM t)
+pub numbers_rest : (t : Text) → is_phrase row.NUMBERS_2 t ≡ true → after_phrase row.NUMBERS_2 t ≡ after_further 7 (after_phrase row.SUM t)
 unfolding are_further further_tree after_further
 numbers_rest t ok =
     (stands_of row.NUMBERS_2 numbers_items t numbers_row ok).2 ∙ after_is row.NUMBERS_3 (third_at t) ∙ Maybes.rest (others t ok)
     ∙ sym (ap (λ (b : Bool). if b then after_further 6 (third_at t) else second_at t) (comma_at t ok))
 
 -- along the numbers: one more, or none
-pub further_part : (k : ℕ) (t : Text) → are_further (suc k) t ≡ true → (first t == byte.comma) ≡ true → is_part row.SUM (drop 1 t) ≡ true
+pub further_part : (k : ℕ) (t : Text) → are_further (suc k) t ≡ true → (first t == byte.comma) ≡ true → is_phrase row.SUM (drop 1 t) ≡ true
 unfolding are_further further_tree after_further
-further_part k t ok is = and_left _ _ (sym (ap (λ (b : Bool). if b then is_part row.SUM (drop 1 t) && are_further k (after_part row.SUM (drop 1 t)) else true) is) ∙ ok)
+further_part k t ok is = and_left _ _ (sym (ap (λ (b : Bool). if b then is_phrase row.SUM (drop 1 t) && are_further k (after_phrase row.SUM (drop 1 t)) else true) is) ∙ ok)
   where
     and_left : (a b : Bool) → (a && b) ≡ true → a ≡ true
     and_left true b h = refl
     and_left false b h = cc
 
-pub further_on : (k : ℕ) (t : Text) → are_further (suc k) t ≡ true → (first t == byte.comma) ≡ true → are_further k (after_part row.SUM (drop 1 t)) ≡ true
+pub further_on : (k : ℕ) (t : Text) → are_further (suc k) t ≡ true → (first t == byte.comma) ≡ true → are_further k (after_phrase row.SUM (drop 1 t)) ≡ true
 unfolding are_further further_tree after_further
-further_on k t ok is = and_right _ _ (sym (ap (λ (b : Bool). if b then is_part row.SUM (drop 1 t) && are_further k (after_part row.SUM (drop 1 t)) else true) is) ∙ ok)
+further_on k t ok is = and_right _ _ (sym (ap (λ (b : Bool). if b then is_phrase row.SUM (drop 1 t) && are_further k (after_phrase row.SUM (drop 1 t)) else true) is) ∙ ok)
   where
     and_right : (a b : Bool) → (a && b) ≡ true → b ≡ true
     and_right true b h = h
@@ -217,21 +217,21 @@ code_refused e c (Ok w) x t h = cc
 code_refused e c (Err code) x t h = refused e c code t
 
 pub further_on_value : (e : Context) (c : ℕ) (x : Answer) (k : ℕ) (t : Text) → (first t == byte.comma) ≡ true
-    → extremes e c x (further_tree (suc k) t) ≡ extremes e c (x >>= (λ v. value e level.Sum (tree_at row.SUM (drop 1 t)) >>= (λ w. Ok (extreme c v w)))) (further_tree k (after_part row.SUM (drop 1 t)))
+    → extremes e c x (further_tree (suc k) t) ≡ extremes e c (x >>= (λ v. value e level.Sum (tree_at row.SUM (drop 1 t)) >>= (λ w. Ok (extreme c v w)))) (further_tree k (after_phrase row.SUM (drop 1 t)))
 unfolding extremes are_further further_tree after_further
-further_on_value e c x k t is = ap (λ (b : Bool). extremes e c x (if b then Put (Coded byte.comma) (In 2 (tree_at row.SUM (drop 1 t)) (further_tree k (after_part row.SUM (drop 1 t)))) else Done)) is
+further_on_value e c x k t is = ap (λ (b : Bool). extremes e c x (if b then Put (Coded byte.comma) (In 2 (tree_at row.SUM (drop 1 t)) (further_tree k (after_phrase row.SUM (drop 1 t)))) else Done)) is
 
-pub further_on_rest : (k : ℕ) (t : Text) → (first t == byte.comma) ≡ true → after_further (suc k) t ≡ after_further k (after_part row.SUM (drop 1 t))
+pub further_on_rest : (k : ℕ) (t : Text) → (first t == byte.comma) ≡ true → after_further (suc k) t ≡ after_further k (after_phrase row.SUM (drop 1 t))
 unfolding are_further further_tree after_further
-further_on_rest k t is = ap (λ (b : Bool). if b then after_further k (after_part row.SUM (drop 1 t)) else t) is
+further_on_rest k t is = ap (λ (b : Bool). if b then after_further k (after_phrase row.SUM (drop 1 t)) else t) is
 
 pub off_value : (e : Context) (c : ℕ) (x : Answer) (k : ℕ) (t : Text) → (first t == byte.comma) ≡ false → extremes e c x (further_tree (suc k) t) ≡ x
 unfolding extremes are_further further_tree after_further
-off_value e c x k t is = ap (λ (b : Bool). extremes e c x (if b then Put (Coded byte.comma) (In 2 (tree_at row.SUM (drop 1 t)) (further_tree k (after_part row.SUM (drop 1 t)))) else Done)) is
+off_value e c x k t is = ap (λ (b : Bool). extremes e c x (if b then Put (Coded byte.comma) (In 2 (tree_at row.SUM (drop 1 t)) (further_tree k (after_phrase row.SUM (drop 1 t)))) else Done)) is
 
 pub off_rest : (k : ℕ) (t : Text) → (first t == byte.comma) ≡ false → after_further (suc k) t ≡ t
 unfolding are_further further_tree after_further
-off_rest k t is = ap (λ (b : Bool). if b then after_further k (after_part row.SUM (drop 1 t)) else t) is
+off_rest k t is = ap (λ (b : Bool). if b then after_further k (after_phrase row.SUM (drop 1 t)) else t) is
 
 -- where k numbers may still follow
 none_left : (e : Context) (c : ℕ) (x : Answer) (t : Text) → extremes e c x (further_tree 0 t) ≡ x
@@ -248,25 +248,25 @@ nowhere_left t = refl
 pub none_rest : (k : ℕ) (t : Text) → k ≡ 0 → after_further k t ≡ t
 none_rest k t is = ap (λ (n : ℕ). after_further n t) is ∙ nowhere_left t
 
-pub step_part : (k j : ℕ) (t u : Text) → are_further k t ≡ true → k ≡ suc j → (first t == byte.comma) ≡ true → u ≡ drop 1 t → is_part row.SUM u ≡ true
+pub step_part : (k j : ℕ) (t u : Text) → are_further k t ≡ true → k ≡ suc j → (first t == byte.comma) ≡ true → u ≡ drop 1 t → is_phrase row.SUM u ≡ true
 step_part k j t u ok is b is_u =
-    subst (λ (v : Text). is_part row.SUM v ≡ true) (sym is_u) (further_part j t (subst (λ (n : ℕ). are_further n t ≡ true) is ok) b)
+    subst (λ (v : Text). is_phrase row.SUM v ≡ true) (sym is_u) (further_part j t (subst (λ (n : ℕ). are_further n t ≡ true) is ok) b)
 
-pub step_further : (k j : ℕ) (t u v : Text) → are_further k t ≡ true → k ≡ suc j → (first t == byte.comma) ≡ true → u ≡ drop 1 t → v ≡ after_part row.SUM u → are_further j v ≡ true
+pub step_further : (k j : ℕ) (t u v : Text) → are_further k t ≡ true → k ≡ suc j → (first t == byte.comma) ≡ true → u ≡ drop 1 t → v ≡ after_phrase row.SUM u → are_further j v ≡ true
 step_further k j t u v ok is b is_u is_v =
-    subst (λ (w : Text). are_further j w ≡ true) (sym (is_v ∙ ap (after_part row.SUM) is_u)) (further_on j t (subst (λ (n : ℕ). are_further n t ≡ true) is ok) b)
+    subst (λ (w : Text). are_further j w ≡ true) (sym (is_v ∙ ap (after_phrase row.SUM) is_u)) (further_on j t (subst (λ (n : ℕ). are_further n t ≡ true) is ok) b)
 
 pub step_value : (e : Context) (c : ℕ) (x : Number) (k j : ℕ) (t u : Text) (r : Answer) → k ≡ suc j → (first t == byte.comma) ≡ true → u ≡ drop 1 t → value e level.Sum (tree_at row.SUM u) ≡ r
-    → extremes e c (Ok x) (further_tree k t) ≡ extremes e c (r >>= (λ w. Ok (extreme c x w))) (further_tree j (after_part row.SUM u))
+    → extremes e c (Ok x) (further_tree k t) ≡ extremes e c (r >>= (λ w. Ok (extreme c x w))) (further_tree j (after_phrase row.SUM u))
 step_value e c x k j t u r is b is_u gives =
     ap (λ (n : ℕ). extremes e c (Ok x) (further_tree n t)) is
     ∙ further_on_value e c (Ok x) j t b
-    ∙ sym (ap (λ (v : Text). extremes e c (value e level.Sum (tree_at row.SUM v) >>= (λ w. Ok (extreme c x w))) (further_tree j (after_part row.SUM v))) is_u)
-    ∙ ap (λ (y : Answer). extremes e c (y >>= (λ w. Ok (extreme c x w))) (further_tree j (after_part row.SUM u))) gives
+    ∙ sym (ap (λ (v : Text). extremes e c (value e level.Sum (tree_at row.SUM v) >>= (λ w. Ok (extreme c x w))) (further_tree j (after_phrase row.SUM v))) is_u)
+    ∙ ap (λ (y : Answer). extremes e c (y >>= (λ w. Ok (extreme c x w))) (further_tree j (after_phrase row.SUM u))) gives
 
-pub step_rest : (k j : ℕ) (t u v : Text) → k ≡ suc j → (first t == byte.comma) ≡ true → u ≡ drop 1 t → v ≡ after_part row.SUM u → after_further j v ≡ after_further k t
+pub step_rest : (k j : ℕ) (t u v : Text) → k ≡ suc j → (first t == byte.comma) ≡ true → u ≡ drop 1 t → v ≡ after_phrase row.SUM u → after_further j v ≡ after_further k t
 step_rest k j t u v is b is_u is_v =
-    ap (after_further j) (is_v ∙ ap (after_part row.SUM) is_u) ∙ sym (further_on_rest j t b) ∙ sym (ap (λ (n : ℕ). after_further n t) is)
+    ap (after_further j) (is_v ∙ ap (after_phrase row.SUM) is_u) ∙ sym (further_on_rest j t b) ∙ sym (ap (λ (n : ℕ). after_further n t) is)
 
 pub stop_value : (e : Context) (c : ℕ) (x : Answer) (k j : ℕ) (t : Text) → k ≡ suc j → (first t == byte.comma) ≡ false → extremes e c x (further_tree k t) ≡ x
 stop_value e c x k j t is b = ap (λ (n : ℕ). extremes e c x (further_tree n t)) is ∙ off_value e c x j t b
@@ -277,5 +277,5 @@ stop_rest k j t is b = ap (λ (n : ℕ). after_further n t) is ∙ off_rest j t 
 pub step_shorter : (t u : Text) → (first t == byte.comma) ≡ true → u ≡ drop 1 t → length u < length t
 step_shorter t u b is_u = let a : length u ≡ length (drop 1 t) = ap length is_u in let c = second_shorter t b in omega (arith, a, c)
 
-pub part_after : (u v : Text) → v ≡ after_part row.SUM u → length v ≤ length u
-part_after u v is_v = let a : length v ≡ length (after_part row.SUM u) = ap length is_v in let b = part_no_longer row.SUM u in omega (arith, a, b)
+pub part_after : (u v : Text) → v ≡ after_phrase row.SUM u → length v ≤ length u
+part_after u v is_v = let a : length v ≡ length (after_phrase row.SUM u) = ap length is_v in let b = part_no_longer row.SUM u in omega (arith, a, b)

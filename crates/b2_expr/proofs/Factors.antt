@@ -3,7 +3,7 @@ use Rattle.std.proofs.Common.{◌≡◌, true, false, drop, refl, ap, ◌∙◌,
 use Rattle.b2_base.specs.Lexical.{first}
 use Rattle.b2_atom.specs.Words.{Text}
 use Rattle.b2_atom.specs.declared.rows.TheConstants as row
-use Rattle.b2_rows.specs.Rows.{is_part, tree_at}
+use Rattle.b2_rows.specs.Rows.{is_phrase, tree_at}
 use Rattle.b2_rows.specs.Chains.{is_sign}
 use Rattle.b2_rows.proofs.EachChain as each
 use Rattle.b2_expr.specs.Answers.{Answer, ◌>>=◌}
@@ -12,7 +12,7 @@ use Rattle.b2_expr.specs.Scope.{Context}
 use Rattle.b2_expr.specs.Value.{value}
 use Rattle.b2_expr.specs.declared.operators.Level.TheVariants as level
 
-pub signed_value : (e : Context) (t : Text) → is_part row.FACTOR t ≡ true → is_sign (first t) ≡ true
+pub signed_value : (e : Context) (t : Text) → is_phrase row.FACTOR t ≡ true → is_sign (first t) ≡ true
     → value e level.Factor (tree_at row.FACTOR t) ≡ (value e level.Power (tree_at row.POWER (drop 1 t)) >>= under_sign e.around.mode (first t))
 unfolding value
 signed_value e t ok is =
@@ -24,7 +24,7 @@ plainly : (x : Answer) → (x >>= (λ v. Ok v)) ≡ x
 plainly (Ok v) = refl
 plainly (Err code) = refl
 
-pub plain_value : (e : Context) (t : Text) → is_part row.FACTOR t ≡ true → is_sign (first t) ≡ false
+pub plain_value : (e : Context) (t : Text) → is_phrase row.FACTOR t ≡ true → is_sign (first t) ≡ false
     → value e level.Factor (tree_at row.FACTOR t) ≡ value e level.Power (tree_at row.POWER t)
 unfolding value
 plain_value e t ok is = ap (value e level.Factor) (each.plain_tree t ok is) ∙ plainly (value e level.Power (tree_at row.POWER t))

@@ -8,7 +8,7 @@ use Rattle.b2_dec.specs.Number.{value as size_of_number}
 use Rattle.b2_alpha.specs.Relations.{holds}
 use Rattle.b2_atom.specs.Words.{Text}
 use Rattle.b2_atom.specs.declared.rows.TheConstants as row
-use Rattle.b2_rows.specs.Rows.{is_part, tree_at, after_part, is_list, list_at, after_list}
+use Rattle.b2_rows.specs.Rows.{is_phrase, tree_at, after_phrase, is_list, list_at, after_list}
 use Rattle.b2_rows.specs.Values.{relation_of}
 use Rattle.b2_rows.specs.Chains.{is_operator_of, more_start}
 use Rattle.b2_rows.specs.declared.chains.Chain.TheVariants as chain
@@ -18,8 +18,8 @@ use Rattle.b2_expr.specs.Operators.{joined_condition}
 use Rattle.b2_expr.specs.Reads.{Finds, Judges, last, truth_word}
 use Rattle.b2_expr.specs.Scope.{Context}
 use Rattle.b2_expr.specs.Value.{value}
-use Rattle.b2_expr.specs.declared.found.Found.{Found}
-use Rattle.b2_expr.specs.declared.found.Judged.{Judged}
+use Rattle.b2_expr.specs.declared.evaluated.Evaluated.{Evaluated}
+use Rattle.b2_expr.specs.declared.evaluated.Judged.{Judged}
 use Rattle.b2_expr.specs.declared.operators.Level.TheVariants as level
 use Rattle.b2_expr.proofs.Comparisons.{truth_list, truth_value, truth_rest, on_comparison, on_list, on_value, on_rest, on_shorter as list_shorter, off_value, off_rest, condition_refused, numbers_is, numbers_rest}
 use Rattle.b2_expr.proofs.Operands.{sign_at, sign_size, other_at}
@@ -77,27 +77,27 @@ judges_same answer other rest after f is same p =
 pub record ConditionOn (e : Context) (t : Text) (h : Bool) (u : Text) : Type 0 where
   pub list : is_list (more_start chain.Condition) row.FURTHER_COMPARISON u ≡ true
   pub value : further_condition e (Ok h) (list_at (more_start chain.Condition) row.FURTHER_COMPARISON u) ≡ truth e (tree_at row.CONDITION t)
-  pub rest : after_list (more_start chain.Condition) row.FURTHER_COMPARISON u ≡ after_part row.CONDITION t
+  pub rest : after_list (more_start chain.Condition) row.FURTHER_COMPARISON u ≡ after_phrase row.CONDITION t
 
 abbrev Compares : Context → Text → Judged → Type 0
-Compares e t f = Judges (compared e (tree_at row.COMPARISON t)) (after_part row.COMPARISON t) f
+Compares e t f = Judges (compared e (tree_at row.COMPARISON t)) (after_phrase row.COMPARISON t) f
 
-pub condition_coded : (e : Context) (t : Text) (f : Judged) → is_part row.CONDITION t ≡ true → Compares e t f → nat_le 2 f.word ≡ true → Judges (truth e (tree_at row.CONDITION t)) (after_part row.CONDITION t) f
+pub condition_coded : (e : Context) (t : Text) (f : Judged) → is_phrase row.CONDITION t ≡ true → Compares e t f → nat_le 2 f.word ≡ true → Judges (truth e (tree_at row.CONDITION t)) (after_phrase row.CONDITION t) f
 condition_coded e t f ok p coded =
     judges_code _ _ _ _ f p coded (λ was.
     truth_value e t ok
-    ∙ ap (λ (x : Result Bool ℕ). further_condition e x (list_at (more_start chain.Condition) row.FURTHER_COMPARISON (after_part row.COMPARISON t))) was
-    ∙ condition_refused e (f.word - 2) (list_at (more_start chain.Condition) row.FURTHER_COMPARISON (after_part row.COMPARISON t)))
+    ∙ ap (λ (x : Result Bool ℕ). further_condition e x (list_at (more_start chain.Condition) row.FURTHER_COMPARISON (after_phrase row.COMPARISON t))) was
+    ∙ condition_refused e (f.word - 2) (list_at (more_start chain.Condition) row.FURTHER_COMPARISON (after_phrase row.COMPARISON t)))
 
-pub condition_started : (e : Context) (t : Text) (f : Judged) (h : Bool) (u : Text) → is_part row.CONDITION t ≡ true → Compares e t f → nat_le 2 f.word ≡ false → h ≡ (f.word == 1) → u ≡ last f.left t
+pub condition_started : (e : Context) (t : Text) (f : Judged) (h : Bool) (u : Text) → is_phrase row.CONDITION t ≡ true → Compares e t f → nat_le 2 f.word ≡ false → h ≡ (f.word == 1) → u ≡ last f.left t
     → ConditionOn e t h u
 condition_started e t f h u ok p low is_h is_u =
-    let at : u ≡ after_part row.COMPARISON t = is_u ∙ tail_by row.COMPARISON f.left t (Judges.left p low) in
+    let at : u ≡ after_phrase row.COMPARISON t = is_u ∙ tail_by row.COMPARISON f.left t (Judges.left p low) in
     let was : compared e (tree_at row.COMPARISON t) ≡ Ok h = is_judged _ f.word (Judges.word p) low ∙ ap Ok (sym is_h) in
     record {
       list = subst (λ (v : Text). is_list (more_start chain.Condition) row.FURTHER_COMPARISON v ≡ true) (sym at) (truth_list t ok);
       value = ap (λ (v : Text). further_condition e (Ok h) (list_at (more_start chain.Condition) row.FURTHER_COMPARISON v)) at
-          ∙ ap (λ (x : Result Bool ℕ). further_condition e x (list_at (more_start chain.Condition) row.FURTHER_COMPARISON (after_part row.COMPARISON t))) (sym was)
+          ∙ ap (λ (x : Result Bool ℕ). further_condition e x (list_at (more_start chain.Condition) row.FURTHER_COMPARISON (after_phrase row.COMPARISON t))) (sym was)
           ∙ sym (truth_value e t ok);
       rest = ap (after_list (more_start chain.Condition) row.FURTHER_COMPARISON) at ∙ sym (truth_rest t ok);
     }
@@ -105,45 +105,45 @@ condition_started e t f h u ok p low is_h is_u =
 module _ (e : Context) (t : Text) (h : Bool) (u : Text) (on : ConditionOn e t h u) where
   -- where a word stands that joins: a comparison after it
   module _ (op : is_operator_of chain.Condition (first u) ≡ true) (w : Text) (is_w : w ≡ drop 1 u) where
-    pub condition_item : is_part row.COMPARISON w ≡ true
-    condition_item = subst (λ (v : Text). is_part row.COMPARISON v ≡ true) (sym is_w) (on_comparison u (ConditionOn.list on) op)
+    pub condition_item : is_phrase row.COMPARISON w ≡ true
+    condition_item = subst (λ (v : Text). is_phrase row.COMPARISON v ≡ true) (sym is_w) (on_comparison u (ConditionOn.list on) op)
 
     module _ (f : Judged) (p : Compares e w f) where
       joined_value : truth e (tree_at row.CONDITION t)
-          ≡ further_condition e (compared e (tree_at row.COMPARISON w) >>= (λ q. Ok (joined_condition (first u) h q))) (list_at (more_start chain.Condition) row.FURTHER_COMPARISON (after_part row.COMPARISON w))
+          ≡ further_condition e (compared e (tree_at row.COMPARISON w) >>= (λ q. Ok (joined_condition (first u) h q))) (list_at (more_start chain.Condition) row.FURTHER_COMPARISON (after_phrase row.COMPARISON w))
       joined_value =
           sym (ConditionOn.value on)
           ∙ on_value e (Ok h) u (ConditionOn.list on) op
-          ∙ ap (λ (v : Text). further_condition e (compared e (tree_at row.COMPARISON v) >>= (λ q. Ok (joined_condition (first u) h q))) (list_at (more_start chain.Condition) row.FURTHER_COMPARISON (after_part row.COMPARISON v))) (sym is_w)
+          ∙ ap (λ (v : Text). further_condition e (compared e (tree_at row.COMPARISON v) >>= (λ q. Ok (joined_condition (first u) h q))) (list_at (more_start chain.Condition) row.FURTHER_COMPARISON (after_phrase row.COMPARISON v))) (sym is_w)
 
-      pub condition_stopped : nat_le 2 f.word ≡ true → Judges (truth e (tree_at row.CONDITION t)) (after_part row.CONDITION t) f
+      pub condition_stopped : nat_le 2 f.word ≡ true → Judges (truth e (tree_at row.CONDITION t)) (after_phrase row.CONDITION t) f
       condition_stopped coded =
           judges_code _ _ _ _ f p coded (λ was.
           joined_value
-          ∙ ap (λ (x : Result Bool ℕ). further_condition e (x >>= (λ q. Ok (joined_condition (first u) h q))) (list_at (more_start chain.Condition) row.FURTHER_COMPARISON (after_part row.COMPARISON w))) was
-          ∙ condition_refused e (f.word - 2) (list_at (more_start chain.Condition) row.FURTHER_COMPARISON (after_part row.COMPARISON w)))
+          ∙ ap (λ (x : Result Bool ℕ). further_condition e (x >>= (λ q. Ok (joined_condition (first u) h q))) (list_at (more_start chain.Condition) row.FURTHER_COMPARISON (after_phrase row.COMPARISON w))) was
+          ∙ condition_refused e (f.word - 2) (list_at (more_start chain.Condition) row.FURTHER_COMPARISON (after_phrase row.COMPARISON w)))
 
       module _ (low : nat_le 2 f.word ≡ false) (made : Bool) (is_made : made ≡ joined_condition (first u) h (f.word == 1)) (v : Text) (is_v : v ≡ last f.left w) where
-        at : v ≡ after_part row.COMPARISON w
+        at : v ≡ after_phrase row.COMPARISON w
         at = is_v ∙ tail_by row.COMPARISON f.left w (Judges.left p low)
 
         pub condition_shorter : length v < length u
         condition_shorter =
-            subst (λ (s : Text). length s < length u) (sym (at ∙ ap (after_part row.COMPARISON) is_w)) (list_shorter u op)
+            subst (λ (s : Text). length s < length u) (sym (at ∙ ap (after_phrase row.COMPARISON) is_w)) (list_shorter u op)
 
         pub condition_step : ConditionOn e t made v
         condition_step =
             record {
-              list = subst (λ (s : Text). is_list (more_start chain.Condition) row.FURTHER_COMPARISON s ≡ true) (ap (after_part row.COMPARISON) (sym is_w) ∙ sym at) (on_list u (ConditionOn.list on) op);
+              list = subst (λ (s : Text). is_list (more_start chain.Condition) row.FURTHER_COMPARISON s ≡ true) (ap (after_phrase row.COMPARISON) (sym is_w) ∙ sym at) (on_list u (ConditionOn.list on) op);
               value = ap (λ (s : Text). further_condition e (Ok made) (list_at (more_start chain.Condition) row.FURTHER_COMPARISON s)) at
-                  ∙ ap (λ (b : Bool). further_condition e (Ok b) (list_at (more_start chain.Condition) row.FURTHER_COMPARISON (after_part row.COMPARISON w))) is_made
-                  ∙ ap (λ (x : Result Bool ℕ). further_condition e (x >>= (λ q. Ok (joined_condition (first u) h q))) (list_at (more_start chain.Condition) row.FURTHER_COMPARISON (after_part row.COMPARISON w))) (sym (is_judged _ f.word (Judges.word p) low))
+                  ∙ ap (λ (b : Bool). further_condition e (Ok b) (list_at (more_start chain.Condition) row.FURTHER_COMPARISON (after_phrase row.COMPARISON w))) is_made
+                  ∙ ap (λ (x : Result Bool ℕ). further_condition e (x >>= (λ q. Ok (joined_condition (first u) h q))) (list_at (more_start chain.Condition) row.FURTHER_COMPARISON (after_phrase row.COMPARISON w))) (sym (is_judged _ f.word (Judges.word p) low))
                   ∙ sym joined_value;
-              rest = ap (after_list (more_start chain.Condition) row.FURTHER_COMPARISON) (at ∙ ap (after_part row.COMPARISON) is_w) ∙ sym (on_rest u (ConditionOn.list on) op) ∙ ConditionOn.rest on;
+              rest = ap (after_list (more_start chain.Condition) row.FURTHER_COMPARISON) (at ∙ ap (after_phrase row.COMPARISON) is_w) ∙ sym (on_rest u (ConditionOn.list on) op) ∙ ConditionOn.rest on;
             }
 
   -- where none stands
-  pub condition_ends : is_operator_of chain.Condition (first u) ≡ false → (f : Judged) → f ≡ record { word = truth_word (Ok h); left = length u } → Judges (truth e (tree_at row.CONDITION t)) (after_part row.CONDITION t) f
+  pub condition_ends : is_operator_of chain.Condition (first u) ≡ false → (f : Judged) → f ≡ record { word = truth_word (Ok h); left = length u } → Judges (truth e (tree_at row.CONDITION t)) (after_phrase row.CONDITION t) f
   condition_ends none f is_f =
       judges_truth _ _ u h f is_f (sym (ConditionOn.value on) ∙ off_value e (Ok h) u none) (sym (off_rest u none) ∙ ConditionOn.rest on)
 
@@ -151,16 +151,16 @@ module _ (e : Context) (t : Text) (h : Bool) (u : Text) (on : ConditionOn e t h 
 abbrev with_second : Context → Text → Answer → Number → Result Bool ℕ
 with_second e t other x = other >>= (λ y. Ok (holds (relation_of (take (sign_size row.SUM t) (sign_at row.SUM t))) (int_cmp (size_of_number x) (size_of_number y))))
 
-abbrev Sums : Context → Text → Found → Type 0
-Sums e t f = Finds (value e level.Sum (tree_at row.SUM t)) (after_part row.SUM t) f
+abbrev Sums : Context → Text → Evaluated → Type 0
+Sums e t f = Finds (value e level.Sum (tree_at row.SUM t)) (after_phrase row.SUM t) f
 
-numbers_by : (e : Context) (t : Text) (f : Found) → is_part row.NUMERIC_COMPARISON t ≡ true → Sums e t f
+numbers_by : (e : Context) (t : Text) (f : Evaluated) → is_phrase row.NUMERIC_COMPARISON t ≡ true → Sums e t f
     → compared_numbers e (tree_at row.NUMERIC_COMPARISON t) ≡ (f.number >>= with_second e t (value e level.Sum (tree_at row.SUM (other_at row.SUM t))))
 numbers_by e t f ok is =
     numbers_is e t ok ∙ ap (λ (a : Answer). a >>= with_second e t (value e level.Sum (tree_at row.SUM (other_at row.SUM t)))) (sym (Finds.number is))
 
-pub first_coded : (e : Context) (t : Text) (f : Found) (code : ℕ) (j : Judged) → is_part row.NUMERIC_COMPARISON t ≡ true → Sums e t f → f.number ≡ Err code
-    → j ≡ record { word = truth_word (Err code); left = 0 } → 3 ≤ j.word → j.word ≤ 101 → Judges (compared_numbers e (tree_at row.NUMERIC_COMPARISON t)) (after_part row.NUMERIC_COMPARISON t) j
+pub first_coded : (e : Context) (t : Text) (f : Evaluated) (code : ℕ) (j : Judged) → is_phrase row.NUMERIC_COMPARISON t ≡ true → Sums e t f → f.number ≡ Err code
+    → j ≡ record { word = truth_word (Err code); left = 0 } → 3 ≤ j.word → j.word ≤ 101 → Judges (compared_numbers e (tree_at row.NUMERIC_COMPARISON t)) (after_phrase row.NUMERIC_COMPARISON t) j
 first_coded e t f code j ok is coded is_j least most =
     judges_coded _ _ code j is_j least most
     (numbers_by e t f ok is ∙ ap (λ (a : Answer). a >>= with_second e t (value e level.Sum (tree_at row.SUM (other_at row.SUM t)))) coded)
@@ -169,9 +169,9 @@ with_number : {P : Type 0} (r : Answer) → is_err r ≡ false → ((x : Number)
 with_number (Ok x) some k = k x refl
 with_number (Err code) some k = absurd (true≢false some)
 
-pub second_coded : (e : Context) (t : Text) (f : Found) (o : Text) (g : Found) (code : ℕ) (j : Judged) → is_part row.NUMERIC_COMPARISON t ≡ true → Sums e t f → is_err f.number ≡ false
+pub second_coded : (e : Context) (t : Text) (f : Evaluated) (o : Text) (g : Evaluated) (code : ℕ) (j : Judged) → is_phrase row.NUMERIC_COMPARISON t ≡ true → Sums e t f → is_err f.number ≡ false
     → o ≡ other_at row.SUM t → Sums e o g → g.number ≡ Err code → j ≡ record { word = truth_word (Err code); left = 0 } → 3 ≤ j.word → j.word ≤ 101
-    → Judges (compared_numbers e (tree_at row.NUMERIC_COMPARISON t)) (after_part row.NUMERIC_COMPARISON t) j
+    → Judges (compared_numbers e (tree_at row.NUMERIC_COMPARISON t)) (after_phrase row.NUMERIC_COMPARISON t) j
 second_coded e t f o g code j ok is some is_o other coded is_j least most =
     with_number f.number some (λ x got.
     judges_coded _ _ code j is_j least most
@@ -179,14 +179,14 @@ second_coded e t f o g code j ok is some is_o other coded is_j least most =
     ∙ ap (λ (s : Text). with_second e t (value e level.Sum (tree_at row.SUM s)) x) (sym is_o)
     ∙ ap (λ (a : Answer). with_second e t a x) (sym (Finds.number other) ∙ coded)))
 
-pub numbers_judged : (e : Context) (t : Text) (f : Found) (x : Number) (o : Text) (g : Found) (y : Number) (h : Bool) (j : Judged) → is_part row.NUMERIC_COMPARISON t ≡ true → Sums e t f → f.number ≡ Ok x
+pub numbers_judged : (e : Context) (t : Text) (f : Evaluated) (x : Number) (o : Text) (g : Evaluated) (y : Number) (h : Bool) (j : Judged) → is_phrase row.NUMERIC_COMPARISON t ≡ true → Sums e t f → f.number ≡ Ok x
     → o ≡ other_at row.SUM t → Sums e o g → is_err g.number ≡ false → g.number ≡ Ok y
     → h ≡ holds (relation_of (take (sign_size row.SUM t) (sign_at row.SUM t))) (int_cmp (size_of_number x) (size_of_number y))
     → j ≡ record { word = truth_word (Ok h); left = g.left }
-    → Judges (compared_numbers e (tree_at row.NUMERIC_COMPARISON t)) (after_part row.NUMERIC_COMPARISON t) j
+    → Judges (compared_numbers e (tree_at row.NUMERIC_COMPARISON t)) (after_phrase row.NUMERIC_COMPARISON t) j
 numbers_judged e t f x o g y h j ok is got is_o other some found is_h is_j =
-    judges_truth _ _ (after_part row.SUM o) h j (is_j ∙ ap (λ (n : ℕ). record { word = truth_word (Ok h); left = n }) (Finds.left other some))
+    judges_truth _ _ (after_phrase row.SUM o) h j (is_j ∙ ap (λ (n : ℕ). record { word = truth_word (Ok h); left = n }) (Finds.left other some))
     (numbers_by e t f ok is ∙ ap (λ (a : Answer). a >>= with_second e t (value e level.Sum (tree_at row.SUM (other_at row.SUM t)))) got
     ∙ ap (λ (s : Text). with_second e t (value e level.Sum (tree_at row.SUM s)) x) (sym is_o)
     ∙ ap (λ (a : Answer). with_second e t a x) (sym (Finds.number other) ∙ found) ∙ ap Ok (sym is_h))
-    (ap (after_part row.SUM) is_o ∙ sym (numbers_rest t ok))
+    (ap (after_phrase row.SUM) is_o ∙ sym (numbers_rest t ok))

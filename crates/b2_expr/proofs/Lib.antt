@@ -16,5 +16,5 @@ pub mod Defined
 pub mod Comparisons
 pub mod Judging
 pub mod PlainTexts
-pub mod Passed
+pub mod ItemsSkipped
 pub mod Reached

@@ -12,7 +12,7 @@ use Rattle.b2_atom.specs.declared.forms.Start.TheVariants as start
 use Rattle.b2_atom.specs.declared.forms.Leaf.TheVariants as leaf
 use Rattle.b2_atom.specs.declared.forms.Item.{Item}
 use Rattle.b2_atom.specs.declared.forms.Item.TheVariants.{Typed, Many}
-use Rattle.b2_rows.specs.Rows.{is_part, tree_at, after_part, is_list, list_at, after_list, Goes, Ends}
+use Rattle.b2_rows.specs.Rows.{is_phrase, tree_at, after_phrase, is_list, list_at, after_list, Goes, Ends}
 use Rattle.b2_rows.specs.Leaves.{is_leaf, leaf_bytes}
 use Rattle.b2_rows.specs.Values.{hex_byte_of}
 use Rattle.b2_rows.proofs.Lists.{goes, ended}
@@ -42,22 +42,22 @@ pairs_row : row_items row.HEX_PAIRS ≡ pairs_items
 unfolding row_items
 pairs_row = refl
 
-pub pairs_here : (t : Text) → is_part row.HEX_PAIRS t ≡ true → is_leaf leaf.HexPair t ≡ true
+pub pairs_here : (t : Text) → is_phrase row.HEX_PAIRS t ≡ true → is_leaf leaf.HexPair t ≡ true
 pairs_here t ok = (stands_of row.HEX_PAIRS pairs_items t pairs_row ok).0.0
 
-after_first : (t : Text) → is_part row.HEX_PAIRS t ≡ true → drop (leaf_width Atoms leaf.HexPair t) t ≡ drop 2 t
+after_first : (t : Text) → is_phrase row.HEX_PAIRS t ≡ true → drop (leaf_width Atoms leaf.HexPair t) t ≡ drop 2 t
 after_first t ok = ap (λ (n : ℕ). drop n t) (width_is t (pairs_here t ok))
 
-pub pairs_list : (t : Text) → is_part row.HEX_PAIRS t ≡ true → is_list start.Hex row.HEX_PAIR (drop 2 t) ≡ true
+pub pairs_list : (t : Text) → is_phrase row.HEX_PAIRS t ≡ true → is_list start.Hex row.HEX_PAIR (drop 2 t) ≡ true
 pairs_list t ok = subst (λ (u : Text). is_list start.Hex row.HEX_PAIR u ≡ true) (after_first t ok) (stands_of row.HEX_PAIRS pairs_items t pairs_row ok).0.1.0
 
-pub pairs_is : (t : Text) → is_part row.HEX_PAIRS t ≡ true
+pub pairs_is : (t : Text) → is_phrase row.HEX_PAIRS t ≡ true
     → pairs_of (tree_at row.HEX_PAIRS t) ≡ Ok (hex_byte_of (leaf_bytes leaf.HexPair t) ∷ pair_bytes (list_at start.Hex row.HEX_PAIR (drop 2 t)))
 pairs_is t ok =
     ap pairs_of (stands_of row.HEX_PAIRS pairs_items t pairs_row ok).1
     ∙ ap (λ (a : Trees). Ok (hex_byte_of (leaf_bytes leaf.HexPair t) ∷ pair_bytes a)) (also_done (list_at start.Hex row.HEX_PAIR (drop (leaf_width Atoms leaf.HexPair t) t)) ∙ ap (list_at start.Hex row.HEX_PAIR) (after_first t ok))
 
-pub pairs_rest : (t : Text) → is_part row.HEX_PAIRS t ≡ true → after_part row.HEX_PAIRS t ≡ after_list start.Hex row.HEX_PAIR (drop 2 t)
+pub pairs_rest : (t : Text) → is_phrase row.HEX_PAIRS t ≡ true → after_phrase row.HEX_PAIRS t ≡ after_list start.Hex row.HEX_PAIR (drop 2 t)
 pairs_rest t ok = (stands_of row.HEX_PAIRS pairs_items t pairs_row ok).2 ∙ ap (after_list start.Hex row.HEX_PAIR) (after_first t ok)
 
 -- a further pair
@@ -67,7 +67,7 @@ on t ok is = goes start.Hex row.HEX_PAIR t ok is
 pub pair_here : (t : Text) → is_list start.Hex row.HEX_PAIR t ≡ true → starts Atoms start.Hex t ≡ true → is_leaf leaf.HexPair t ≡ true
 pair_here t ok is = (stands_of row.HEX_PAIR pair_items t pair_row (Goes.part (on t ok is))).0.0
 
-after_pair : (t : Text) → is_list start.Hex row.HEX_PAIR t ≡ true → starts Atoms start.Hex t ≡ true → after_part row.HEX_PAIR t ≡ drop 2 t
+after_pair : (t : Text) → is_list start.Hex row.HEX_PAIR t ≡ true → starts Atoms start.Hex t ≡ true → after_phrase row.HEX_PAIR t ≡ drop 2 t
 after_pair t ok is = (stands_of row.HEX_PAIR pair_items t pair_row (Goes.part (on t ok is))).2 ∙ ap (λ (n : ℕ). drop n t) (width_is t (pair_here t ok is))
 
 pub pair_list : (t : Text) → is_list start.Hex row.HEX_PAIR t ≡ true → starts Atoms start.Hex t ≡ true → is_list start.Hex row.HEX_PAIR (drop 2 t) ≡ true
@@ -77,7 +77,7 @@ pub pair_is : (t : Text) → is_list start.Hex row.HEX_PAIR t ≡ true → start
     → pair_bytes (list_at start.Hex row.HEX_PAIR t) ≡ hex_byte_of (leaf_bytes leaf.HexPair t) ∷ pair_bytes (list_at start.Hex row.HEX_PAIR (drop 2 t))
 pair_is t ok is =
     ap pair_bytes (Goes.tree (on t ok is))
-    ∙ ap (λ (a : Trees). pair_bytes (In 1 a (list_at start.Hex row.HEX_PAIR (after_part row.HEX_PAIR t)))) (stands_of row.HEX_PAIR pair_items t pair_row (Goes.part (on t ok is))).1
+    ∙ ap (λ (a : Trees). pair_bytes (In 1 a (list_at start.Hex row.HEX_PAIR (after_phrase row.HEX_PAIR t)))) (stands_of row.HEX_PAIR pair_items t pair_row (Goes.part (on t ok is))).1
     ∙ ap (λ (u : Text). hex_byte_of (leaf_bytes leaf.HexPair t) ∷ pair_bytes (list_at start.Hex row.HEX_PAIR u)) (after_pair t ok is)
 
 pub pair_rest : (t : Text) → is_list start.Hex row.HEX_PAIR t ≡ true → starts Atoms start.Hex t ≡ true → after_list start.Hex row.HEX_PAIR t ≡ after_list start.Hex row.HEX_PAIR (drop 2 t)
@@ -110,7 +110,7 @@ wide_room (a ∷ b ∷ t) h = omega arith
 pub pair_room : (t : Text) → is_list start.Hex row.HEX_PAIR t ≡ true → starts Atoms start.Hex t ≡ true → 2 + length (drop 2 t) ≤ length t
 pair_room t ok is = wide_room t (width_is t (pair_here t ok is))
 
-pub pairs_room : (t : Text) → is_part row.HEX_PAIRS t ≡ true → 2 + length (drop 2 t) ≤ 256
+pub pairs_room : (t : Text) → is_phrase row.HEX_PAIRS t ≡ true → 2 + length (drop 2 t) ≤ 256
 pairs_room t ok = let a = wide_room t (width_is t (pairs_here t ok)) in let b = part_short row.HEX_PAIRS t ok in omega (arith, a, b)
 
 pub one_more : (a : List ℕ) (b : ℕ) (c : List ℕ) → (a ++ b ∷ []) ++ c ≡ a ++ (b ∷ c)

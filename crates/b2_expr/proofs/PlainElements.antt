@@ -10,9 +10,9 @@ use Rattle.b2_atom.specs.Words.{Text}
 use Rattle.b2_atom.specs.declared.rows.TheConstants as row
 use Rattle.b2_atom.specs.declared.forms.Start.TheVariants as start
 use Rattle.b2_atom.specs.declared.forms.Leaf.TheVariants as leaf
-use Rattle.b2_rows.specs.Rows.{is_part, tree_at, after_part}
+use Rattle.b2_rows.specs.Rows.{is_phrase, tree_at, after_phrase}
 use Rattle.b2_rows.specs.Leaves.{leaf_bytes}
-use Rattle.b2_rows.specs.Optional.{maybe_part, maybe_tree, after_maybe}
+use Rattle.b2_rows.specs.Optional.{maybe_phrase, maybe_tree, after_maybe}
 use Rattle.b2_rows.specs.Values.{variable_name}
 use Rattle.b2_rows.specs.declared.leaves.Name.{Name}
 use Rattle.b2_rows.specs.declared.operands.Operand.TheVariants as kind
@@ -48,28 +48,28 @@ places r c = record { row = subscript r; column = column_written c }
 abbrev pub inside : Text → Text
 inside t = drop 1 (drop (plain_width t) t)
 
-module _ (t : Text) (ok : is_part row.VARIABLE t ≡ true) (h : is_letter (first t) ≡ true) (opening : (first (drop (plain_width t) t) == byte.opening) ≡ true) where
+module _ (t : Text) (ok : is_phrase row.VARIABLE t ≡ true) (h : is_letter (first t) ≡ true) (opening : (first (drop (plain_width t) t) == byte.opening) ≡ true) where
   after_is : after_name name_kind.Number t ≡ drop (plain_width t) t
   after_is = ap (λ (n : ℕ). drop n t) (width_is t (number_leaf t ok) h)
 
   opened : (first (after_name name_kind.Number t) == byte.opening) ≡ true
   opened = ap (λ (u : Text). first u == byte.opening) after_is ∙ opening
 
-  there : maybe_part (start.Code byte.opening) row.SUBSCRIPTS (drop (plain_width t) t) ≡ true
-  there = subst (λ (u : Text). maybe_part (start.Code byte.opening) row.SUBSCRIPTS u ≡ true) after_is (located_subscripts name_kind.Number t ok)
+  there : maybe_phrase (start.Code byte.opening) row.SUBSCRIPTS (drop (plain_width t) t) ≡ true
+  there = subst (λ (u : Text). maybe_phrase (start.Code byte.opening) row.SUBSCRIPTS u ≡ true) after_is (located_subscripts name_kind.Number t ok)
 
-  pub row_here : is_part row.SUM (drop 1 (drop (plain_width t) t)) ≡ true
+  pub row_here : is_phrase row.SUM (drop 1 (drop (plain_width t) t)) ≡ true
   row_here = row_part (drop (plain_width t) t) there opening
 
-  pub column_here : (first (after_part row.SUM (drop 1 (drop (plain_width t) t))) == byte.comma) ≡ true → is_part row.SUM (drop 1 (after_part row.SUM (drop 1 (drop (plain_width t) t)))) ≡ true
-  column_here is = second_part (after_part row.SUM (inside t)) (column_part (drop (plain_width t) t) there opening) is
+  pub column_here : (first (after_phrase row.SUM (drop 1 (drop (plain_width t) t))) == byte.comma) ≡ true → is_phrase row.SUM (drop 1 (after_phrase row.SUM (drop 1 (drop (plain_width t) t)))) ≡ true
+  column_here is = second_part (after_phrase row.SUM (inside t)) (column_part (drop (plain_width t) t) there opening) is
 
   pub inside_shorter : length (drop 1 (drop (plain_width t) t)) < length t
   inside_shorter = let a = row_shorter (drop (plain_width t) t) opening in omega (arith, a, length-drop (plain_width t) t)
 
-  pub column_inside : (first (after_part row.SUM (drop 1 (drop (plain_width t) t))) == byte.comma) ≡ true → length (drop 1 (after_part row.SUM (drop 1 (drop (plain_width t) t)))) < length t
+  pub column_inside : (first (after_phrase row.SUM (drop 1 (drop (plain_width t) t))) == byte.comma) ≡ true → length (drop 1 (after_phrase row.SUM (drop 1 (drop (plain_width t) t)))) < length t
   column_inside is =
-      let a = second_shorter (after_part row.SUM (inside t)) is in let b = part_no_longer row.SUM (inside t) in let d = inside_shorter in omega (arith, a, b, d)
+      let a = second_shorter (after_phrase row.SUM (inside t)) is in let b = part_no_longer row.SUM (inside t) in let d = inside_shorter in omega (arith, a, b, d)
 
   variable_is : variable_of (plain_name t) true ≡ plain_array (first t) (get_or t 1 0)
   variable_is = ap (λ (b : ℕ). plain_array (first t) b) (first_of_rest t)
@@ -88,21 +88,21 @@ module _ (t : Text) (ok : is_part row.VARIABLE t ≡ true) (h : is_letter (first
       by_cell (Ok at) = ap (λ (v : Var). number_there (record { vars = e.around.own; element = record { global = false; var = v; row = at.row; column = at.column } })) variable_is
       by_cell (Err code) = refl
 
-  pub one_is : (e : Context) → (first (after_part row.SUM (drop 1 (drop (plain_width t) t))) == byte.comma) ≡ false
+  pub one_is : (e : Context) → (first (after_phrase row.SUM (drop 1 (drop (plain_width t) t))) == byte.comma) ≡ false
       → operand e kind.Variable (tree_at row.VARIABLE t) ≡ (value e level.Sum (tree_at row.SUM (drop 1 (drop (plain_width t) t))) >>= (λ r. number_in e t (subscript r) 0))
   one_is e none =
       by_places e
       ∙ ap (λ (found : Result Subscripts ℕ). found >>= (λ at. number_in e t at.row at.column)) (subscripts_is e (drop (plain_width t) t) there opening)
       ∙ by_row (value e level.Sum (tree_at row.SUM (inside t)))
     where
-      by_row : (a : Answer) → ((a >>= (λ r. second e (maybe_tree (start.Code byte.comma) row.COMMA_NUMBER (after_part row.SUM (inside t))) >>= (λ c. Ok (places r c)))) >>= (λ at. number_in e t at.row at.column))
+      by_row : (a : Answer) → ((a >>= (λ r. second e (maybe_tree (start.Code byte.comma) row.COMMA_NUMBER (after_phrase row.SUM (inside t))) >>= (λ c. Ok (places r c)))) >>= (λ at. number_in e t at.row at.column))
           ≡ (a >>= (λ r. number_in e t (subscript r) 0))
-      by_row (Ok r) = ap (λ (y : Result (Option Number) ℕ). (y >>= (λ c. Ok (places r c))) >>= (λ at. number_in e t at.row at.column)) (no_second e (after_part row.SUM (inside t)) none)
+      by_row (Ok r) = ap (λ (y : Result (Option Number) ℕ). (y >>= (λ c. Ok (places r c))) >>= (λ at. number_in e t at.row at.column)) (no_second e (after_phrase row.SUM (inside t)) none)
       by_row (Err code) = refl
 
-  pub two_is : (e : Context) → (first (after_part row.SUM (drop 1 (drop (plain_width t) t))) == byte.comma) ≡ true
+  pub two_is : (e : Context) → (first (after_phrase row.SUM (drop 1 (drop (plain_width t) t))) == byte.comma) ≡ true
       → operand e kind.Variable (tree_at row.VARIABLE t)
-      ≡ (value e level.Sum (tree_at row.SUM (drop 1 (drop (plain_width t) t))) >>= (λ r. value e level.Sum (tree_at row.SUM (drop 1 (after_part row.SUM (drop 1 (drop (plain_width t) t))))) >>= (λ c. number_in e t (subscript r) (subscript c))))
+      ≡ (value e level.Sum (tree_at row.SUM (drop 1 (drop (plain_width t) t))) >>= (λ r. value e level.Sum (tree_at row.SUM (drop 1 (after_phrase row.SUM (drop 1 (drop (plain_width t) t))))) >>= (λ c. number_in e t (subscript r) (subscript c))))
   two_is e is =
       by_places e
       ∙ ap (λ (found : Result Subscripts ℕ). found >>= (λ at. number_in e t at.row at.column)) (subscripts_is e (drop (plain_width t) t) there opening)
@@ -112,23 +112,23 @@ module _ (t : Text) (ok : is_part row.VARIABLE t ≡ true) (h : is_letter (first
       by_column r (Ok c) = refl
       by_column r (Err code) = refl
 
-      by_row : (a : Answer) → ((a >>= (λ r. second e (maybe_tree (start.Code byte.comma) row.COMMA_NUMBER (after_part row.SUM (inside t))) >>= (λ c. Ok (places r c)))) >>= (λ at. number_in e t at.row at.column))
-          ≡ (a >>= (λ r. value e level.Sum (tree_at row.SUM (drop 1 (after_part row.SUM (inside t)))) >>= (λ c. number_in e t (subscript r) (subscript c))))
+      by_row : (a : Answer) → ((a >>= (λ r. second e (maybe_tree (start.Code byte.comma) row.COMMA_NUMBER (after_phrase row.SUM (inside t))) >>= (λ c. Ok (places r c)))) >>= (λ at. number_in e t at.row at.column))
+          ≡ (a >>= (λ r. value e level.Sum (tree_at row.SUM (drop 1 (after_phrase row.SUM (inside t)))) >>= (λ c. number_in e t (subscript r) (subscript c))))
       by_row (Ok r) =
           ap (λ (y : Result (Option Number) ℕ). (y >>= (λ c. Ok (places r c))) >>= (λ at. number_in e t at.row at.column))
-          (second_is e (after_part row.SUM (inside t)) (column_part (drop (plain_width t) t) there opening) is)
-          ∙ by_column r (value e level.Sum (tree_at row.SUM (drop 1 (after_part row.SUM (inside t)))))
+          (second_is e (after_phrase row.SUM (inside t)) (column_part (drop (plain_width t) t) there opening) is)
+          ∙ by_column r (value e level.Sum (tree_at row.SUM (drop 1 (after_phrase row.SUM (inside t)))))
       by_row (Err code) = refl
 
   -- and what stands after it
-  by_rest : after_part row.VARIABLE t ≡ drop 1 (after_maybe (start.Code byte.comma) row.COMMA_NUMBER (after_part row.SUM (inside t)))
+  by_rest : after_phrase row.VARIABLE t ≡ drop 1 (after_maybe (start.Code byte.comma) row.COMMA_NUMBER (after_phrase row.SUM (inside t)))
   by_rest =
       located_rest name_kind.Number t ok
       ∙ ap (after_maybe (start.Code byte.opening) row.SUBSCRIPTS) after_is
       ∙ subscripts_rest (drop (plain_width t) t) there opening
 
-  pub one_rest : (first (after_part row.SUM (drop 1 (drop (plain_width t) t))) == byte.comma) ≡ false → after_part row.VARIABLE t ≡ drop 1 (after_part row.SUM (drop 1 (drop (plain_width t) t)))
-  one_rest none = by_rest ∙ ap (drop 1) (no_second_rest (after_part row.SUM (inside t)) none)
+  pub one_rest : (first (after_phrase row.SUM (drop 1 (drop (plain_width t) t))) == byte.comma) ≡ false → after_phrase row.VARIABLE t ≡ drop 1 (after_phrase row.SUM (drop 1 (drop (plain_width t) t)))
+  one_rest none = by_rest ∙ ap (drop 1) (no_second_rest (after_phrase row.SUM (inside t)) none)
 
-  pub two_rest : (first (after_part row.SUM (drop 1 (drop (plain_width t) t))) == byte.comma) ≡ true → after_part row.VARIABLE t ≡ drop 1 (after_part row.SUM (drop 1 (after_part row.SUM (drop 1 (drop (plain_width t) t)))))
-  two_rest is = by_rest ∙ ap (drop 1) (second_rest (after_part row.SUM (inside t)) (column_part (drop (plain_width t) t) there opening) is)
+  pub two_rest : (first (after_phrase row.SUM (drop 1 (drop (plain_width t) t))) == byte.comma) ≡ true → after_phrase row.VARIABLE t ≡ drop 1 (after_phrase row.SUM (drop 1 (after_phrase row.SUM (drop 1 (drop (plain_width t) t)))))
+  two_rest is = by_rest ∙ ap (drop 1) (second_rest (after_phrase row.SUM (inside t)) (column_part (drop (plain_width t) t) there opening) is)

@@ -16,7 +16,7 @@ use Rattle.b2_atom.specs.Leaves.{leaf_width, name_width, is_alpha_name}
 use Rattle.b2_atom.specs.declared.words.Origin.TheVariants.{Atoms}
 use Rattle.b2_atom.specs.declared.rows.TheConstants as row
 use Rattle.b2_atom.specs.declared.forms.Leaf.TheVariants as leaf
-use Rattle.b2_rows.specs.Rows.{is_part, tree_at, after_part}
+use Rattle.b2_rows.specs.Rows.{is_phrase, tree_at, after_phrase}
 use Rattle.b2_rows.specs.Leaves.{is_leaf, leaf_bytes}
 use Rattle.b2_rows.specs.Values.{variable_name, lettered, digit_in}
 use Rattle.b2_rows.specs.declared.leaves.Name.{Name}
@@ -26,7 +26,7 @@ use Rattle.b2_expr.specs.Named.{Cell, after_name, counted_digit, plain_width, va
 use Rattle.b2_expr.specs.Reads.{Finds}
 use Rattle.b2_expr.specs.Scope.{Context}
 use Rattle.b2_expr.specs.Value.{operand, subscripts, located, element_number}
-use Rattle.b2_expr.specs.declared.found.Found.{Found}
+use Rattle.b2_expr.specs.declared.evaluated.Evaluated.{Evaluated}
 use Rattle.b2_expr.specs.declared.named.NameKind.TheVariants as name_kind
 use Rattle.b2_expr.specs.declared.named.Subscripts.{Subscripts}
 use Rattle.b2_rows.specs.Choices.{operand_of}
@@ -99,7 +99,7 @@ cell_number e name array places =
 abbrev scalar_number : Context → Var → Answer
 scalar_number e v = unless (get_code v 0 0 e.around.own.table) (number_at (cell_at (shape_at v e.around.own.table) 0 0) (map.get e.around.own.table v))
 
-located_number : (e : Context) (t : Text) → is_part row.VARIABLE t ≡ true → is_letter (first t) ≡ true → (first (after_name name_kind.Number t) == byte.opening) ≡ false
+located_number : (e : Context) (t : Text) → is_phrase row.VARIABLE t ≡ true → is_letter (first t) ≡ true → (first (after_name name_kind.Number t) == byte.opening) ≡ false
     → element_number (located e false (tree_at row.VARIABLE t)) ≡ scalar_number e (scalar_named (first t) (counted_digit (get_or t 1 0)))
 located_number e t ok h none =
     ap element_number (located_is e name_kind.Number t ok)
@@ -108,11 +108,11 @@ located_number e t ok h none =
     ∙ ap (λ (name : Name). cell_number e name false (Ok (record { row = 0; column = 0 }))) (name_is t (number_leaf t ok) h)
     ∙ ap (scalar_number e) (variable_is t)
 
-pub scalar_found : (e : Context) (t : Text) (v : Var) (x : Number) (u : Text) (f : Found) → is_part row.VARIABLE t ≡ true → is_letter (first t) ≡ true → e.parameter ≡ None
+pub scalar_found : (e : Context) (t : Text) (v : Var) (x : Number) (u : Text) (f : Evaluated) → is_phrase row.VARIABLE t ≡ true → is_letter (first t) ≡ true → e.parameter ≡ None
     → u ≡ drop (plain_width t) t → (first u == byte.opening) ≡ false → v ≡ scalar_named (first t) (counted_digit (get_or t 1 0))
     → x ≡ number_at (cell_at (shape_at v e.around.own.table) 0 0) (map.get e.around.own.table v) → get_code v 0 0 e.around.own.table ≡ None
     → f ≡ record { number = Ok x; left = length u }
-    → Finds (operand e kind.Variable (tree_at row.VARIABLE t)) (after_part row.VARIABLE t) f
+    → Finds (operand e kind.Variable (tree_at row.VARIABLE t)) (after_phrase row.VARIABLE t) f
 scalar_found e t v x u f ok h free is_u none is_v is_x there is_f =
     let after : u ≡ after_name name_kind.Number t = is_u ∙ ap (λ (n : ℕ). drop n t) (sym (width_is t (number_leaf t ok) h)) in
     let plain : (first (after_name name_kind.Number t) == byte.opening) ≡ false = subst (λ (w : Text). (first w == byte.opening) ≡ false) after none in
@@ -123,7 +123,7 @@ scalar_found e t v x u f ok h free is_u none is_v is_x there is_f =
     (after ∙ sym (variable_rest t ok plain))
 
 -- and what stands after it
-pub scalar_rest : (t u : Text) → is_part row.VARIABLE t ≡ true → is_letter (first t) ≡ true → u ≡ drop (plain_width t) t → (first u == byte.opening) ≡ false → u ≡ after_part row.VARIABLE t
+pub scalar_rest : (t u : Text) → is_phrase row.VARIABLE t ≡ true → is_letter (first t) ≡ true → u ≡ drop (plain_width t) t → (first u == byte.opening) ≡ false → u ≡ after_phrase row.VARIABLE t
 scalar_rest t u ok h is_u none =
     let after : u ≡ after_name name_kind.Number t = is_u ∙ ap (λ (n : ℕ). drop n t) (sym (width_is t (number_leaf t ok) h)) in
     after ∙ sym (variable_rest t ok (subst (λ (w : Text). (first w == byte.opening) ≡ false) after none))
@@ -139,17 +139,17 @@ cell_of e name array places =
 abbrev own_scalar : Context → Var → Cell
 own_scalar e v = record { vars = e.around.own; element = record { global = false; var = v; row = 0; column = 0 } }
 
-receiver_leaf : (t : Text) → is_part row.NUMERIC_RECEIVER t ≡ true → is_leaf leaf.Name t ≡ true
+receiver_leaf : (t : Text) → is_phrase row.NUMERIC_RECEIVER t ≡ true → is_leaf leaf.Name t ≡ true
 receiver_leaf t ok = name_here name_kind.NumberReceiver t ok
 
-after_receiver : (t : Text) → is_part row.NUMERIC_RECEIVER t ≡ true → is_letter (first t) ≡ true → after_name name_kind.NumberReceiver t ≡ drop (plain_width t) t
+after_receiver : (t : Text) → is_phrase row.NUMERIC_RECEIVER t ≡ true → is_letter (first t) ≡ true → after_name name_kind.NumberReceiver t ≡ drop (plain_width t) t
 after_receiver t ok h = ap (λ (n : ℕ). drop n t) (width_is t (receiver_leaf t ok) h)
 
-alone : (t : Text) → is_part row.NUMERIC_RECEIVER t ≡ true → is_letter (first t) ≡ true → (first (drop (plain_width t) t) == byte.opening) ≡ false
+alone : (t : Text) → is_phrase row.NUMERIC_RECEIVER t ≡ true → is_letter (first t) ≡ true → (first (drop (plain_width t) t) == byte.opening) ≡ false
     → (first (after_name name_kind.NumberReceiver t) == byte.opening) ≡ false
 alone t ok h none = ap (λ (w : Text). first w == byte.opening) (after_receiver t ok h) ∙ none
 
-pub receiver_located : (e : Context) (t : Text) → is_part row.NUMERIC_RECEIVER t ≡ true → is_letter (first t) ≡ true → (first (drop (plain_width t) t) == byte.opening) ≡ false
+pub receiver_located : (e : Context) (t : Text) → is_phrase row.NUMERIC_RECEIVER t ≡ true → is_letter (first t) ≡ true → (first (drop (plain_width t) t) == byte.opening) ≡ false
     → located e false (tree_at row.NUMERIC_RECEIVER t) ≡ Ok (own_scalar e (scalar_named (first t) (counted_digit (get_or t 1 0))))
 receiver_located e t ok h none =
     located_is e name_kind.NumberReceiver t ok
@@ -158,8 +158,8 @@ receiver_located e t ok h none =
     ∙ ap (λ (name : Name). cell_of e name false (Ok (record { row = 0; column = 0 }))) (name_is t (receiver_leaf t ok) h)
     ∙ ap (λ (v : Var). Ok (own_scalar e v)) (variable_is t)
 
-pub receiver_rest : (t : Text) → is_part row.NUMERIC_RECEIVER t ≡ true → is_letter (first t) ≡ true → (first (drop (plain_width t) t) == byte.opening) ≡ false
-    → after_part row.NUMERIC_RECEIVER t ≡ drop (plain_width t) t
+pub receiver_rest : (t : Text) → is_phrase row.NUMERIC_RECEIVER t ≡ true → is_letter (first t) ≡ true → (first (drop (plain_width t) t) == byte.opening) ≡ false
+    → after_phrase row.NUMERIC_RECEIVER t ≡ drop (plain_width t) t
 receiver_rest t ok h none = located_rest name_kind.NumberReceiver t ok ∙ no_subscripts_rest (after_name name_kind.NumberReceiver t) (alone t ok h none) ∙ after_receiver t ok h
 
 -- a letter begins a variable

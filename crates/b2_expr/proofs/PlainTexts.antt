@@ -19,7 +19,7 @@ use Rattle.b2_atom.specs.Leaves.{leaf_width}
 use Rattle.b2_atom.specs.declared.words.Origin.TheVariants.{Atoms}
 use Rattle.b2_atom.specs.declared.rows.TheConstants as row
 use Rattle.b2_atom.specs.declared.forms.Leaf.TheVariants as leaf
-use Rattle.b2_rows.specs.Rows.{is_part, tree_at, after_part, list_at}
+use Rattle.b2_rows.specs.Rows.{is_phrase, tree_at, after_phrase, list_at}
 use Rattle.b2_rows.specs.Leaves.{is_leaf, leaf_bytes}
 use Rattle.b2_rows.specs.Values.{relation_of, variable_name}
 use Rattle.b2_rows.specs.Chains.{more_start}
@@ -36,7 +36,7 @@ use Rattle.b2_expr.specs.Plain.{IsPlainText}
 use Rattle.b2_expr.specs.Reads.{Judges, truth_word}
 use Rattle.b2_expr.specs.Scope.{Context}
 use Rattle.b2_expr.specs.Value.{text, further_text, text_row, text_operand, text_of_cell, literal_bytes, subscripts}
-use Rattle.b2_expr.specs.declared.found.Judged.{Judged}
+use Rattle.b2_expr.specs.declared.evaluated.Judged.{Judged}
 use Rattle.b2_expr.specs.declared.named.NameKind.TheVariants as name_kind
 use Rattle.b2_expr.specs.declared.named.Subscripts.{Subscripts}
 use Rattle.b2_expr.proofs.Comparisons.{texts_is, texts_rest}
@@ -47,7 +47,7 @@ use Rattle.b2_expr.proofs.Operands.{sign_at, sign_size, other_at}
 use Rattle.b2_expr.proofs.Texts.{text_value, text_rest, off_value, off_rest, value_taken, variable_text}
 
 -- the name of a scalar
-pub alpha_leaf : (t : Text) → is_part row.ALPHA_VARIABLE t ≡ true → is_leaf leaf.AlphaName t ≡ true
+pub alpha_leaf : (t : Text) → is_phrase row.ALPHA_VARIABLE t ≡ true → is_leaf leaf.AlphaName t ≡ true
 alpha_leaf t ok = name_here name_kind.Alpha t ok
 
 pub alpha_legal : (t : Text) (name : Name) (v : Var) → is_letter name.letter ≡ true → name ≡ variable_name true (leaf_bytes leaf.AlphaName t) → v ≡ variable_of name false → is_legal_name v ≡ true
@@ -78,10 +78,10 @@ text_had s v all has =
     ∙ ap (λ (b : List ℕ). Ok (value_of b)) (sym has.0)
 
 -- a scalar
-pub scalar_plain_text : (own : VarsState) (t : Text) (name : Name) (width : ℕ) (rest : Text) (v : Var) (all part : List ℕ) (n : ℕ) → is_part row.ALPHA_VARIABLE t ≡ true
+pub scalar_plain_text : (own : VarsState) (t : Text) (name : Name) (width : ℕ) (rest : Text) (v : Var) (all part : List ℕ) (n : ℕ) → is_phrase row.ALPHA_VARIABLE t ≡ true
     → name ≡ variable_name true (leaf_bytes leaf.AlphaName t) → width ≡ leaf_width Atoms leaf.AlphaName t → rest ≡ drop width t → name.global ≡ false → (first rest == byte.opening) ≡ false
     → v ≡ variable_of name false → HasText own v all → n ≡ length (value_of all) → part ≡ take n all
-    → IsPlainText (λ e. text_operand e alpha_kind.Variable (tree_at row.ALPHA_VARIABLE t)) (after_part row.ALPHA_VARIABLE t) own part rest
+    → IsPlainText (λ e. text_operand e alpha_kind.Variable (tree_at row.ALPHA_VARIABLE t)) (after_phrase row.ALPHA_VARIABLE t) own part rest
 scalar_plain_text own t name width rest v all part n ok is_name is_width is_rest local none is_v has is_n is_part_of =
     let at : rest ≡ after_name name_kind.Alpha t = is_rest ∙ ap (λ (k : ℕ). drop k t) is_width in
     let plain : (first (after_name name_kind.Alpha t) == byte.opening) ≡ false = subst (λ (w : Text). (first w == byte.opening) ≡ false) at none in
@@ -101,25 +101,25 @@ scalar_plain_text own t name width rest v all part n ok is_name is_width is_rest
     )
 
 -- an operand
-pub literal_plain : (own : VarsState) (t bytes left : Text) → is_part row.ALPHA_OPERAND t ≡ true → alpha_operand_of (first t) ≡ alpha_kind.Literal → literal_bytes (tree_at row.LITERAL t) ≡ Ok bytes
-    → left ≡ after_part row.LITERAL t → IsPlainText (λ e. text_row e (tree_at row.ALPHA_OPERAND t)) (after_part row.ALPHA_OPERAND t) own bytes left
+pub literal_plain : (own : VarsState) (t bytes left : Text) → is_phrase row.ALPHA_OPERAND t ≡ true → alpha_operand_of (first t) ≡ alpha_kind.Literal → literal_bytes (tree_at row.LITERAL t) ≡ Ok bytes
+    → left ≡ after_phrase row.LITERAL t → IsPlainText (λ e. text_row e (tree_at row.ALPHA_OPERAND t)) (after_phrase row.ALPHA_OPERAND t) own bytes left
 literal_plain own t bytes left ok is value rest = (λ e outside same. literal_gives e t ok is ∙ value, rest ∙ sym (literal_left t ok is))
 
-pub variable_plain_text : (own : VarsState) (t bytes left : Text) → is_part row.ALPHA_OPERAND t ≡ true → alpha_operand_of (first t) ≡ alpha_kind.Variable
-    → IsPlainText (λ e. text_operand e alpha_kind.Variable (tree_at row.ALPHA_VARIABLE t)) (after_part row.ALPHA_VARIABLE t) own bytes left
-    → IsPlainText (λ e. text_row e (tree_at row.ALPHA_OPERAND t)) (after_part row.ALPHA_OPERAND t) own bytes left
+pub variable_plain_text : (own : VarsState) (t bytes left : Text) → is_phrase row.ALPHA_OPERAND t ≡ true → alpha_operand_of (first t) ≡ alpha_kind.Variable
+    → IsPlainText (λ e. text_operand e alpha_kind.Variable (tree_at row.ALPHA_VARIABLE t)) (after_phrase row.ALPHA_VARIABLE t) own bytes left
+    → IsPlainText (λ e. text_row e (tree_at row.ALPHA_OPERAND t)) (after_phrase row.ALPHA_OPERAND t) own bytes left
 variable_plain_text own t bytes left ok is p = (λ e outside same. alpha_variable_gives e t ok is ∙ p.0 e outside same, p.1 ∙ sym (alpha_variable_left t ok is))
 
 -- where one is found
-pub literal_some : (own : VarsState) (t : Text) (r : Option (Bor Text × Bor Text)) → is_part row.ALPHA_OPERAND t ≡ true → alpha_operand_of (first t) ≡ alpha_kind.Literal
-    → IfSome r (λ p. (literal_bytes (tree_at row.LITERAL t) ≡ Ok p.0.now) × (p.1.now ≡ after_part row.LITERAL t))
-    → IfSome r (λ p. IsPlainText (λ e. text_row e (tree_at row.ALPHA_OPERAND t)) (after_part row.ALPHA_OPERAND t) own p.0.now p.1.now)
+pub literal_some : (own : VarsState) (t : Text) (r : Option (Bor Text × Bor Text)) → is_phrase row.ALPHA_OPERAND t ≡ true → alpha_operand_of (first t) ≡ alpha_kind.Literal
+    → IfSome r (λ p. (literal_bytes (tree_at row.LITERAL t) ≡ Ok p.0.now) × (p.1.now ≡ after_phrase row.LITERAL t))
+    → IfSome r (λ p. IsPlainText (λ e. text_row e (tree_at row.ALPHA_OPERAND t)) (after_phrase row.ALPHA_OPERAND t) own p.0.now p.1.now)
 literal_some own t None ok is h = h
 literal_some own t (Some p) ok is h = literal_plain own t p.0.now p.1.now ok is h.0 h.1
 
-pub variable_some : (own : VarsState) (t : Text) (r : Option (Bor Text × Bor Text)) → is_part row.ALPHA_OPERAND t ≡ true → alpha_operand_of (first t) ≡ alpha_kind.Variable
-    → IfSome r (λ p. IsPlainText (λ e. text_operand e alpha_kind.Variable (tree_at row.ALPHA_VARIABLE t)) (after_part row.ALPHA_VARIABLE t) own p.0.now p.1.now)
-    → IfSome r (λ p. IsPlainText (λ e. text_row e (tree_at row.ALPHA_OPERAND t)) (after_part row.ALPHA_OPERAND t) own p.0.now p.1.now)
+pub variable_some : (own : VarsState) (t : Text) (r : Option (Bor Text × Bor Text)) → is_phrase row.ALPHA_OPERAND t ≡ true → alpha_operand_of (first t) ≡ alpha_kind.Variable
+    → IfSome r (λ p. IsPlainText (λ e. text_operand e alpha_kind.Variable (tree_at row.ALPHA_VARIABLE t)) (after_phrase row.ALPHA_VARIABLE t) own p.0.now p.1.now)
+    → IfSome r (λ p. IsPlainText (λ e. text_row e (tree_at row.ALPHA_OPERAND t)) (after_phrase row.ALPHA_OPERAND t) own p.0.now p.1.now)
 variable_some own t None ok is h = h
 variable_some own t (Some p) ok is h = variable_plain_text own t p.0.now p.1.now ok is h
 
@@ -131,30 +131,30 @@ kept : (b : Bool) (bytes : List ℕ) → b ≡ true → (if b then Ok bytes else
 kept true bytes h = refl
 kept false bytes h = cc
 
-pub text_alone : (own : VarsState) (t bytes left : Text) → is_part row.ALPHA t ≡ true → IsPlainText (λ e. text_row e (tree_at row.ALPHA_OPERAND t)) (after_part row.ALPHA_OPERAND t) own bytes left
-    → (first left == byte.ampersand) ≡ false → length bytes ≤ 255 → IsPlainText (λ e. text e (tree_at row.ALPHA t)) (after_part row.ALPHA t) own bytes left
+pub text_alone : (own : VarsState) (t bytes left : Text) → is_phrase row.ALPHA t ≡ true → IsPlainText (λ e. text_row e (tree_at row.ALPHA_OPERAND t)) (after_phrase row.ALPHA_OPERAND t) own bytes left
+    → (first left == byte.ampersand) ≡ false → length bytes ≤ 255 → IsPlainText (λ e. text e (tree_at row.ALPHA t)) (after_phrase row.ALPHA t) own bytes left
 text_alone own t bytes left ok p none few =
-    let ends : (first (after_part row.ALPHA_OPERAND t) == byte.ampersand) ≡ false = subst (λ (w : Text). (first w == byte.ampersand) ≡ false) p.1 none in (
+    let ends : (first (after_phrase row.ALPHA_OPERAND t) == byte.ampersand) ≡ false = subst (λ (w : Text). (first w == byte.ampersand) ≡ false) p.1 none in (
       λ e outside same.
           text_value e t ok
-          ∙ ap (λ (x : TextAnswer). further_text e (x >>= joined_text []) (list_at (more_start chain.Alpha) row.JOINED (after_part row.ALPHA_OPERAND t))) (p.0 e outside same)
-          ∙ off_value e (joined_text [] bytes) (after_part row.ALPHA_OPERAND t) ends
+          ∙ ap (λ (x : TextAnswer). further_text e (x >>= joined_text []) (list_at (more_start chain.Alpha) row.JOINED (after_phrase row.ALPHA_OPERAND t))) (p.0 e outside same)
+          ∙ off_value e (joined_text [] bytes) (after_phrase row.ALPHA_OPERAND t) ends
           ∙ kept (nat_le (0 + length bytes) 255) bytes (few_bytes (length bytes) few),
-      p.1 ∙ sym (off_rest (after_part row.ALPHA_OPERAND t) ends) ∙ sym (text_rest t ok),
+      p.1 ∙ sym (off_rest (after_phrase row.ALPHA_OPERAND t) ends) ∙ sym (text_rest t ok),
     )
 
 -- two that are compared
 abbrev compared_with : Text → TextAnswer → List ℕ → Result Bool ℕ
 compared_with t other x = other >>= (λ y. Ok (holds (relation_of (take (sign_size row.ALPHA t) (sign_at row.ALPHA t))) (order_of x y)))
 
-pub plain_judged : (e : Context) (own : VarsState) (t s o x y rest : Text) (h : Bool) (j : Judged) → is_part row.ALPHA_COMPARISON t ≡ true → e.parameter ≡ None → e.around.own ≡ own
-    → IsPlainText (λ e. text e (tree_at row.ALPHA t)) (after_part row.ALPHA t) own x s → o ≡ other_at row.ALPHA t → IsPlainText (λ e. text e (tree_at row.ALPHA o)) (after_part row.ALPHA o) own y rest
+pub plain_judged : (e : Context) (own : VarsState) (t s o x y rest : Text) (h : Bool) (j : Judged) → is_phrase row.ALPHA_COMPARISON t ≡ true → e.parameter ≡ None → e.around.own ≡ own
+    → IsPlainText (λ e. text e (tree_at row.ALPHA t)) (after_phrase row.ALPHA t) own x s → o ≡ other_at row.ALPHA t → IsPlainText (λ e. text e (tree_at row.ALPHA o)) (after_phrase row.ALPHA o) own y rest
     → h ≡ holds (relation_of (take (sign_size row.ALPHA t) (sign_at row.ALPHA t))) (order_of x y) → j ≡ record { word = truth_word (Ok h); left = length rest }
-    → Judges (compared_text e (tree_at row.ALPHA_COMPARISON t)) (after_part row.ALPHA_COMPARISON t) j
+    → Judges (compared_text e (tree_at row.ALPHA_COMPARISON t)) (after_phrase row.ALPHA_COMPARISON t) j
 plain_judged e own t s o x y rest h j ok outside same p is_o q is_h is_j =
     judges_truth _ _ rest h j is_j
     (texts_is e t ok
     ∙ ap (λ (a : TextAnswer). a >>= compared_with t (text e (tree_at row.ALPHA (other_at row.ALPHA t)))) (p.0 e outside same)
     ∙ ap (λ (w : Text). compared_with t (text e (tree_at row.ALPHA w)) x) (sym is_o)
     ∙ ap (λ (a : TextAnswer). compared_with t a x) (q.0 e outside same) ∙ ap Ok (sym is_h))
-    (q.1 ∙ ap (after_part row.ALPHA) is_o ∙ sym (texts_rest t ok))
+    (q.1 ∙ ap (after_phrase row.ALPHA) is_o ∙ sym (texts_rest t ok))

@@ -5,7 +5,7 @@ use Rattle.b2_atom.specs.Words.{Text}
 use Rattle.b2_atom.specs.Tree.{Outcome, atoms}
 use Rattle.b2_atom.specs.Lines.{left_after}
 use Rattle.b2_atom.proofs.reading.Sound.{Takes}
-use Rattle.b2_rows.specs.Rows.{reading_row, after_part}
+use Rattle.b2_rows.specs.Rows.{reading_row, after_phrase}
 use Rattle.b2_rows.proofs.Levels.{takes_reading}
 use Rattle.b2_expr.specs.Reads.{last}
 
@@ -23,12 +23,12 @@ outcome_tail : (t : Text) (o : Outcome) → Takes t o → last (length (left_aft
 outcome_tail t (Ok p) h = subst (λ (u : Text). last (length p.1) u ≡ p.1) h (last_of (atoms p.0) p.1)
 outcome_tail t (Err e) h = no_bytes t
 
-pub part_tail : (n : ℕ) (t : Text) → last (length (after_part n t)) t ≡ after_part n t
-unfolding after_part
+pub part_tail : (n : ℕ) (t : Text) → last (length (after_phrase n t)) t ≡ after_phrase n t
+unfolding after_phrase
 part_tail n t = outcome_tail t (reading_row n t) (takes_reading n t)
 
 -- by how many bytes are left
-pub tail_by : (n left : ℕ) (t : Text) → left ≡ length (after_part n t) → last left t ≡ after_part n t
+pub tail_by : (n left : ℕ) (t : Text) → left ≡ length (after_phrase n t) → last left t ≡ after_phrase n t
 tail_by n left t is = ap (λ (k : ℕ). last k t) is ∙ part_tail n t
 
 -- and one byte less

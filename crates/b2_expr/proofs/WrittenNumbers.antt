@@ -14,11 +14,11 @@ use Rattle.b2_atom.specs.Words.{Text}
 use Rattle.b2_atom.specs.Leaves.{number_width, number_width_by, mantissa_width, mantissa_of}
 use Rattle.b2_atom.specs.declared.words.Origin.TheVariants.{Atoms}
 use Rattle.b2_atom.specs.declared.rows.TheConstants as row
-use Rattle.b2_rows.specs.Rows.{is_part, tree_at, after_part}
+use Rattle.b2_rows.specs.Rows.{is_phrase, tree_at, after_phrase}
 use Rattle.b2_expr.specs.Plain.{is_one_digit}
 use Rattle.b2_expr.specs.Reads.{Finds}
 use Rattle.b2_expr.specs.Value.{literal_number, literal_value}
-use Rattle.b2_expr.specs.declared.found.Found.{Found}
+use Rattle.b2_expr.specs.declared.evaluated.Evaluated.{Evaluated}
 use Rattle.b2_expr.proofs.Chained.{finds_with}
 use Rattle.b2_expr.proofs.Operands.{literal_is, literal_rest, literal_here}
 use Rattle.b2_dectext.specs.Digits.{AreDigits, value_after}
@@ -161,10 +161,10 @@ pointed_number t n f there whole point digits end =
     )
 
 -- What is taken of a number in one pass: its digits, where no point stands after them,
-pub whole_taken : (t after : Text) (whole : ℕ) → is_part row.NUMBER t ≡ true
+pub whole_taken : (t after : Text) (whole : ℕ) → is_phrase row.NUMBER t ≡ true
     → (is_digit (first after) ≡ false → whole ≡ value_after 0 (take (digits_width t) t)) → (is_digit (first after) ≡ false → after ≡ drop (digits_width t) t)
     → (first after ≡ byte.point → ⊥) → is_digit (first after) ≡ false → (first after == byte.upper_e) ≡ false
-    → (literal_number (tree_at row.NUMBER t) ≡ rnd Round false whole (10 ^ 0)) × (after ≡ after_part row.NUMBER t)
+    → (literal_number (tree_at row.NUMBER t) ≡ rnd Round false whole (10 ^ 0)) × (after ≡ after_phrase row.NUMBER t)
 whole_taken t after whole there value left point stop end =
     let is : after ≡ drop (digits_width t) t = left stop in
     let other : (first (drop (digits_width t) t) == byte.point) ≡ false = ap (λ (u : Text). first u == byte.point) (sym is) ∙ ne_eqb _ _ point in
@@ -173,12 +173,12 @@ whole_taken t after whole there value left point stop end =
     (literal_is t there ∙ number.0 ∙ ap (λ n. rnd Round false n (10 ^ 0)) (sym (value stop)), is ∙ sym (literal_rest t there ∙ number.1))
 
 -- and the digits on both sides of a point.
-pub pointed_taken : (t after fraction rest : Text) (whole digits : ℕ) → is_part row.NUMBER t ≡ true
+pub pointed_taken : (t after fraction rest : Text) (whole digits : ℕ) → is_phrase row.NUMBER t ≡ true
     → (is_digit (first after) ≡ false → whole ≡ value_after 0 (take (digits_width t) t)) → (is_digit (first after) ≡ false → after ≡ drop (digits_width t) t)
     → first after ≡ byte.point → fraction ≡ drop 1 after
     → (is_digit (first rest) ≡ false → digits ≡ value_after whole (take (digits_width fraction) fraction)) → (is_digit (first rest) ≡ false → rest ≡ drop (digits_width fraction) fraction)
     → is_digit (first rest) ≡ false → (first rest == byte.upper_e) ≡ false
-    → (literal_number (tree_at row.NUMBER t) ≡ rnd Round false digits (10 ^ (length fraction - length rest))) × (rest ≡ after_part row.NUMBER t)
+    → (literal_number (tree_at row.NUMBER t) ≡ rnd Round false digits (10 ^ (length fraction - length rest))) × (rest ≡ after_phrase row.NUMBER t)
 pointed_taken t after fraction rest whole digits there value left point tail more others stop end =
     let seen : is_digit (first after) ≡ false = ap is_digit point in
     let is : after ≡ drop (digits_width t) t = left seen in
@@ -230,8 +230,8 @@ begins_digit t h = begins_with_digit (first t) (get_or t 1 0) h
 digit_small : (digit value : ℕ) → is_digit digit ≡ true → value ≡ digit - 48 → value < 10
 digit_small digit value h is = grind (arith, nat_tests)
 
-pub digit_finds : (t : Text) (x : Number) (f : Found) → is_part row.NUMBER t ≡ true → is_one_digit t ≡ true → rnd Round false (first t - 48) 1 ≡ Ok x
-    → f ≡ record { number = Ok x; left = length t - 1 } → Finds (literal_number (tree_at row.NUMBER t)) (after_part row.NUMBER t) f
+pub digit_finds : (t : Text) (x : Number) (f : Evaluated) → is_phrase row.NUMBER t ≡ true → is_one_digit t ≡ true → rnd Round false (first t - 48) 1 ≡ Ok x
+    → f ≡ record { number = Ok x; left = length t - 1 } → Finds (literal_number (tree_at row.NUMBER t)) (after_phrase row.NUMBER t) f
 digit_finds t x f there one got is_f =
     let point : (first (drop 1 t) == byte.point) ≡ false = ap (λ b. b == byte.point) (sym (at_place 1 t)) ∙ no_point_after (first t) (get_or t 1 0) one in
     let end : (first (drop 1 t) == byte.upper_e) ≡ false = ap (λ b. b == byte.upper_e) (sym (at_place 1 t)) ∙ no_exponent_after (first t) (get_or t 1 0) one in

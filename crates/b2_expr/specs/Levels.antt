@@ -3,7 +3,7 @@ use Rattle.std.specs.Prelude.{ℕ, ◌&&◌, Bool, true, false}
 use Rattle.b2_atom.specs.Words.{Text}
 use Rattle.b2_atom.specs.Tree.{Trees}
 use Rattle.b2_atom.specs.declared.rows.TheConstants as row
-use Rattle.b2_rows.specs.Rows.{after_part, list_at, after_list}
+use Rattle.b2_rows.specs.Rows.{after_phrase, list_at, after_list}
 use Rattle.b2_rows.specs.Chains.{is_operator_of, more_row, more_start}
 use Rattle.b2_rows.specs.declared.chains.Chain.{Chain}
 use Rattle.b2_rows.specs.declared.chains.Chain.TheVariants as chain
@@ -43,7 +43,7 @@ after_of l t = after_list (more_start (chain_of l)) (more_row (chain_of l)) t
 
 -- what stands after the first item
 abbrev pub tail_of : Level → Text → Text
-tail_of l t = after_part (row_of_level (item_level l)) t
+tail_of l t = after_phrase (row_of_level (item_level l)) t
 
 -- whether a byte is an operator of a level
 abbrev pub is_operator : Level → ℕ → Bool

@@ -6,13 +6,13 @@ use Rattle.b2_dec.specs.declared.number.Mode.{Mode}
 use Rattle.b2_vars.specs.Tables.{VarsState}
 use Rattle.b2_atom.specs.Words.{Text}
 use Rattle.b2_atom.specs.declared.rows.TheConstants as row
-use Rattle.b2_rows.specs.Rows.{tree_at, after_part}
+use Rattle.b2_rows.specs.Rows.{tree_at, after_phrase}
 use Rattle.b2_expr.specs.Answers.{TextAnswer}
 use Rattle.b2_expr.specs.Levels.{row_of_level}
 use Rattle.b2_expr.specs.Reads.{Finds}
 use Rattle.b2_expr.specs.Scope.{Context}
 use Rattle.b2_expr.specs.Value.{value}
-use Rattle.b2_expr.specs.declared.found.Found.{Found}
+use Rattle.b2_expr.specs.declared.evaluated.Evaluated.{Evaluated}
 use Rattle.b2_expr.specs.declared.operators.Level.{Level}
 use Rattle.b2_expr.specs.declared.operators.Level.TheVariants as level
 
@@ -25,14 +25,14 @@ abbrev pub is_operator : ℕ → Bool
 is_operator b = b == byte.plus || (b == byte.minus || (b == byte.asterisk || (b == byte.slash || b == byte.caret)))
 
 -- What is found outside functions, where it is a number: how many bytes are left after it, and the value.
-pub record IsPlain (own : VarsState) (l : Level) (t : Text) (f : Found) : Type 0 where
-  pub left : is_err f.number ≡ false → f.left ≡ length (after_part (row_of_level l) t)
+pub record IsPlain (own : VarsState) (l : Level) (t : Text) (f : Evaluated) : Type 0 where
+  pub left : is_err f.number ≡ false → f.left ≡ length (after_phrase (row_of_level l) t)
   pub number : is_err f.number ≡ false → (e : Context) → e.parameter ≡ None → e.around.own ≡ own → f.number ≡ value e l (tree_at (row_of_level l) t)
 
-abbrev pub IsPlainSum : VarsState → Mode → Text → Found → Type 0
+abbrev pub IsPlainSum : VarsState → Mode → Text → Evaluated → Type 0
 IsPlainSum own mode t f =
     is_err f.number ≡ false → (e : Context) → e.parameter ≡ None → e.around.own ≡ own → e.around.mode ≡ mode
-    → Finds (value e level.Sum (tree_at row.SUM t)) (after_part row.SUM t) f
+    → Finds (value e level.Sum (tree_at row.SUM t)) (after_phrase row.SUM t) f
 
 -- the bytes of an alpha expression outside functions, and what is left after it
 abbrev pub IsPlainText : (Context → TextAnswer) → Text → VarsState → List ℕ → Text → Type 0

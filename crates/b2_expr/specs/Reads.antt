@@ -4,8 +4,8 @@ use Rattle.std.specs.Borrow.{Bor}
 use Rattle.b2_atom.specs.Words.{Text}
 use Rattle.b2_expr.specs.Answers.{Answer, TextAnswer, ◌>>=◌}
 use Rattle.b2_expr.specs.Functions.{joined_text}
-use Rattle.b2_expr.specs.declared.found.Found.{Found}
-use Rattle.b2_expr.specs.declared.found.Judged.{Judged}
+use Rattle.b2_expr.specs.declared.evaluated.Evaluated.{Evaluated}
+use Rattle.b2_expr.specs.declared.evaluated.Judged.{Judged}
 
 -- a value and what is left of the text, or its code
 abbrev pub Gives : {A : Type 0} → Result A ℕ → Text → Result (A × Bor Text) ℕ → Type 0
@@ -17,7 +17,7 @@ abbrev pub last : ℕ → Text → Text
 last n t = drop (length t - n) t
 
 -- a number or a code, and where there is no code how many bytes are left of the text
-pub record Finds (answer : Answer) (rest : Text) (found : Found) : Type 0 where
+pub record Finds (answer : Answer) (rest : Text) (found : Evaluated) : Type 0 where
   pub number : found.number ≡ answer
   pub left : is_err found.number ≡ false → found.left ≡ length rest
 

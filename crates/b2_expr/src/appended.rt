@@ -1,7 +1,7 @@
 // Alpha operands that evaluate nothing, put after other bytes.
 ghost use Rattle.std.specs.Prelude.{◌≡◌, ◌≤◌, [], true, length, MatchResult, Ok, Err};
 ghost use Rattle.b2_atom.specs.declared.rows.TheConstants as row;
-ghost use Rattle.b2_rows.specs.Rows.{is_part, tree_at, after_part};
+ghost use Rattle.b2_rows.specs.Rows.{is_phrase, tree_at, after_phrase};
 ghost use Rattle.b2_expr.specs.Functions.{joined_number, joined_text};
 ghost use Rattle.b2_expr.specs.Reads.{Appends};
 ghost use Rattle.b2_expr.specs.Value.{bytes_of_part, hex_bytes, literal_bytes, pairs_of};
@@ -28,8 +28,8 @@ pub fn join_text(bytes: &[u8], into: &mut Bytes) -> Result<(), Code>
 /// Bytes in quotes.
 #[tactic(auto, using(crate::proofs::Texts::quoted_here, crate::proofs::Texts::quoted_is, crate::proofs::Texts::quoted_rest))]
 pub fn quoted_at<'a>(text: &'a [u8], into: &mut Bytes) -> Result<&'a [u8], Code>
-    requires part { is_part row.LITERAL text.now ≡ true }
-    ensures { Appends (literal_bytes (tree_at row.LITERAL text.now)) (after_part row.LITERAL text.now) into.old into.new result }
+    requires phrase { is_phrase row.LITERAL text.now ≡ true }
+    ensures { Appends (literal_bytes (tree_at row.LITERAL text.now)) (after_phrase row.LITERAL text.now) into.old into.new result }
 {
     match join_text(b2_rows::quoted_at(text), into) {
         Ok(()) => Ok(rest_after(text, literal_width(text))),
@@ -40,10 +40,10 @@ pub fn quoted_at<'a>(text: &'a [u8], into: &mut Bytes) -> Result<&'a [u8], Code>
 /// The bytes of pairs of hexadecimal digits, of which there is one at least, and what stands after them.
 #[tactic(auto, using(crate::proofs::Pairs::pairs_here, crate::proofs::Pairs::pairs_list, crate::proofs::Pairs::pairs_is, crate::proofs::Pairs::pairs_rest, crate::proofs::Pairs::pair_here, crate::proofs::Pairs::pair_list, crate::proofs::Pairs::pair_is, crate::proofs::Pairs::pair_rest, crate::proofs::Pairs::pair_shorter, crate::proofs::Pairs::none_is, crate::proofs::Pairs::none_rest, crate::proofs::Pairs::pairs_room, crate::proofs::Pairs::pair_room, crate::proofs::Pairs::one_more))]
 fn pairs_at<'a>(text: &'a [u8], into: &mut Bytes) -> &'a [u8]
-    requires part { is_part row.HEX_PAIRS text.now ≡ true }
+    requires phrase { is_phrase row.HEX_PAIRS text.now ≡ true }
     requires empty { into.old ≡ [] }
     ensures bytes { pairs_of (tree_at row.HEX_PAIRS text.now) ≡ Ok into.new }
-    ensures rest { result.now ≡ after_part row.HEX_PAIRS text.now }
+    ensures rest { result.now ≡ after_phrase row.HEX_PAIRS text.now }
 {
     into.push(hex_byte_at(text));
     let mut left = rest_after(text, 2);
@@ -57,8 +57,8 @@ fn pairs_at<'a>(text: &'a [u8], into: &mut Bytes) -> &'a [u8]
 /// HEX.
 #[tactic(auto, using(crate::proofs::Texts::hex_pairs, crate::proofs::Texts::hex_is, crate::proofs::Texts::hex_rest))]
 pub fn hex_at<'a>(text: &'a [u8], into: &mut Bytes) -> Result<&'a [u8], Code>
-    requires part { is_part row.HEX text.now ≡ true }
-    ensures { Appends (hex_bytes (tree_at row.HEX text.now)) (after_part row.HEX text.now) into.old into.new result }
+    requires phrase { is_phrase row.HEX text.now ≡ true }
+    ensures { Appends (hex_bytes (tree_at row.HEX text.now)) (after_phrase row.HEX text.now) into.old into.new result }
 {
     let mut bytes = Bytes::new();
     let rest = pairs_at(rest_after(text, 1), &mut bytes);

@@ -1,14 +1,14 @@
 // The truth of conditions, along their bytes.
 ghost use Rattle.std.specs.Prelude.{◌≡◌, nat_le, true, false};
 ghost use Rattle.b2_atom.specs.declared.rows.TheConstants as row;
-ghost use Rattle.b2_rows.specs.Rows.{is_part, tree_at, after_part};
+ghost use Rattle.b2_rows.specs.Rows.{is_phrase, tree_at, after_phrase};
 ghost use Rattle.b2_expr.specs.Condition.{compared_text, compared_numbers, compared, truth};
 ghost use Rattle.b2_expr.specs.Reads.{Judges};
 ghost use Rattle.b2_expr.specs.Scope.{surroundings};
 ghost use Rattle.b2_expr.specs.Value.{in_statement};
 
 use crate::evaluate::alpha;
-use crate::found::{Judged, after_sum, last_bytes};
+use crate::evaluated::{Judged, after_sum, last_bytes};
 use crate::operators::joined_condition;
 use crate::plain::plain_text;
 use crate::scope::Env;
@@ -22,8 +22,8 @@ use b2_rows::{Chain, goes_on, is_alpha_at, relation_at};
 /// A condition: comparisons joined from the left, all of which are evaluated.
 #[tactic(auto, using(crate::proofs::Comparisons::truth_first))]
 pub fn truth(e: &Env<'_>, text: &[u8]) -> Judged
-    requires part { is_part row.CONDITION text.now ≡ true }
-    ensures { Judges (truth (in_statement (surroundings e.now)) (tree_at row.CONDITION text.now)) (after_part row.CONDITION text.now) result }
+    requires phrase { is_phrase row.CONDITION text.now ≡ true }
+    ensures { Judges (truth (in_statement (surroundings e.now)) (tree_at row.CONDITION text.now)) (after_phrase row.CONDITION text.now) result }
 {
     let start = comparison(e, text);
     if start.is_code() {
@@ -47,8 +47,8 @@ pub fn truth(e: &Env<'_>, text: &[u8]) -> Judged
 /// A comparison of two alpha expressions or of two numeric ones.
 #[tactic(auto, using(crate::proofs::Comparisons::alpha_here, crate::proofs::Comparisons::alpha_gives, crate::proofs::Comparisons::alpha_left, crate::proofs::Comparisons::numeric_here, crate::proofs::Comparisons::numeric_gives, crate::proofs::Comparisons::numeric_left, crate::proofs::Judging::judges_same))]
 fn comparison(e: &Env<'_>, text: &[u8]) -> Judged
-    requires part { is_part row.COMPARISON text.now ≡ true }
-    ensures { Judges (compared (in_statement (surroundings e.now)) (tree_at row.COMPARISON text.now)) (after_part row.COMPARISON text.now) result }
+    requires phrase { is_phrase row.COMPARISON text.now ≡ true }
+    ensures { Judges (compared (in_statement (surroundings e.now)) (tree_at row.COMPARISON text.now)) (after_phrase row.COMPARISON text.now) result }
 {
     if is_alpha_at(text) {
         alpha_comparison(e, text)
@@ -60,8 +60,8 @@ fn comparison(e: &Env<'_>, text: &[u8]) -> Judged
 /// A comparison of two alpha expressions by their bytes: where they lie, if both are plain.
 #[inline(always)]
 fn alpha_comparison(e: &Env<'_>, text: &[u8]) -> Judged
-    requires part { is_part row.ALPHA_COMPARISON text.now ≡ true }
-    ensures { Judges (compared_text (in_statement (surroundings e.now)) (tree_at row.ALPHA_COMPARISON text.now)) (after_part row.ALPHA_COMPARISON text.now) result }
+    requires phrase { is_phrase row.ALPHA_COMPARISON text.now ≡ true }
+    ensures { Judges (compared_text (in_statement (surroundings e.now)) (tree_at row.ALPHA_COMPARISON text.now)) (after_phrase row.ALPHA_COMPARISON text.now) result }
 {
     let found = plain_comparison(e, text);
     if found.is_code() {
@@ -74,8 +74,8 @@ fn alpha_comparison(e: &Env<'_>, text: &[u8]) -> Judged
 #[tactic(auto, using(crate::proofs::Comparisons::texts_first, crate::proofs::Comparisons::texts_sign, crate::proofs::Comparisons::texts_second))]
 #[inline(always)]
 fn plain_comparison(e: &Env<'_>, text: &[u8]) -> Judged
-    requires part { is_part row.ALPHA_COMPARISON text.now ≡ true }
-    ensures { nat_le 2 result.word ≡ false → Judges (compared_text (in_statement (surroundings e.now)) (tree_at row.ALPHA_COMPARISON text.now)) (after_part row.ALPHA_COMPARISON text.now) result }
+    requires phrase { is_phrase row.ALPHA_COMPARISON text.now ≡ true }
+    ensures { nat_le 2 result.word ≡ false → Judges (compared_text (in_statement (surroundings e.now)) (tree_at row.ALPHA_COMPARISON text.now)) (after_phrase row.ALPHA_COMPARISON text.now) result }
 {
     let Some((left, sign)) = plain_text(e.own, text) else {
         return Judged::not_plain();
@@ -90,8 +90,8 @@ fn plain_comparison(e: &Env<'_>, text: &[u8]) -> Judged
 /// A comparison of two alpha expressions by copies of their bytes.
 #[tactic(auto, using(crate::proofs::Comparisons::texts_first, crate::proofs::Comparisons::texts_sign, crate::proofs::Comparisons::texts_second, crate::proofs::Comparisons::texts_is, crate::proofs::Comparisons::texts_rest))]
 fn copied_comparison(e: &Env<'_>, text: &[u8]) -> Judged
-    requires part { is_part row.ALPHA_COMPARISON text.now ≡ true }
-    ensures { Judges (compared_text (in_statement (surroundings e.now)) (tree_at row.ALPHA_COMPARISON text.now)) (after_part row.ALPHA_COMPARISON text.now) result }
+    requires phrase { is_phrase row.ALPHA_COMPARISON text.now ≡ true }
+    ensures { Judges (compared_text (in_statement (surroundings e.now)) (tree_at row.ALPHA_COMPARISON text.now)) (after_phrase row.ALPHA_COMPARISON text.now) result }
 {
     let s = in_statement(e);
     let mut left = Bytes::new();
@@ -114,8 +114,8 @@ fn copied_comparison(e: &Env<'_>, text: &[u8]) -> Judged
 #[tactic(auto, using(crate::proofs::Comparisons::numbers_first, crate::proofs::Comparisons::numbers_sign, crate::proofs::Comparisons::numbers_second, crate::proofs::Judging::first_coded, crate::proofs::Judging::second_coded, crate::proofs::Judging::numbers_judged))]
 #[inline(always)]
 fn numeric_comparison(e: &Env<'_>, text: &[u8]) -> Judged
-    requires part { is_part row.NUMERIC_COMPARISON text.now ≡ true }
-    ensures { Judges (compared_numbers (in_statement (surroundings e.now)) (tree_at row.NUMERIC_COMPARISON text.now)) (after_part row.NUMERIC_COMPARISON text.now) result }
+    requires phrase { is_phrase row.NUMERIC_COMPARISON text.now ≡ true }
+    ensures { Judges (compared_numbers (in_statement (surroundings e.now)) (tree_at row.NUMERIC_COMPARISON text.now)) (after_phrase row.NUMERIC_COMPARISON text.now) result }
 {
     let left = sum_here(e, text);
     if left.number.is_code() {

@@ -1,7 +1,7 @@
 //! The values of expressions and conditions, by their trees.
 //!
 //! `number`, `alpha` and `condition` give the value of what stands at a cursor, or the first code from the left. They want
-//! that a numeric expression, an alpha expression or a condition is read there (`is_part` of `b2_rows`), and what it comes
+//! that a numeric expression, an alpha expression or a condition is read there (`is_phrase` of `b2_rows`), and what it comes
 //! to is said by its tree: `specs/Value.antt` for numbers and bytes, `specs/Condition.antt` for conditions, with
 //! `specs/Functions.antt` and `specs/Operators.antt` on values alone and `specs/Named.antt` for variables by their names.
 //! `specs/Scope.antt` says what an expression looks at. The code goes along the bytes and keeps no tree: a loop each
@@ -21,26 +21,26 @@
 mod appended;
 mod conditions;
 mod evaluate;
-mod found;
+mod evaluated;
 mod functions;
 mod kinds;
 mod literals;
 mod named;
 mod operators;
-mod passing;
 mod plain;
 mod scope;
+mod skip_text;
 mod value;
 mod workspace;
 
 pub use evaluate::{climb, located, second};
-pub use found::{Judged, after_condition};
+pub use evaluated::{Judged, after_condition};
 pub use functions::{fixed, whole_between};
 pub use kinds::suits;
 pub use named::{Element, Located, NameKind, counted_digit, plain_width, variable_of};
 pub use operators::Level;
-pub use passing::{past_alpha, past_name, past_part, past_sum};
 pub use scope::{Env, Scope, variables_of};
+pub use skip_text::{past_alpha, past_name, past_part, past_sum};
 pub use value::{
     alpha, alpha_at, condition, condition_at, in_statement, number, number_or_code, plain_number,
 };

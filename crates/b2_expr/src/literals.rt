@@ -7,12 +7,12 @@ ghost use Rattle.b2_atom.specs.declared.rows.TheConstants as row;
 ghost use Rattle.b2_dec.specs.declared.number.Mode.TheVariants as mode;
 ghost use Rattle.b2_dec.specs.Rounding.{rnd};
 ghost use Rattle.b2_dectext.specs.Digits.{value_after};
-ghost use Rattle.b2_rows.specs.Rows.{is_part, tree_at, after_part};
+ghost use Rattle.b2_rows.specs.Rows.{is_phrase, tree_at, after_phrase};
 ghost use Rattle.b2_expr.specs.Plain.{is_one_digit};
 ghost use Rattle.b2_expr.specs.Reads.{Finds};
 ghost use Rattle.b2_expr.specs.Value.{literal_number, literal_value};
 
-use crate::found::Found;
+use crate::evaluated::Evaluated;
 use b2_atom::{Origin, number_width};
 use b2_base::Code;
 use b2_base::codes::S17_NUMERIC;
@@ -60,12 +60,12 @@ fn literal_value(text: &[u8]) -> Result<Dec, Code>
 
 /// A number that is written out, of any length and with an exponent or without.
 #[tactic(auto, using(crate::proofs::Operands::literal_is, crate::proofs::Operands::literal_rest, crate::proofs::Operands::literal_here))]
-fn long_literal(text: &[u8]) -> Found
-    requires part { is_part row.NUMBER text.now ≡ true }
-    ensures { Finds (literal_number (tree_at row.NUMBER text.now)) (after_part row.NUMBER text.now) result }
+fn long_literal(text: &[u8]) -> Evaluated
+    requires phrase { is_phrase row.NUMBER text.now ≡ true }
+    ensures { Finds (literal_number (tree_at row.NUMBER text.now)) (after_phrase row.NUMBER text.now) result }
 {
     let width = number_width(Origin::Atoms, text);
-    Found {
+    Evaluated {
         number: NumberOrCode::of(literal_value(first_bytes(text, width))),
         left: rest_after(text, width).len(),
     }
@@ -83,18 +83,18 @@ fn divided_by_tens(digits: u64, places: usize) -> NumberOrCode
 /// A number that is written out, of which `digits` were taken, the last `places` of them after the point, and `rest` is
 /// left: it ends there, or goes on with a digit or an exponent.
 #[inline(always)]
-fn ended(text: &[u8], digits: u64, places: usize, rest: &[u8]) -> Found
-    requires part { is_part row.NUMBER text.now ≡ true }
+fn ended(text: &[u8], digits: u64, places: usize, rest: &[u8]) -> Evaluated
+    requires phrase { is_phrase row.NUMBER text.now ≡ true }
     requires small { digits < 10000000000000 }
     requires value { is_digit (lexical.first rest.now) ≡ false → (lexical.first rest.now == byte.upper_e) ≡ false → literal_number (tree_at row.NUMBER text.now) ≡ rnd mode.Round false digits (10 ^ places) }
-    requires rest { is_digit (lexical.first rest.now) ≡ false → (lexical.first rest.now == byte.upper_e) ≡ false → rest.now ≡ after_part row.NUMBER text.now }
-    ensures { Finds (literal_number (tree_at row.NUMBER text.now)) (after_part row.NUMBER text.now) result }
+    requires rest { is_digit (lexical.first rest.now) ≡ false → (lexical.first rest.now == byte.upper_e) ≡ false → rest.now ≡ after_phrase row.NUMBER text.now }
+    ensures { Finds (literal_number (tree_at row.NUMBER text.now)) (after_phrase row.NUMBER text.now) result }
 {
     let end = first(rest);
     if is_digit(end) || end == b'E' || places > PLACES {
         return long_literal(text);
     }
-    Found {
+    Evaluated {
         number: divided_by_tens(digits, places),
         left: rest.len(),
     }
@@ -126,21 +126,21 @@ fn number_of_digit(digit: u8) -> Dec
 /// A number that is written out: at once where it is a single digit.
 #[inline(always)]
 #[tactic(auto, using(crate::proofs::WrittenNumbers::digit_finds, crate::proofs::WrittenNumbers::begins_digit))]
-pub fn written_number_at(text: &[u8]) -> Found
-    requires part { is_part row.NUMBER text.now ≡ true }
-    ensures { Finds (literal_number (tree_at row.NUMBER text.now)) (after_part row.NUMBER text.now) result }
+pub fn written_number_at(text: &[u8]) -> Evaluated
+    requires phrase { is_phrase row.NUMBER text.now ≡ true }
+    ensures { Finds (literal_number (tree_at row.NUMBER text.now)) (after_phrase row.NUMBER text.now) result }
 {
     if !is_one_digit(text) {
         return longer_number_at(text);
     }
-    Found::with(number_of_digit(first(text)), text.len() - 1)
+    Evaluated::with(number_of_digit(first(text)), text.len() - 1)
 }
 
 /// A number that is written out: in one pass where it has no exponent and thirteen digits at most, not counting zeros at
 /// its front.
-fn longer_number_at(text: &[u8]) -> Found
-    requires part { is_part row.NUMBER text.now ≡ true }
-    ensures { Finds (literal_number (tree_at row.NUMBER text.now)) (after_part row.NUMBER text.now) result }
+fn longer_number_at(text: &[u8]) -> Evaluated
+    requires phrase { is_phrase row.NUMBER text.now ≡ true }
+    ensures { Finds (literal_number (tree_at row.NUMBER text.now)) (after_phrase row.NUMBER text.now) result }
 {
     let (whole, after) = take_digits(0, text);
     if first(after) != b'.' {

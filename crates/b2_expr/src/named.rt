@@ -5,7 +5,7 @@ ghost use Rattle.b2_vars.specs.Names.{is_legal_name};
 ghost use Rattle.b2_atom.specs.Leaves.{leaf_width};
 ghost use Rattle.b2_atom.specs.declared.words.Origin.TheVariants.{Atoms};
 ghost use Rattle.b2_rows.specs.Leaves.{leaf_bytes};
-ghost use Rattle.b2_rows.specs.Rows.{is_part};
+ghost use Rattle.b2_rows.specs.Rows.{is_phrase};
 ghost use Rattle.b2_rows.specs.Values.{variable_name};
 ghost use Rattle.b2_expr.specs.Named.{bytes_there, counted_digit, element_there, is_alpha_kind, name_leaf, name_row, number_there, cell_seen, plain_array, plain_width, variable_of};
 
@@ -75,7 +75,7 @@ pub fn variable_of(name: Name, array: bool) -> Var
 #[tactic(auto, using(crate::proofs::Names::alpha_there, crate::proofs::Names::numeric_there, crate::proofs::Names::alpha_leaf_is, crate::proofs::Names::number_leaf_is, crate::proofs::Names::legal_name))]
 #[inline(always)]
 pub fn name_at(kind: NameKind, text: &[u8]) -> (Name, usize)
-    requires part { is_part (name_row kind) text.now ≡ true }
+    requires phrase { is_phrase (name_row kind) text.now ≡ true }
     ensures name { result.0 ≡ variable_name (is_alpha_kind kind) (leaf_bytes (name_leaf kind) text.now) }
     ensures legal { (array : Bool) → is_legal_name (variable_of result.0 array) ≡ true }
     ensures width { result.1 ≡ leaf_width Atoms (name_leaf kind) text.now }

@@ -1,7 +1,7 @@
 // The values of the expressions at a cursor.
 ghost use Rattle.std.specs.Prelude.{◌≡◌, true, false, is_err, MatchResult, [], None, Ok, Err};
 ghost use Rattle.b2_atom.specs.declared.rows.TheConstants as row;
-ghost use Rattle.b2_rows.specs.Rows.{is_part, tree_at, after_part};
+ghost use Rattle.b2_rows.specs.Rows.{is_phrase, tree_at, after_phrase};
 ghost use Rattle.b2_expr.specs.Condition.{truth};
 ghost use Rattle.b2_expr.specs.Value.{context, in_statement, text, value};
 ghost use Rattle.b2_expr.specs.Value as meaning;
@@ -11,7 +11,7 @@ ghost use Rattle.b2_expr.specs.declared.operators.Level.TheVariants as level_of;
 
 use crate::conditions::truth;
 use crate::evaluate::{alpha as text_at, sum};
-use crate::found::{Found, Judged, after_condition, after_sum};
+use crate::evaluated::{Evaluated, Judged, after_condition, after_sum};
 use crate::plain::plain_sum;
 use crate::scope::{Env, Scope};
 use b2_atom::Cursor;
@@ -35,9 +35,9 @@ pub fn in_statement<'a>(env: &'a Env<'a>) -> Scope<'a>
 
 /// The value of the numeric expression at a text: at once where it is plain.
 #[inline(always)]
-pub fn sum_here(e: &Env<'_>, text: &[u8]) -> Found
-    requires part { is_part row.SUM text.now ≡ true }
-    ensures { Finds (value (in_statement (surroundings e.now)) level_of.Sum (tree_at row.SUM text.now)) (after_part row.SUM text.now) result }
+pub fn sum_here(e: &Env<'_>, text: &[u8]) -> Evaluated
+    requires phrase { is_phrase row.SUM text.now ≡ true }
+    ensures { Finds (value (in_statement (surroundings e.now)) level_of.Sum (tree_at row.SUM text.now)) (after_phrase row.SUM text.now) result }
 {
     let found = plain_sum(e.own, e.mode, text);
     if found.number.is_code() {
@@ -50,8 +50,8 @@ pub fn sum_here(e: &Env<'_>, text: &[u8]) -> Found
 /// the cursor is as before.
 #[inline(always)]
 pub fn number(c: &mut Cursor<'_>, e: &Env<'_>) -> Result<Dec, Code>
-    requires part { is_part row.SUM c.old ≡ true }
-    ensures { MatchResult result (λ x. (value (in_statement (surroundings e.now)) level_of.Sum (tree_at row.SUM c.old) ≡ Ok x) × (c.new ≡ after_part row.SUM c.old)) (λ code. (value (in_statement (surroundings e.now)) level_of.Sum (tree_at row.SUM c.old) ≡ Err code) × (c.new ≡ c.old)) }
+    requires phrase { is_phrase row.SUM c.old ≡ true }
+    ensures { MatchResult result (λ x. (value (in_statement (surroundings e.now)) level_of.Sum (tree_at row.SUM c.old) ≡ Ok x) × (c.new ≡ after_phrase row.SUM c.old)) (λ code. (value (in_statement (surroundings e.now)) level_of.Sum (tree_at row.SUM c.old) ≡ Err code) × (c.new ≡ c.old)) }
 {
     let found = sum_here(e, c.rest());
     if found.number.is_code() {
@@ -64,7 +64,7 @@ pub fn number(c: &mut Cursor<'_>, e: &Env<'_>) -> Result<Dec, Code>
 /// The value of the numeric expression at a text, or the first code from the left, in one word.
 #[inline(always)]
 pub fn number_or_code(text: &[u8], e: &Env<'_>) -> NumberOrCode
-    requires part { is_part row.SUM text.now ≡ true }
+    requires phrase { is_phrase row.SUM text.now ≡ true }
     ensures { result ≡ value (in_statement (surroundings e.now)) level_of.Sum (tree_at row.SUM text.now) }
 {
     let found = sum(&in_statement(e), text);
@@ -75,7 +75,7 @@ pub fn number_or_code(text: &[u8], e: &Env<'_>) -> NumberOrCode
 /// operator joins. A code says that the expression is another, or comes to a code.
 #[inline(always)]
 pub fn plain_number(text: &[u8], own: &Vars, mode: Mode) -> NumberOrCode
-    requires part { is_part row.SUM text.now ≡ true }
+    requires phrase { is_phrase row.SUM text.now ≡ true }
     ensures { is_err result ≡ false → (e : Surroundings) → e.own ≡ own.now → e.mode ≡ mode → value (in_statement e) level_of.Sum (tree_at row.SUM text.now) ≡ result }
 {
     let found = plain_sum(own, mode, text);
@@ -85,9 +85,9 @@ pub fn plain_number(text: &[u8], own: &Vars, mode: Mode) -> NumberOrCode
 /// Puts the bytes of the alpha expression at a text where there are none, and gives what stands after it; or the first code from the
 /// left, and then there are none, as before.
 pub fn alpha_at<'a>(s: &Scope<'_>, text: &'a [u8], into: &mut Bytes) -> Result<&'a [u8], Code>
-    requires part { is_part row.ALPHA text.now ≡ true }
+    requires phrase { is_phrase row.ALPHA text.now ≡ true }
     requires empty { into.old ≡ [] }
-    ensures { MatchResult result (λ left. (meaning.text (context s.now) (tree_at row.ALPHA text.now) ≡ Ok into.new) × (left.now ≡ after_part row.ALPHA text.now)) (λ code. (meaning.text (context s.now) (tree_at row.ALPHA text.now) ≡ Err code) × (into.new ≡ into.old)) }
+    ensures { MatchResult result (λ left. (meaning.text (context s.now) (tree_at row.ALPHA text.now) ≡ Ok into.new) × (left.now ≡ after_phrase row.ALPHA text.now)) (λ code. (meaning.text (context s.now) (tree_at row.ALPHA text.now) ≡ Err code) × (into.new ≡ into.old)) }
 {
     match text_at(s, text, into) {
         Ok(rest) => Ok(rest),
@@ -101,8 +101,8 @@ pub fn alpha_at<'a>(s: &Scope<'_>, text: &'a [u8], into: &mut Bytes) -> Result<&
 /// Puts the bytes of the alpha expression at a cursor in the place of what was there, and the cursor then stands after it;
 /// or the first code from the left, and then all is as before.
 pub fn alpha(c: &mut Cursor<'_>, e: &Env<'_>, into: &mut Bytes) -> Result<(), Code>
-    requires part { is_part row.ALPHA c.old ≡ true }
-    ensures { MatchResult result (λ done. (text (in_statement (surroundings e.now)) (tree_at row.ALPHA c.old) ≡ Ok into.new) × (c.new ≡ after_part row.ALPHA c.old)) (λ code. (text (in_statement (surroundings e.now)) (tree_at row.ALPHA c.old) ≡ Err code) × (into.new ≡ into.old) × (c.new ≡ c.old)) }
+    requires phrase { is_phrase row.ALPHA c.old ≡ true }
+    ensures { MatchResult result (λ done. (text (in_statement (surroundings e.now)) (tree_at row.ALPHA c.old) ≡ Ok into.new) × (c.new ≡ after_phrase row.ALPHA c.old)) (λ code. (text (in_statement (surroundings e.now)) (tree_at row.ALPHA c.old) ≡ Err code) × (into.new ≡ into.old) × (c.new ≡ c.old)) }
 {
     let mut value = Bytes::new();
     let rest = match alpha_at(&in_statement(e), c.rest(), &mut value) {
@@ -117,8 +117,8 @@ pub fn alpha(c: &mut Cursor<'_>, e: &Env<'_>, into: &mut Bytes) -> Result<(), Co
 /// Whether the condition at a text holds, or the first code from the left, and how many bytes are left after it.
 #[inline(always)]
 pub fn condition_at(text: &[u8], e: &Env<'_>) -> Judged
-    requires part { is_part row.CONDITION text.now ≡ true }
-    ensures { Judges (truth (in_statement (surroundings e.now)) (tree_at row.CONDITION text.now)) (after_part row.CONDITION text.now) result }
+    requires phrase { is_phrase row.CONDITION text.now ≡ true }
+    ensures { Judges (truth (in_statement (surroundings e.now)) (tree_at row.CONDITION text.now)) (after_phrase row.CONDITION text.now) result }
 {
     truth(e, text)
 }
@@ -127,8 +127,8 @@ pub fn condition_at(text: &[u8], e: &Env<'_>) -> Judged
 /// cursor is as before.
 #[inline(always)]
 pub fn condition(c: &mut Cursor<'_>, e: &Env<'_>) -> Result<bool, Code>
-    requires part { is_part row.CONDITION c.old ≡ true }
-    ensures { MatchResult result (λ holds. (truth (in_statement (surroundings e.now)) (tree_at row.CONDITION c.old) ≡ Ok holds) × (c.new ≡ after_part row.CONDITION c.old)) (λ code. (truth (in_statement (surroundings e.now)) (tree_at row.CONDITION c.old) ≡ Err code) × (c.new ≡ c.old)) }
+    requires phrase { is_phrase row.CONDITION c.old ≡ true }
+    ensures { MatchResult result (λ holds. (truth (in_statement (surroundings e.now)) (tree_at row.CONDITION c.old) ≡ Ok holds) × (c.new ≡ after_phrase row.CONDITION c.old)) (λ code. (truth (in_statement (surroundings e.now)) (tree_at row.CONDITION c.old) ≡ Err code) × (c.new ≡ c.old)) }
 {
     let found = truth(e, c.rest());
     if found.is_code() {

@@ -29,7 +29,7 @@ pub struct Workspace<'a> {
 }
 
 /// The `@` variables, where there are such.
-fn globals_of<'a>(work: &'a Workspace<'_>) -> Option<&'a Vars>
+fn lent_globals<'a>(work: &'a Workspace<'_>) -> Option<&'a Vars>
     ensures { option_map (λ v. v.now) result ≡ (workspace work.now).globals.vars }
 {
     if work.found { Some(work.globals) } else { None }
@@ -41,7 +41,7 @@ pub fn surroundings_of<'a>(work: &'a Workspace<'_>) -> Env<'a>
 {
     Env {
         own: work.own,
-        globals: globals_of(work),
+        globals: lent_globals(work),
         home: work.home,
         mode: work.setting.mode,
         err: work.setting.last,

@@ -1,4 +1,4 @@
-pub mod Marks
+pub mod HomeMask
 pub mod Searching
 pub mod Variables
 pub mod Loops

@@ -4,7 +4,7 @@ use Rattle.b2_atom.specs.Units.{TreeUnit}
 use Rattle.b2_flow.specs.declared.frame.Place.{Place}
 use Rattle.b2_rows.specs.Following.{unit_or_next}
 use Rattle.b2_text.specs.Program.{Lines}
-use Rattle.b2_access.specs.Courses.{units_on}
+use Rattle.b2_access.specs.Dispatch.{units_on}
 use Rattle.b2_access.specs.Placed.{line_named}
 use Rattle.b2_access.specs.Places.{goal_place}
 use Rattle.b2_access.specs.declared.private.Private.{Private}

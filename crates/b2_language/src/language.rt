@@ -5,8 +5,8 @@ ghost use Rattle.b2_access.specs.declared.devices.Device.{Device};
 ghost use Rattle.b2_access.specs.Answering.{can_answer};
 ghost use Rattle.b2_access.specs.Found.{IsFound, seen_found, statement_found};
 ghost use Rattle.b2_access.specs.Lending.{globals_lent, seen_lent};
-ghost use Rattle.b2_access.specs.Lead.{lead_seen};
-ghost use Rattle.b2_access.specs.Passing.{ChangesInPassing, Passes};
+ghost use Rattle.b2_access.specs.JumpTargets.{lead_seen};
+ghost use Rattle.b2_access.specs.Fast.{ChangesFast, DoneFast};
 ghost use Rattle.b2_vars.specs.Globals.{unreached};
 ghost use Rattle.b2_language.specs.Languages.{AreLawful, AskForListed, GoByListed, KeepOpenFiles, Ways};
 ghost use Rattle.b2_language.specs.Wanted.{names_globals};
@@ -76,14 +76,14 @@ pub trait Language {
         ensures same_reference { lent.new.globals.ghost_name ≡ lent.old.globals.ghost_name }
         ensures part { me.new.part ≡ me.old.part };
 
-    /// Does a statement in passing that was found in a line of the program and names no `@` variables: all that it does is done, and where
+    /// Does a statement done fast that was found in a line of the program and names no `@` variables: all that it does is done, and where
     /// it leads is told. Where the language can't, or it is for a fault or an access, nothing has changed; nor where memory failed, which the lead then says.
-    fn pass(me: &mut Private, found: &Found<'_>) -> Lead
+    fn do_fast(me: &mut Private, found: &Found<'_>) -> Lead
         requires found { IsFound found.now found.now.home.now.lines me.old }
         requires local { names_globals (statement_found found.now).tree ≡ false }
-        ensures passes { (devices : List Device) → Passes (lead_seen result) found.now me.old me.new ((ways devices).plan found.now.unit.now.row me.old (seen_found found.now (unreached None))) }
+        ensures fast { (devices : List Device) → DoneFast (lead_seen result) found.now me.old me.new ((ways devices).plan found.now.unit.now.row me.old (seen_found found.now (unreached None))) }
         ensures built { (devices : List Device) → is_some (lead_seen result) ≡ true → (ways devices).built found.now.unit.now.row ≡ true }
-        ensures undisturbed { ChangesInPassing me.old me.new }
+        ensures undisturbed { ChangesFast me.old me.new }
         ensures part { me.new.part ≡ me.old.part };
 
     /// What `plan` says of any statement that was found so; where the language has no shorter way it is looked up again.

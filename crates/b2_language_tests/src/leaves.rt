@@ -129,7 +129,7 @@ fn show_relation(sheet: &mut Sheet<'_>, text: &[u8]) {
 }
 
 /// The first and the last of the lines that are named at a text.
-#[tactic(auto, unfolding(b2_rows::specs::Optional::maybe_part))]
+#[tactic(auto, unfolding(b2_rows::specs::Optional::maybe_phrase))]
 fn lines_at(text: &[u8]) -> Option<(u16, Option<u16>)> {
     if is_line_at(text) && !is_read(LINE_NUMBERS, text) {
         return None;

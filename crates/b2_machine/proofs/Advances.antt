@@ -10,19 +10,19 @@ use Rattle.b2_access.specs.declared.lending.At.TheVariants as at
 use Rattle.b2_access.specs.declared.private.Private.{Private}
 use Rattle.b2_language.specs.Languages.{AreLawful, Ways}
 use Rattle.b2_machine.specs.Advancing.{Advances, ArePresent}
-use Rattle.b2_machine.specs.Running.{EndsRun, RunsOn, leaves_room, led, place_in, place_or_none}
+use Rattle.b2_machine.specs.StraightLine.{EndsRun, RunsOn, leaves_room, led, place_in, place_or_none}
 use Rattle.b2_machine.specs.Statements.{Opens}
 use Rattle.b2_machine.specs.Stays.{IsLegalOpening, KeepsAll}
 use Rattle.b2_machine.specs.Step.{StepEnd, executes, seen_by, step, texts_lent}
 use Rattle.b2_machine.specs.Turn.{TurnEnd, ended_turn, turn_from, unless_ended}
 use Rattle.b2_machine.specs.declared.ends.Stepped.{Stepped}
-use Rattle.b2_machine.specs.declared.running.Opened.{Opened}
-use Rattle.b2_machine.specs.declared.running.Ran.{Ran}
+use Rattle.b2_machine.specs.declared.straight_line.Opened.{Opened}
+use Rattle.b2_machine.specs.declared.straight_line.Ran.{Ran}
 use Rattle.b2_machine.specs.declared.turning.Went.{Went}
 use Rattle.b2_machine.proofs.Presence.{presence_kept}
 use Rattle.b2_machine.proofs.Begins.{legal_opened}
 use Rattle.b2_machine.proofs.Lent.{texts_same}
-use Rattle.b2_machine.proofs.Passing.{led_none}
+use Rattle.b2_machine.proofs.StraightLine.{led_none}
 use Rattle.b2_machine.proofs.Runs.{Stands, left_led, part_led, present_led, some_place, stands_there, step_executes, turn_lent}
 use Rattle.b2_machine.proofs.Turns.{by_first}
 

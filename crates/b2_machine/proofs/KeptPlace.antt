@@ -40,7 +40,7 @@ use Rattle.b2_machine.specs.Listed.{lists}
 use Rattle.b2_machine.specs.Moving.{ends_by, ends_onward, enters_program, error_place, faults, goes_to, is_continue, is_taken, onward_from, place_onward}
 use Rattle.b2_machine.specs.Readiness.{halted}
 use Rattle.b2_machine.specs.Statements.{begins_where, begun_by, builder_of, finish_by, finishes, leaves, plan_by}
-use Rattle.b2_access.specs.Marks.{typed_by_mark}
+use Rattle.b2_access.specs.KeyLiterals.{typed_by_mark}
 use Rattle.b2_access.proofs.Choice.{either}
 use Rattle.b2_machine.specs.Step.{acts, by_itself, enters_or_goes_on, executes, goes_through, halts_or_acts, lent_to_begin, line_read, resets_by, runs_or_reads, seen_by, shows_or_goes_on, step, text_in, types_or_goes_on, whose_by}
 use Rattle.b2_machine.specs.Typing.{put_by, shown_by, shows_pending, takes, takes_or_refuses, typed_by_key}

@@ -20,9 +20,9 @@ listed : (b : Bool) (range : ℕ × ℕ) (me : Private) (s : SeenLent) → IsLeg
 listed true range me s = tt
 listed false range me s = tt
 
-courses : (x : Planned) (b : Builder) (p : Place) (me : Private) (home : Lines) → IsLegalPlan x → IsLegalProgress (begun_by x b p me home).progress
-courses (planned.Done o) b p me home h = tt
-courses (planned.Ask a) b p me home h = h
+dispatches : (x : Planned) (b : Builder) (p : Place) (me : Private) (home : Lines) → IsLegalPlan x → IsLegalProgress (begun_by x b p me home).progress
+dispatches (planned.Done o) b p me home h = tt
+dispatches (planned.Ask a) b p me home h = h
 
 module _ (ways : Ways) (lawful : AreLawful ways) where
   pub planned_by : (b : Builder) (p : Place) (me : Private) (s : SeenLent) → IsLegalPlan (plan_by ways b p me s).planned
@@ -32,7 +32,7 @@ module _ (ways : Ways) (lawful : AreLawful ways) where
 
   begun_at : (o : Option Statement) (p : Place) (me : Private) (s : SeenLent) → IsLegalProgress (begins_where ways o p me s).progress
   begun_at None p me s = tt
-  begun_at (Some u) p me s = let x = plan_by ways (builder_of ways u) p me s in courses x.planned (builder_of ways u) p x.me s.home.lines (planned_by (builder_of ways u) p me s)
+  begun_at (Some u) p me s = let x = plan_by ways (builder_of ways u) p me s in dispatches x.planned (builder_of ways u) p x.me s.home.lines (planned_by (builder_of ways u) p me s)
 
   pub legal_begun : (p : Place) (me after : Private) (s : SeenLent) (c : Progress) → ◌≡◌ {A = Begun} (record { me = after; progress = c }) (begins ways p me s) → IsLegalProgress c
   legal_begun p me after s c is = subst (λ (b : Begun). IsLegalProgress b.progress) (sym is) (begun_at (statement_placed p me.immediate s.home.lines) p me s)

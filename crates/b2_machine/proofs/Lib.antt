@@ -24,8 +24,8 @@ pub mod Begins
 pub mod Counted
 pub mod Unchanged
 pub mod StepOpenFiles
-pub mod Passing
-pub mod Passed
+pub mod StraightLine
+pub mod FastSteps
 pub mod Runs
 pub mod Onward
 pub mod Advances

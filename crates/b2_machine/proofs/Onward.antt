@@ -1,10 +1,10 @@
--- A statement that was done in passing leads to a next one there.
+-- A statement that was done fast leads to a next one there.
 use Rattle.std.proofs.Common.{◌≡◌, ◌==◌, ◌&&◌, ℕ, Bool, true, false, if◌then◌else◌, refl, ap, ◌∙◌, arith, Some, None}
 use Rattle.std.proofs.lemmas.Bool.Decides.{nat_tests}
 use Rattle.b2_flow.specs.declared.frame.Place.{Place}
-use Rattle.b2_access.specs.Passing.{place_led}
+use Rattle.b2_access.specs.Fast.{place_led}
 use Rattle.b2_access.specs.declared.private.Private.{Private}
-use Rattle.b2_machine.specs.Running.{is_undisturbed, place_in, placed_in}
+use Rattle.b2_machine.specs.StraightLine.{is_undisturbed, place_in, placed_in}
 use Rattle.b2_machine.proofs.Runs.{stands_there}
 
 same_home : (home : ℕ) → (home == home) ≡ true

@@ -13,7 +13,7 @@ use Rattle.b2_machine.specs.declared.ends.Why.TheVariants as reason
 module _ (ways : Ways) {M : Type 0} (store : M → StoreState) (serving : ServingOf M) (lending : Loan M) where
   pub each_turn : (P : TurnEnd M → Type 0) (quota : ℕ) (me : Private) (m : M) → P (ended_turn 0 reason.Break (passed_one me) m) → P (turn_from ways store serving lending quota (passes_none me) m 0)
       → P (turn ways store serving lending quota me m)
-  each_turn P quota me m passed taken = either P (passes_turn me) (ended_turn 0 reason.Break (passed_one me) m) (turn_from ways store serving lending quota (passes_none me) m 0) passed taken
+  each_turn P quota me m gone_fast taken = either P (passes_turn me) (ended_turn 0 reason.Break (passed_one me) m) (turn_from ways store serving lending quota (passes_none me) m 0) gone_fast taken
 
 -- and one that is seen as another is so in both cases
 pub turn_seen_by : {M N : Type 0} (see : M → N) (b : Bool) (x y : TurnEnd M) (u v : TurnEnd N) → turn_seen see x ≡ u → turn_seen see y ≡ v → turn_seen see (if b then x else y) ≡ (if b then u else v)

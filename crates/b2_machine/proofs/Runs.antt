@@ -15,13 +15,13 @@ use Rattle.b2_language.specs.Languages.{AreLawful, Ways}
 use Rattle.b2_language.specs.Wanted.{wanted_at}
 use Rattle.b2_machine.specs.Advancing.{ArePresent}
 use Rattle.b2_machine.specs.Endings.{counts}
-use Rattle.b2_machine.specs.Running.{AllLead, Leads, begins_next, is_undisturbed, led, place_in, place_or_none, placed_in}
+use Rattle.b2_machine.specs.StraightLine.{AllLead, Leads, begins_next, is_undisturbed, led, place_in, place_or_none, placed_in}
 use Rattle.b2_machine.specs.Statements.{Begun, begins, leaves}
 use Rattle.b2_machine.specs.Step.{StepEnd, enters_or_goes_on, executes, executes_by, goes_through, halts_or_acts, lent_to_begin, resets_by, acts, runs_or_reads, seen_by, shows_or_goes_on, step, text_in, texts_lent, types_or_goes_on}
 use Rattle.b2_machine.specs.Turn.{turn_from}
 use Rattle.b2_machine.specs.declared.statements.Progress.TheVariants as progress
 use Rattle.b2_machine.proofs.Lent.{texts_same}
-use Rattle.b2_machine.proofs.Passing.{led_more, led_none, nothing}
+use Rattle.b2_machine.proofs.StraightLine.{led_more, led_none, nothing}
 use Rattle.b2_machine.proofs.Presence.{presence_kept}
 use Rattle.b2_machine.proofs.StepPart.{steps_keep_part}
 use Rattle.b2_machine.proofs.Turns.{by_first, first_same}

@@ -47,7 +47,7 @@ use Rattle.b2_access.proofs.Shown.{shown_leads}
 use Rattle.b2_access.proofs.Working.{within}
 use Rattle.b2_access.proofs.Homes.{marks_none}
 use Rattle.b2_language.specs.Languages.{AreLawful, Ways}
-use Rattle.b2_access.specs.Marks.{typed_by_mark}
+use Rattle.b2_access.specs.KeyLiterals.{typed_by_mark}
 use Rattle.b2_language.specs.Following.{following_place, moves_to, units_at}
 use Rattle.b2_machine.specs.Endings.{Ending, counts, repeats}
 use Rattle.b2_machine.specs.Keys.{called_at, calls_where, pressed_by}

@@ -8,7 +8,7 @@ use Rattle.b2_access.specs.Fitting.{AnswerFits}
 use Rattle.b2_access.specs.Lending.{SeenLent}
 use Rattle.b2_access.specs.Loans.{Loan}
 use Rattle.b2_access.specs.LegalPlans.{IsLegalPlan}
-use Rattle.b2_access.specs.Marks.{typed_by_mark}
+use Rattle.b2_access.specs.KeyLiterals.{typed_by_mark}
 use Rattle.b2_access.specs.OpenFiles.{HasOpenFiles}
 use Rattle.b2_access.specs.OwnDevices.{PlannedListed, ReachesListed}
 use Rattle.b2_access.specs.Partition.{is_ready}

@@ -6,7 +6,7 @@ use Rattle.b2_text.specs.Program.{Lines}
 use Rattle.b2_text.specs.Spots.{first_opening, is_mark}
 use Rattle.b2_access.specs.Lending.{SeenLent}
 use Rattle.b2_access.specs.Loans.{Loan}
-use Rattle.b2_access.specs.Marks.{typed_by_mark}
+use Rattle.b2_access.specs.KeyLiterals.{typed_by_mark}
 use Rattle.b2_access.specs.Partition.{is_ready}
 use Rattle.b2_access.specs.Placed.{Statement, statement_placed}
 use Rattle.b2_access.specs.Sharing.{ServingOf}

@@ -6,7 +6,7 @@ use Rattle.b2_flow.specs.declared.frame.Frame.TheVariants.{Call}
 use Rattle.b2_text.specs.Program.{Lines}
 use Rattle.b2_text.specs.Spots.{first_opening, is_mark}
 use Rattle.b2_text.specs.declared.spots.Spot.{Spot}
-use Rattle.b2_access.specs.Marks.{typed_by_mark}
+use Rattle.b2_access.specs.KeyLiterals.{typed_by_mark}
 use Rattle.b2_access.specs.declared.private.Private.{Private}
 use Rattle.b2_machine.specs.Readiness.{refuses}
 

@@ -6,7 +6,7 @@ pub mod Listed
 pub mod Statements
 pub mod Typing
 pub mod Keys
-pub mod Running
+pub mod StraightLine
 pub mod Step
 pub mod Turn
 pub mod Tables

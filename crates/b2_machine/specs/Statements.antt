@@ -7,7 +7,7 @@ use Rattle.b2_text.specs.Program.{Lines, TextState}
 use Rattle.b2_vars.specs.Globals.{Globals, unreached}
 use Rattle.b2_vars.specs.Tables.{VarsState}
 use Rattle.b2_access.specs.Lending.{SeenLent}
-use Rattle.b2_access.specs.Passing.{place_led}
+use Rattle.b2_access.specs.Fast.{place_led}
 use Rattle.b2_access.specs.Placed.{Statement, statement_placed}
 use Rattle.b2_access.specs.Planning.{Finishing, Planning, done, finished, stays}
 use Rattle.b2_access.specs.declared.accesses.Access.{Access}
@@ -109,10 +109,10 @@ Opens ways p me after s a (opening.Ends e) = (wanted_at p me s.home.lines ≡ at
 Opens ways p me after s a (opening.Asks b w) = (wanted_at p me s.home.lines ≡ at.None) × (option_map (asked_beside b w after) a ≡ Some (begins ways p me s))
 Opens ways p me after s a (opening.Wants whose) = (wanted_at p me s.home.lines ≡ whose) × (wants whose ≡ true) × (after ≡ me)
 
--- it was done in passing and stands where it leads, or nothing has changed
-abbrev pub HasPassed : Option (ℕ × ℕ) → Ways → Place → Private → Private → SeenLent → Type 0
-HasPassed (Some l) ways p me after s = Opens ways p me after s None opening.Leads × (after.place ≡ Some (place_led p.home l))
-HasPassed None ways p me after s = after ≡ me
+-- it was done fast and stands where it leads, or nothing has changed
+abbrev pub WentFast : Option (ℕ × ℕ) → Ways → Place → Private → Private → SeenLent → Type 0
+WentFast (Some l) ways p me after s = Opens ways p me after s None opening.Leads × (after.place ≡ Some (place_led p.home l))
+WentFast None ways p me after s = after ≡ me
 
 -- how it was opened by what became of it as it began, and what it asks for
 abbrev pub opening_of : Progress → Opening

@@ -22,11 +22,11 @@ pub mod laws;
 mod listed;
 mod messages;
 mod moving;
-mod openings;
 mod readiness;
-mod running;
 mod statements;
 mod stepping;
+mod straight_line;
+mod text_only;
 mod turning;
 mod typing;
 

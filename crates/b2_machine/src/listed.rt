@@ -1,7 +1,7 @@
 // LIST.
 ghost use Rattle.std.specs.Prelude.{◌≡◌, ◌++◌, ◌∷◌, [], true, IfOk, OnOk};
 ghost use Rattle.b2_atom.specs.declared.rows.TheConstants as row;
-ghost use Rattle.b2_rows.specs.Rows.{is_part, tree_at};
+ghost use Rattle.b2_rows.specs.Rows.{is_phrase, tree_at};
 ghost use Rattle.b2_lister.specs.Listing.{listing};
 ghost use Rattle.b2_machine.specs.Listed as spec;
 
@@ -16,7 +16,7 @@ use std::alloc::Global;
 /// The first and the last of the lines that LIST names: all, or one alone, where no second one is named.
 #[tactic(auto, using(crate::proofs::ListRows::list_lines, crate::proofs::ListRows::list_is))]
 pub fn named_range(unit: &[u8]) -> (u16, u16)
-    requires part { is_part row.LIST unit.now ≡ true }
+    requires phrase { is_phrase row.LIST unit.now ≡ true }
     ensures { result ≡ spec.named_range (tree_at row.LIST unit.now) }
 {
     let (from, to) = named_lines(rest_after(unit, 1));

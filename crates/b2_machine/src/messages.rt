@@ -11,7 +11,7 @@ use itoa::Buffer;
 use std::alloc::Global;
 
 /// Adds a number in plain digits.
-fn add_number(n: u64, out: &mut Vec<u8>) -> Result<(), NoMemory>
+fn add_plain_number(n: u64, out: &mut Vec<u8>) -> Result<(), NoMemory>
     ensures { OnOk result (out.new.items ≡ out.old.items ++ decimal n) }
 {
     let mut buffer = Buffer::new();
@@ -37,7 +37,7 @@ fn add_line(line: Option<u16>, out: &mut Vec<u8>) -> Result<(), NoMemory>
     match line {
         Some(n) => {
             out.extend_from_slice(b" AT ")?;
-            add_number(u64::from(n), out)
+            add_plain_number(u64::from(n), out)
         }
         None => Ok(()),
     }
@@ -51,7 +51,7 @@ fn add_home(part: Part, home: Part, out: &mut Vec<u8>) -> Result<(), NoMemory>
         return Ok(());
     }
     out.extend_from_slice(b" IN ")?;
-    add_number(u64::from(home.number()), out)
+    add_plain_number(u64::from(home.number()), out)
 }
 
 /// An error at a place of a partition.
@@ -81,7 +81,7 @@ pub fn error_in_line(alloc: Global, code: Code, column: usize) -> Result<Vec<u8>
     let mut out = code_text(alloc, code)?;
     if code.class() == b'S' {
         out.extend_from_slice(b" COL ")?;
-        add_number(column as u64, &mut out)?;
+        add_plain_number(column as u64, &mut out)?;
     }
     out.push(b'\n')?;
     Ok(out)

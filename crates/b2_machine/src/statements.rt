@@ -246,7 +246,7 @@ fn begin_found<L: Language>(
 }
 
 /// Whether a place is another one too.
-fn is_same(here: Place, place: Place) -> bool
+fn is_place_same(here: Place, place: Place) -> bool
     ensures same { result ≡ true → here ≡ place }
 {
     here.home == place.home && here.line == place.line && here.unit == place.unit
@@ -262,7 +262,11 @@ fn line_where_it_stands(me: &Private, place: Place) -> Option<u16>
     let Some(here) = me.place else {
         return None;
     };
-    if is_same(here, place) { Some(n) } else { None }
+    if is_place_same(here, place) {
+        Some(n)
+    } else {
+        None
+    }
 }
 
 /// The statement at a place begins, over texts and `@` variables. One in the program, where the partition stands, is found by one

@@ -8,7 +8,7 @@ ghost use Rattle.b2_access.specs.Homes.{PlaceIn};
 ghost use Rattle.b2_access.specs.Leading.{is_present};
 ghost use Rattle.b2_access.specs.Store.{content};
 ghost use Rattle.b2_access.specs.Touching.{IsLegal};
-ghost use Rattle.b2_machine.specs.Running.{RunsOn};
+ghost use Rattle.b2_machine.specs.StraightLine.{RunsOn};
 ghost use Rattle.b2_machine.specs.Statements.{Opens, begins, finish_by, finishes, leaves};
 ghost use Rattle.b2_machine.specs.Stays.{Keeps, IsLegalOpening, IsLegalProgress};
 ghost use Rattle.b2_machine.specs.Step as spec;
@@ -16,10 +16,10 @@ ghost use Rattle.b2_machine.specs.Step as spec;
 use crate::ends::{Stepped, counts, repeats};
 use crate::keys::press_over;
 use crate::moving::Onward;
-use crate::openings::open_over;
 use crate::readiness::{give_back, halt, reset};
-use crate::running::{Ran, run_on};
 use crate::statements::{Builder, Opening, Progress, begin_with, finish_with};
+use crate::straight_line::{Ran, run_on};
+use crate::text_only::open_over;
 use crate::typing::{
     after_literal, after_pending, after_put, ask_to_show, atoms_put, put_line, take_line,
 };
@@ -93,7 +93,11 @@ fn press<S: Shared>(alloc: Global, me: &mut Private, s: &mut S, n: u8) -> Result
 
 /// A line is read.
 #[tactic(auto, using(crate::proofs::Kept::both_kept))]
-fn read_line<S: Shared>(alloc: Global, me: &mut Private, s: &mut S) -> Result<Stepped, NoMemory>
+fn read_typed_line<S: Shared>(
+    alloc: Global,
+    me: &mut Private,
+    s: &mut S,
+) -> Result<Stepped, NoMemory>
     requires own { IsSome (content (S.store (S.meaning s.old)) (Object.Text me.old.part)) }
     ensures ended { IfOk result (λ e. record { me = me.new; after = S.meaning s.new; end = e } ≡ spec.reads_line S.store S.serving S.lending me.old (S.meaning s.old)) }
     ensures kept { Keeps result (S.holds s.old) (S.holds s.new) me.old.part me.new.part (S.store (S.meaning s.old)) (S.store (S.meaning s.new)) }
@@ -388,7 +392,7 @@ fn run_or_read<L: Language, S: Shared>(
 {
     match me.place {
         Some(place) => execute::<L, S>(alloc, me, s, d, place),
-        None => read_line(alloc, me, s),
+        None => read_typed_line(alloc, me, s),
     }
 }
 

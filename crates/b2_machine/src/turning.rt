@@ -3,13 +3,13 @@ ghost use Rattle.std.specs.Prelude.{◌≡◌, ◌≤◌, ◌<◌, ◌+◌, ℕ,
 ghost use Rattle.b2_access.specs.Homes.{IsWithin};
 ghost use Rattle.b2_access.specs.Leading.{NamesIn, is_present};
 ghost use Rattle.b2_machine.specs.Advancing.{Advances, ArePresent};
-ghost use Rattle.b2_machine.specs.Running.{place_in};
+ghost use Rattle.b2_machine.specs.StraightLine.{place_in};
 ghost use Rattle.b2_machine.specs.Stays.{Keeps};
 ghost use Rattle.b2_machine.specs.Turn as spec;
 
 use crate::ends::{Stepped, Turned, Why};
-use crate::running::{Opened, place_in};
 use crate::stepping::{go_through, run_lent, step};
+use crate::straight_line::{Opened, place_in};
 use b2_access::{DeviceTable, Private, Shared};
 use b2_base::{NoMemory, Part};
 use b2_language::Language;

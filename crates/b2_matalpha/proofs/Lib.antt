@@ -1,4 +1,4 @@
 pub mod Receiving
 pub mod Orders
 pub mod MovingOn
-pub mod Found
+pub mod SearchPlaces

@@ -11,7 +11,7 @@ use Rattle.b2_base.specs.Files.{Files}
 use Rattle.b2_boot.specs.declared.log.Event.{Event}
 use Rattle.b2_boot.specs.declared.boot.BootPartition.{BootPartition}
 use Rattle.b2_boot.specs.declared.rows.PartitionRow.{PartitionRow}
-use Rattle.b2_boot.proofs.Passed.{passed, partitions_have_places}
+use Rattle.b2_boot.proofs.ChecksHeld.{passed, partitions_have_places}
 use Rattle.b2_sched.specs.Start.{AreNumbered}
 use Rattle.b2_mvp.specs.Inputs.{Gives, HasInputs}
 use Rattle.b2_mvp.specs.Top.{boot_for}

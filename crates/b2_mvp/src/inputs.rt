@@ -155,7 +155,7 @@ pub fn read_inputs<F: Shelf>(alloc: Global, source: Source, shelf: &mut F) -> Re
 }
 
 /// A name again.
-fn name_copied(name: &FileName) -> FileName
+fn name_again(name: &FileName) -> FileName
     ensures { result ≡ name.now }
 {
     FileName::empty().with(name.bytes())
@@ -178,7 +178,7 @@ fn open_image<F: Shelf>(
     ensures ok { IfOk result (λ image. spec.IsRead name.now (F.files shelf.old) image) }
     ensures err { IfErr result (λ status. spec.CannotOpen address name.now (shelf_seen F.files F.faults F.misses F.longs shelf.old) (shelf_seen F.files F.faults F.misses F.longs shelf.new) status) }
 {
-    let bytes = match fetch_input(alloc, name_copied(name), IMAGE_LIMIT, shelf) {
+    let bytes = match fetch_input(alloc, name_again(name), IMAGE_LIMIT, shelf) {
         Ok(bytes) => bytes,
         Err(status) => return Err(status),
     };

@@ -70,7 +70,7 @@ fn transcript_name(out: &FileName, t: Term) -> FileName
 }
 
 /// Keeps a file.
-fn keep_file<F: Shelf>(name: FileName, bytes: &[u8], shelf: &mut F) -> Result<(), Status>
+fn keep_output<F: Shelf>(name: FileName, bytes: &[u8], shelf: &mut F) -> Result<(), Status>
     ensures faults { F.faults shelf.old ≤ F.faults shelf.new }
     ensures ok { OnOk result (F.files shelf.new ≡ spec.with_files (record { name = name; bytes = bytes.now } ∷ []) (F.files shelf.old)) }
     ensures err { IfErr result (λ status. spec.CannotKeep (record { name = name; bytes = bytes.now } ∷ []) (shelf_seen F.files F.faults F.misses F.longs shelf.old) (shelf_seen F.files F.faults F.misses F.longs shelf.new) status) }
@@ -98,7 +98,7 @@ fn keep_transcript<S: Ends, F: Shelf>(
     let Some(terminal) = stores.terminal(t) else {
         return Ok(());
     };
-    keep_file(transcript_name(out, t), terminal.transcript(), shelf)
+    keep_output(transcript_name(out, t), terminal.transcript(), shelf)
 }
 
 /// Keeps the transcript of each terminal, by number.
@@ -149,7 +149,7 @@ fn keep_printout<S: Ends, F: Shelf>(
     let Some(printed) = stores.printer(address) else {
         return Ok(());
     };
-    keep_file(printout_name(out, address), printed, shelf)
+    keep_output(printout_name(out, address), printed, shelf)
 }
 
 /// Keeps what each printer printed, by address.
@@ -201,7 +201,7 @@ fn keep_image<S: Ends, F: Shelf>(
     let Some(platter) = stores.platter(address) else {
         return Ok(());
     };
-    keep_file(image_name(out, address), platter.image(), shelf)
+    keep_output(image_name(out, address), platter.image(), shelf)
 }
 
 /// Keeps the image of each platter, by address.

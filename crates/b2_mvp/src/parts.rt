@@ -91,7 +91,7 @@ fn read_parts(word: &[u8]) -> Option<Parts>
 }
 
 /// Adds the number of a partition.
-fn add_number(line: &mut Vec<u8>, part: Part) -> Result<(), NoMemory>
+fn add_part_number(line: &mut Vec<u8>, part: Part) -> Result<(), NoMemory>
     ensures { OnOk result (line.new.items ≡ line.old.items ++ decimal part) }
 {
     let mut buffer = Buffer::new();
@@ -105,7 +105,7 @@ fn add_more(line: &mut Vec<u8>, parts: &[Part]) -> Result<(), NoMemory>
 {
     for part in parts {
         line.push(b',')?;
-        add_number(line, *part)?;
+        add_part_number(line, *part)?;
     }
     Ok(())
 }
@@ -118,6 +118,6 @@ pub fn add_list(line: &mut Vec<u8>, parts: &[Part]) -> Result<(), NoMemory>
         line.push(b'-')?;
         return Ok(());
     };
-    add_number(line, *first)?;
+    add_part_number(line, *first)?;
     add_more(line, others)
 }

@@ -82,7 +82,7 @@ fn show_by(view: View, name: &[u8]) -> Option<Command>
 }
 
 /// The command of two words.
-fn of_two(word: &[u8], name: &[u8]) -> Option<Command>
+fn two_word_command(word: &[u8], name: &[u8]) -> Option<Command>
     ensures value { result ≡ command_of (word.now ∷ name.now ∷ []) }
     ensures can_run { IfSome result CanRun }
 {
@@ -135,7 +135,7 @@ fn read_command(words: &[Vec<u8>]) -> Option<Command>
     ensures can_run { IfSome result CanRun }
 {
     match words {
-        [word, name] => of_two(word, name),
+        [word, name] => two_word_command(word, name),
         [word, number, out] => of_three(word, number, out),
         [word, boot, log, out] => of_four(word, boot, log, out),
         [word, boot, log, out, parts] => of_five(word, boot, log, out, parts),

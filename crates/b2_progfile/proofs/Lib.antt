@@ -10,7 +10,7 @@ pub mod Copying
 pub mod Files
 pub mod Starts
 pub mod Refilling
-pub mod Told
+pub mod ProgramReadBack
 pub mod MovedFiles
 pub mod ReadBack
 pub mod Functions

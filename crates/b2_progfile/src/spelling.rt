@@ -22,7 +22,7 @@ pub const PIECE_BYTES: usize = 255;
 pub const MOST_NUMBER: u16 = 9999;
 
 /// The atoms of a line.
-fn line_of<'a>(atoms: &LentAtoms<'a>) -> &'a [u8]
+fn bytes_of_atoms<'a>(atoms: &LentAtoms<'a>) -> &'a [u8]
     ensures value { result.now ≡ atoms.now }
     ensures line { is_line atoms.now ≡ true }
     ensures short { length atoms.now ≤ 255 }
@@ -35,7 +35,7 @@ fn spell_line(out: &mut Vec<u8>, number: u16, atoms: &LentAtoms<'_>) -> Result<(
     ensures bytes { OnOk result (out.new.items ≡ out.old.items ++ line_bytes (number, atoms.now)) }
     ensures line { is_line atoms.now ≡ true }
 {
-    let bytes = line_of(atoms);
+    let bytes = bytes_of_atoms(atoms);
     out.push((number / 256) as u8)?;
     out.push((number % 256) as u8)?;
     out.push(bytes.len() as u8)?;

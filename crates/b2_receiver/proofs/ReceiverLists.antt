@@ -7,7 +7,7 @@ use Rattle.b2_atom.specs.Words.{Text}
 use Rattle.b2_atom.specs.Tree.Trees.{Done}
 use Rattle.b2_atom.specs.Grammar.{row_items}
 use Rattle.b2_atom.specs.declared.rows.TheConstants as row
-use Rattle.b2_rows.specs.Rows.{is_part, after_part}
+use Rattle.b2_rows.specs.Rows.{is_phrase, after_phrase}
 use Rattle.b2_rows.specs.CommaLists.{are_others, others_at, past_first, receivers_at}
 use Rattle.b2_rows.proofs.CommaLists.{IsComma, Other, other, item_shorter, items_of_other, no_items_left}
 
@@ -15,7 +15,7 @@ comma_row : IsComma row.COMMA_RECEIVER row.RECEIVER S13_SEPARATOR
 unfolding row_items
 comma_row = refl
 
-pub other_part : (t : Text) → are_others t ≡ true → (first t == byte.comma) ≡ true → is_part row.RECEIVER (drop 1 t) ≡ true
+pub other_part : (t : Text) → are_others t ≡ true → (first t == byte.comma) ≡ true → is_phrase row.RECEIVER (drop 1 t) ≡ true
 other_part t ok is = Other.part (other row.COMMA_RECEIVER row.RECEIVER S13_SEPARATOR t comma_row ok is)
 
 pub other_list : (t : Text) → are_others t ≡ true → (first t == byte.comma) ≡ true → are_others (past_first (drop 1 t)) ≡ true
@@ -27,5 +27,5 @@ other_items t ok is = items_of_other row.COMMA_RECEIVER row.RECEIVER S13_SEPARAT
 pub no_items : (t : Text) → (first t == byte.comma) ≡ false → others_at t ≡ []
 no_items t is = no_items_left row.COMMA_RECEIVER Done t is
 
-pub receiver_shorter : (t : Text) → (first (after_part row.RECEIVER t) == byte.comma) ≡ true → length (drop 1 (after_part row.RECEIVER t)) < length t
+pub receiver_shorter : (t : Text) → (first (after_phrase row.RECEIVER t) == byte.comma) ≡ true → length (drop 1 (after_phrase row.RECEIVER t)) < length t
 receiver_shorter t is = item_shorter row.RECEIVER t is

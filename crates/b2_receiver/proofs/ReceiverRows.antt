@@ -18,7 +18,7 @@ use Rattle.b2_atom.specs.declared.forms.Start.TheVariants as start
 use Rattle.b2_atom.specs.declared.forms.Leaf.TheVariants as leaf
 use Rattle.b2_atom.specs.declared.forms.Item.{Item}
 use Rattle.b2_atom.specs.declared.forms.Item.TheVariants.{Sign, Typed, Either}
-use Rattle.b2_rows.specs.Rows.{is_part, tree_at, after_part}
+use Rattle.b2_rows.specs.Rows.{is_phrase, tree_at, after_phrase}
 use Rattle.b2_rows.specs.Leaves.{is_leaf, leaf_bytes}
 use Rattle.b2_rows.specs.Values.{variable_name}
 use Rattle.b2_rows.specs.Choices.{ReadAs, first_branch, second_branch}
@@ -45,9 +45,9 @@ unfolding whole_value
 whole_is e a = refl
 
 -- STR
-pub part_is : (e : Context) (t : Text) → is_part row.STRING_PART t ≡ true → part_receiver e (tree_at row.STRING_PART t)
+pub part_is : (e : Context) (t : Text) → is_phrase row.STRING_PART t ≡ true → part_receiver e (tree_at row.STRING_PART t)
     ≡ (whole_value e (tree_at row.ALPHA_RECEIVER_VARIABLE (drop 1 t)) >>= (λ whole. value e level.Sum (tree_at row.SUM (from_at t))
-    >>= (λ x. second e (maybe_tree (start.Code byte.comma) row.COMMA_NUMBER (after_part row.SUM (from_at t)))
+    >>= (λ x. second e (maybe_tree (start.Code byte.comma) row.COMMA_NUMBER (after_phrase row.SUM (from_at t)))
     >>= (λ y. portion_of whole.portion.count x y >>= (λ portion. Ok (record whole { portion = portion }))))))
 unfolding part_receiver
 part_is e t ok =
@@ -64,32 +64,32 @@ alpha_row : row_items row.ALPHA_RECEIVER ≡ Either (start.Code word.STR_OPEN) r
 unfolding row_items
 alpha_row = refl
 
-alpha_by_part : (t : Text) → is_part row.ALPHA_RECEIVER t ≡ true → (first t == word.STR_OPEN) ≡ true → ReadAs row.ALPHA_RECEIVER row.STRING_PART first_branch t
+alpha_by_part : (t : Text) → is_phrase row.ALPHA_RECEIVER t ≡ true → (first t == word.STR_OPEN) ≡ true → ReadAs row.ALPHA_RECEIVER row.STRING_PART first_branch t
 alpha_by_part t ok is = either_first _ _ _ _ t alpha_row ok (begins word.STR_OPEN t true is)
 
-alpha_by_whole : (t : Text) → is_part row.ALPHA_RECEIVER t ≡ true → (first t == word.STR_OPEN) ≡ false → ReadAs row.ALPHA_RECEIVER row.ALPHA_RECEIVER_VARIABLE second_branch t
+alpha_by_whole : (t : Text) → is_phrase row.ALPHA_RECEIVER t ≡ true → (first t == word.STR_OPEN) ≡ false → ReadAs row.ALPHA_RECEIVER row.ALPHA_RECEIVER_VARIABLE second_branch t
 alpha_by_whole t ok is = either_second _ _ _ _ t alpha_row ok (begins word.STR_OPEN t false is)
 
-pub alpha_part_here : (t : Text) → is_part row.ALPHA_RECEIVER t ≡ true → (first t == word.STR_OPEN) ≡ true → is_part row.STRING_PART t ≡ true
+pub alpha_part_here : (t : Text) → is_phrase row.ALPHA_RECEIVER t ≡ true → (first t == word.STR_OPEN) ≡ true → is_phrase row.STRING_PART t ≡ true
 alpha_part_here t ok is = (alpha_by_part t ok is).part
 
-pub alpha_part_is : (e : Context) (t : Text) → is_part row.ALPHA_RECEIVER t ≡ true → (first t == word.STR_OPEN) ≡ true
+pub alpha_part_is : (e : Context) (t : Text) → is_phrase row.ALPHA_RECEIVER t ≡ true → (first t == word.STR_OPEN) ≡ true
     → alpha_receiver e (tree_at row.ALPHA_RECEIVER t) ≡ part_receiver e (tree_at row.STRING_PART t)
 unfolding alpha_receiver
 alpha_part_is e t ok is = ap (alpha_receiver e) (alpha_by_part t ok is).tree
 
-pub alpha_part_rest : (t : Text) → is_part row.ALPHA_RECEIVER t ≡ true → (first t == word.STR_OPEN) ≡ true → after_part row.ALPHA_RECEIVER t ≡ after_part row.STRING_PART t
+pub alpha_part_rest : (t : Text) → is_phrase row.ALPHA_RECEIVER t ≡ true → (first t == word.STR_OPEN) ≡ true → after_phrase row.ALPHA_RECEIVER t ≡ after_phrase row.STRING_PART t
 alpha_part_rest t ok is = (alpha_by_part t ok is).rest
 
-pub alpha_whole_here : (t : Text) → is_part row.ALPHA_RECEIVER t ≡ true → (first t == word.STR_OPEN) ≡ false → is_part row.ALPHA_RECEIVER_VARIABLE t ≡ true
+pub alpha_whole_here : (t : Text) → is_phrase row.ALPHA_RECEIVER t ≡ true → (first t == word.STR_OPEN) ≡ false → is_phrase row.ALPHA_RECEIVER_VARIABLE t ≡ true
 alpha_whole_here t ok is = (alpha_by_whole t ok is).part
 
-pub alpha_whole_is : (e : Context) (t : Text) → is_part row.ALPHA_RECEIVER t ≡ true → (first t == word.STR_OPEN) ≡ false
+pub alpha_whole_is : (e : Context) (t : Text) → is_phrase row.ALPHA_RECEIVER t ≡ true → (first t == word.STR_OPEN) ≡ false
     → alpha_receiver e (tree_at row.ALPHA_RECEIVER t) ≡ whole_value e (tree_at row.ALPHA_RECEIVER_VARIABLE t)
 unfolding alpha_receiver
 alpha_whole_is e t ok is = ap (alpha_receiver e) (alpha_by_whole t ok is).tree
 
-pub alpha_whole_rest : (t : Text) → is_part row.ALPHA_RECEIVER t ≡ true → (first t == word.STR_OPEN) ≡ false → after_part row.ALPHA_RECEIVER t ≡ after_part row.ALPHA_RECEIVER_VARIABLE t
+pub alpha_whole_rest : (t : Text) → is_phrase row.ALPHA_RECEIVER t ≡ true → (first t == word.STR_OPEN) ≡ false → after_phrase row.ALPHA_RECEIVER t ≡ after_phrase row.ALPHA_RECEIVER_VARIABLE t
 alpha_whole_rest t ok is = (alpha_by_whole t ok is).rest
 
 -- a receiver of either kind
@@ -97,32 +97,32 @@ any_row : row_items row.RECEIVER ≡ Either start.Alpha row.ALPHA_RECEIVER row.N
 unfolding row_items
 any_row = refl
 
-any_by_alpha : (t : Text) → is_part row.RECEIVER t ≡ true → starts Atoms start.Alpha t ≡ true → ReadAs row.RECEIVER row.ALPHA_RECEIVER first_branch t
+any_by_alpha : (t : Text) → is_phrase row.RECEIVER t ≡ true → starts Atoms start.Alpha t ≡ true → ReadAs row.RECEIVER row.ALPHA_RECEIVER first_branch t
 any_by_alpha t ok is = either_first _ _ _ _ t any_row ok is
 
-any_by_number : (t : Text) → is_part row.RECEIVER t ≡ true → starts Atoms start.Alpha t ≡ false → ReadAs row.RECEIVER row.NUMERIC_RECEIVER second_branch t
+any_by_number : (t : Text) → is_phrase row.RECEIVER t ≡ true → starts Atoms start.Alpha t ≡ false → ReadAs row.RECEIVER row.NUMERIC_RECEIVER second_branch t
 any_by_number t ok is = either_second _ _ _ _ t any_row ok is
 
-pub any_alpha_here : (t : Text) → is_part row.RECEIVER t ≡ true → starts Atoms start.Alpha t ≡ true → is_part row.ALPHA_RECEIVER t ≡ true
+pub any_alpha_here : (t : Text) → is_phrase row.RECEIVER t ≡ true → starts Atoms start.Alpha t ≡ true → is_phrase row.ALPHA_RECEIVER t ≡ true
 any_alpha_here t ok is = (any_by_alpha t ok is).part
 
-pub any_alpha_is : (e : Context) (t : Text) → is_part row.RECEIVER t ≡ true → starts Atoms start.Alpha t ≡ true
+pub any_alpha_is : (e : Context) (t : Text) → is_phrase row.RECEIVER t ≡ true → starts Atoms start.Alpha t ≡ true
     → any_receiver e (tree_at row.RECEIVER t) ≡ (alpha_receiver e (tree_at row.ALPHA_RECEIVER t) >>= (λ x. Ok (receiver_kind.Alpha x)))
 unfolding any_receiver
 any_alpha_is e t ok is = ap (any_receiver e) (any_by_alpha t ok is).tree
 
-pub any_alpha_rest : (t : Text) → is_part row.RECEIVER t ≡ true → starts Atoms start.Alpha t ≡ true → after_part row.RECEIVER t ≡ after_part row.ALPHA_RECEIVER t
+pub any_alpha_rest : (t : Text) → is_phrase row.RECEIVER t ≡ true → starts Atoms start.Alpha t ≡ true → after_phrase row.RECEIVER t ≡ after_phrase row.ALPHA_RECEIVER t
 any_alpha_rest t ok is = (any_by_alpha t ok is).rest
 
-pub any_number_here : (t : Text) → is_part row.RECEIVER t ≡ true → starts Atoms start.Alpha t ≡ false → is_part row.NUMERIC_RECEIVER t ≡ true
+pub any_number_here : (t : Text) → is_phrase row.RECEIVER t ≡ true → starts Atoms start.Alpha t ≡ false → is_phrase row.NUMERIC_RECEIVER t ≡ true
 any_number_here t ok is = (any_by_number t ok is).part
 
-pub any_number_is : (e : Context) (t : Text) → is_part row.RECEIVER t ≡ true → starts Atoms start.Alpha t ≡ false
+pub any_number_is : (e : Context) (t : Text) → is_phrase row.RECEIVER t ≡ true → starts Atoms start.Alpha t ≡ false
     → any_receiver e (tree_at row.RECEIVER t) ≡ (number_receiver e (tree_at row.NUMERIC_RECEIVER t) >>= (λ x. Ok (receiver_kind.Number x)))
 unfolding any_receiver
 any_number_is e t ok is = ap (any_receiver e) (any_by_number t ok is).tree
 
-pub any_number_rest : (t : Text) → is_part row.RECEIVER t ≡ true → starts Atoms start.Alpha t ≡ false → after_part row.RECEIVER t ≡ after_part row.NUMERIC_RECEIVER t
+pub any_number_rest : (t : Text) → is_phrase row.RECEIVER t ≡ true → starts Atoms start.Alpha t ≡ false → after_phrase row.RECEIVER t ≡ after_phrase row.NUMERIC_RECEIVER t
 any_number_rest t ok is = (any_by_number t ok is).rest
 
 -- an array of a kind
@@ -134,10 +134,10 @@ unfolding row_items
 array_row_items kind.Number = refl
 array_row_items kind.Alpha = refl
 
-pub array_here : (k : Kind) (t : Text) → is_part (array_row k) t ≡ true → is_leaf (array_leaf k) t ≡ true
+pub array_here : (k : Kind) (t : Text) → is_phrase (array_row k) t ≡ true → is_leaf (array_leaf k) t ≡ true
 array_here k t ok = (stands_of (array_row k) (array_items k) t (array_row_items k) ok).0.0
 
-pub array_is : (e : Surroundings) (alpha : Bool) (k : Kind) (t : Text) → is_part (array_row k) t ≡ true
+pub array_is : (e : Surroundings) (alpha : Bool) (k : Kind) (t : Text) → is_phrase (array_row k) t ≡ true
     → array_receiver e alpha (tree_at (array_row k) t) ≡ array_there e (variable_name alpha (leaf_bytes (array_leaf k) t))
 unfolding array_receiver
 array_is e alpha kind.Number t ok = ap (array_receiver e alpha) (stands_of row.NUMERIC_ARRAY (array_items kind.Number) t (array_row_items kind.Number) ok).1
@@ -147,7 +147,7 @@ twice : (t : Text) → drop 1 (drop 1 t) ≡ drop 2 t
 twice [] = refl
 twice (a ∷ t) = refl
 
-pub array_rest : (k : Kind) (t : Text) → is_part (array_row k) t ≡ true → after_part (array_row k) t ≡ drop 2 (drop (leaf_width Atoms (array_leaf k) t) t)
+pub array_rest : (k : Kind) (t : Text) → is_phrase (array_row k) t ≡ true → after_phrase (array_row k) t ≡ drop 2 (drop (leaf_width Atoms (array_leaf k) t) t)
 array_rest kind.Number t ok = (stands_of row.NUMERIC_ARRAY (array_items kind.Number) t (array_row_items kind.Number) ok).2 ∙ twice (drop (leaf_width Atoms leaf.Name t) t)
 array_rest kind.Alpha t ok = (stands_of row.ALPHA_ARRAY (array_items kind.Alpha) t (array_row_items kind.Alpha) ok).2 ∙ twice (drop (leaf_width Atoms leaf.AlphaName t) t)
 
@@ -156,32 +156,32 @@ whole_array_row : row_items row.WHOLE_ARRAY ≡ Either start.Alpha row.ALPHA_ARR
 unfolding row_items
 whole_array_row = refl
 
-array_by_alpha : (t : Text) → is_part row.WHOLE_ARRAY t ≡ true → starts Atoms start.Alpha t ≡ true → ReadAs row.WHOLE_ARRAY row.ALPHA_ARRAY first_branch t
+array_by_alpha : (t : Text) → is_phrase row.WHOLE_ARRAY t ≡ true → starts Atoms start.Alpha t ≡ true → ReadAs row.WHOLE_ARRAY row.ALPHA_ARRAY first_branch t
 array_by_alpha t ok is = either_first _ _ _ _ t whole_array_row ok is
 
-array_by_number : (t : Text) → is_part row.WHOLE_ARRAY t ≡ true → starts Atoms start.Alpha t ≡ false → ReadAs row.WHOLE_ARRAY row.NUMERIC_ARRAY second_branch t
+array_by_number : (t : Text) → is_phrase row.WHOLE_ARRAY t ≡ true → starts Atoms start.Alpha t ≡ false → ReadAs row.WHOLE_ARRAY row.NUMERIC_ARRAY second_branch t
 array_by_number t ok is = either_second _ _ _ _ t whole_array_row ok is
 
-pub array_alpha_here : (t : Text) → is_part row.WHOLE_ARRAY t ≡ true → starts Atoms start.Alpha t ≡ true → is_part row.ALPHA_ARRAY t ≡ true
+pub array_alpha_here : (t : Text) → is_phrase row.WHOLE_ARRAY t ≡ true → starts Atoms start.Alpha t ≡ true → is_phrase row.ALPHA_ARRAY t ≡ true
 array_alpha_here t ok is = (array_by_alpha t ok is).part
 
-pub array_alpha_is : (e : Surroundings) (t : Text) → is_part row.WHOLE_ARRAY t ≡ true → starts Atoms start.Alpha t ≡ true
+pub array_alpha_is : (e : Surroundings) (t : Text) → is_phrase row.WHOLE_ARRAY t ≡ true → starts Atoms start.Alpha t ≡ true
     → whole_array e (tree_at row.WHOLE_ARRAY t) ≡ array_receiver e true (tree_at row.ALPHA_ARRAY t)
 unfolding whole_array
 array_alpha_is e t ok is = ap (whole_array e) (array_by_alpha t ok is).tree
 
-pub array_alpha_rest : (t : Text) → is_part row.WHOLE_ARRAY t ≡ true → starts Atoms start.Alpha t ≡ true → after_part row.WHOLE_ARRAY t ≡ after_part row.ALPHA_ARRAY t
+pub array_alpha_rest : (t : Text) → is_phrase row.WHOLE_ARRAY t ≡ true → starts Atoms start.Alpha t ≡ true → after_phrase row.WHOLE_ARRAY t ≡ after_phrase row.ALPHA_ARRAY t
 array_alpha_rest t ok is = (array_by_alpha t ok is).rest
 
-pub array_number_here : (t : Text) → is_part row.WHOLE_ARRAY t ≡ true → starts Atoms start.Alpha t ≡ false → is_part row.NUMERIC_ARRAY t ≡ true
+pub array_number_here : (t : Text) → is_phrase row.WHOLE_ARRAY t ≡ true → starts Atoms start.Alpha t ≡ false → is_phrase row.NUMERIC_ARRAY t ≡ true
 array_number_here t ok is = (array_by_number t ok is).part
 
-pub array_number_is : (e : Surroundings) (t : Text) → is_part row.WHOLE_ARRAY t ≡ true → starts Atoms start.Alpha t ≡ false
+pub array_number_is : (e : Surroundings) (t : Text) → is_phrase row.WHOLE_ARRAY t ≡ true → starts Atoms start.Alpha t ≡ false
     → whole_array e (tree_at row.WHOLE_ARRAY t) ≡ array_receiver e false (tree_at row.NUMERIC_ARRAY t)
 unfolding whole_array
 array_number_is e t ok is = ap (whole_array e) (array_by_number t ok is).tree
 
-pub array_number_rest : (t : Text) → is_part row.WHOLE_ARRAY t ≡ true → starts Atoms start.Alpha t ≡ false → after_part row.WHOLE_ARRAY t ≡ after_part row.NUMERIC_ARRAY t
+pub array_number_rest : (t : Text) → is_phrase row.WHOLE_ARRAY t ≡ true → starts Atoms start.Alpha t ≡ false → after_phrase row.WHOLE_ARRAY t ≡ after_phrase row.NUMERIC_ARRAY t
 array_number_rest t ok is = (array_by_number t ok is).rest
 
 -- a buffer that is no part of a value
@@ -189,32 +189,32 @@ buffer_variable_row : row_items row.BUFFER_VARIABLE ≡ Either start.Array row.A
 unfolding row_items
 buffer_variable_row = refl
 
-buffer_by_array : (t : Text) → is_part row.BUFFER_VARIABLE t ≡ true → starts Atoms start.Array t ≡ true → ReadAs row.BUFFER_VARIABLE row.ALPHA_ARRAY first_branch t
+buffer_by_array : (t : Text) → is_phrase row.BUFFER_VARIABLE t ≡ true → starts Atoms start.Array t ≡ true → ReadAs row.BUFFER_VARIABLE row.ALPHA_ARRAY first_branch t
 buffer_by_array t ok is = either_first _ _ _ _ t buffer_variable_row ok is
 
-buffer_by_value : (t : Text) → is_part row.BUFFER_VARIABLE t ≡ true → starts Atoms start.Array t ≡ false → ReadAs row.BUFFER_VARIABLE row.ALPHA_RECEIVER_VARIABLE second_branch t
+buffer_by_value : (t : Text) → is_phrase row.BUFFER_VARIABLE t ≡ true → starts Atoms start.Array t ≡ false → ReadAs row.BUFFER_VARIABLE row.ALPHA_RECEIVER_VARIABLE second_branch t
 buffer_by_value t ok is = either_second _ _ _ _ t buffer_variable_row ok is
 
-pub buffer_array_here : (t : Text) → is_part row.BUFFER_VARIABLE t ≡ true → starts Atoms start.Array t ≡ true → is_part row.ALPHA_ARRAY t ≡ true
+pub buffer_array_here : (t : Text) → is_phrase row.BUFFER_VARIABLE t ≡ true → starts Atoms start.Array t ≡ true → is_phrase row.ALPHA_ARRAY t ≡ true
 buffer_array_here t ok is = (buffer_by_array t ok is).part
 
-pub buffer_array_is : (e : Context) (t : Text) → is_part row.BUFFER_VARIABLE t ≡ true → starts Atoms start.Array t ≡ true
+pub buffer_array_is : (e : Context) (t : Text) → is_phrase row.BUFFER_VARIABLE t ≡ true → starts Atoms start.Array t ≡ true
     → buffer_variable e (tree_at row.BUFFER_VARIABLE t) ≡ (array_receiver e.around true (tree_at row.ALPHA_ARRAY t) >>= (λ x. Ok (buffer_kind.Array x)))
 unfolding buffer_variable
 buffer_array_is e t ok is = ap (buffer_variable e) (buffer_by_array t ok is).tree
 
-pub buffer_array_rest : (t : Text) → is_part row.BUFFER_VARIABLE t ≡ true → starts Atoms start.Array t ≡ true → after_part row.BUFFER_VARIABLE t ≡ after_part row.ALPHA_ARRAY t
+pub buffer_array_rest : (t : Text) → is_phrase row.BUFFER_VARIABLE t ≡ true → starts Atoms start.Array t ≡ true → after_phrase row.BUFFER_VARIABLE t ≡ after_phrase row.ALPHA_ARRAY t
 buffer_array_rest t ok is = (buffer_by_array t ok is).rest
 
-pub buffer_value_here : (t : Text) → is_part row.BUFFER_VARIABLE t ≡ true → starts Atoms start.Array t ≡ false → is_part row.ALPHA_RECEIVER_VARIABLE t ≡ true
+pub buffer_value_here : (t : Text) → is_phrase row.BUFFER_VARIABLE t ≡ true → starts Atoms start.Array t ≡ false → is_phrase row.ALPHA_RECEIVER_VARIABLE t ≡ true
 buffer_value_here t ok is = (buffer_by_value t ok is).part
 
-pub buffer_value_is : (e : Context) (t : Text) → is_part row.BUFFER_VARIABLE t ≡ true → starts Atoms start.Array t ≡ false
+pub buffer_value_is : (e : Context) (t : Text) → is_phrase row.BUFFER_VARIABLE t ≡ true → starts Atoms start.Array t ≡ false
     → buffer_variable e (tree_at row.BUFFER_VARIABLE t) ≡ (whole_value e (tree_at row.ALPHA_RECEIVER_VARIABLE t) >>= (λ x. Ok (buffer_kind.Value x)))
 unfolding buffer_variable
 buffer_value_is e t ok is = ap (buffer_variable e) (buffer_by_value t ok is).tree
 
-pub buffer_value_rest : (t : Text) → is_part row.BUFFER_VARIABLE t ≡ true → starts Atoms start.Array t ≡ false → after_part row.BUFFER_VARIABLE t ≡ after_part row.ALPHA_RECEIVER_VARIABLE t
+pub buffer_value_rest : (t : Text) → is_phrase row.BUFFER_VARIABLE t ≡ true → starts Atoms start.Array t ≡ false → after_phrase row.BUFFER_VARIABLE t ≡ after_phrase row.ALPHA_RECEIVER_VARIABLE t
 buffer_value_rest t ok is = (buffer_by_value t ok is).rest
 
 -- a buffer
@@ -222,30 +222,30 @@ buffer_row : row_items row.BUFFER ≡ Either (start.Code word.STR_OPEN) row.STRI
 unfolding row_items
 buffer_row = refl
 
-buffer_by_part : (t : Text) → is_part row.BUFFER t ≡ true → (first t == word.STR_OPEN) ≡ true → ReadAs row.BUFFER row.STRING_PART first_branch t
+buffer_by_part : (t : Text) → is_phrase row.BUFFER t ≡ true → (first t == word.STR_OPEN) ≡ true → ReadAs row.BUFFER row.STRING_PART first_branch t
 buffer_by_part t ok is = either_first _ _ _ _ t buffer_row ok (begins word.STR_OPEN t true is)
 
-buffer_by_variable : (t : Text) → is_part row.BUFFER t ≡ true → (first t == word.STR_OPEN) ≡ false → ReadAs row.BUFFER row.BUFFER_VARIABLE second_branch t
+buffer_by_variable : (t : Text) → is_phrase row.BUFFER t ≡ true → (first t == word.STR_OPEN) ≡ false → ReadAs row.BUFFER row.BUFFER_VARIABLE second_branch t
 buffer_by_variable t ok is = either_second _ _ _ _ t buffer_row ok (begins word.STR_OPEN t false is)
 
-pub buffer_part_here : (t : Text) → is_part row.BUFFER t ≡ true → (first t == word.STR_OPEN) ≡ true → is_part row.STRING_PART t ≡ true
+pub buffer_part_here : (t : Text) → is_phrase row.BUFFER t ≡ true → (first t == word.STR_OPEN) ≡ true → is_phrase row.STRING_PART t ≡ true
 buffer_part_here t ok is = (buffer_by_part t ok is).part
 
-pub buffer_part_is : (e : Context) (t : Text) → is_part row.BUFFER t ≡ true → (first t == word.STR_OPEN) ≡ true
+pub buffer_part_is : (e : Context) (t : Text) → is_phrase row.BUFFER t ≡ true → (first t == word.STR_OPEN) ≡ true
     → buffer e (tree_at row.BUFFER t) ≡ (part_receiver e (tree_at row.STRING_PART t) >>= (λ x. Ok (buffer_kind.Value x)))
 unfolding buffer
 buffer_part_is e t ok is = ap (buffer e) (buffer_by_part t ok is).tree
 
-pub buffer_part_rest : (t : Text) → is_part row.BUFFER t ≡ true → (first t == word.STR_OPEN) ≡ true → after_part row.BUFFER t ≡ after_part row.STRING_PART t
+pub buffer_part_rest : (t : Text) → is_phrase row.BUFFER t ≡ true → (first t == word.STR_OPEN) ≡ true → after_phrase row.BUFFER t ≡ after_phrase row.STRING_PART t
 buffer_part_rest t ok is = (buffer_by_part t ok is).rest
 
-pub buffer_variable_here : (t : Text) → is_part row.BUFFER t ≡ true → (first t == word.STR_OPEN) ≡ false → is_part row.BUFFER_VARIABLE t ≡ true
+pub buffer_variable_here : (t : Text) → is_phrase row.BUFFER t ≡ true → (first t == word.STR_OPEN) ≡ false → is_phrase row.BUFFER_VARIABLE t ≡ true
 buffer_variable_here t ok is = (buffer_by_variable t ok is).part
 
-pub buffer_variable_is : (e : Context) (t : Text) → is_part row.BUFFER t ≡ true → (first t == word.STR_OPEN) ≡ false
+pub buffer_variable_is : (e : Context) (t : Text) → is_phrase row.BUFFER t ≡ true → (first t == word.STR_OPEN) ≡ false
     → buffer e (tree_at row.BUFFER t) ≡ buffer_variable e (tree_at row.BUFFER_VARIABLE t)
 unfolding buffer
 buffer_variable_is e t ok is = ap (buffer e) (buffer_by_variable t ok is).tree
 
-pub buffer_variable_rest : (t : Text) → is_part row.BUFFER t ≡ true → (first t == word.STR_OPEN) ≡ false → after_part row.BUFFER t ≡ after_part row.BUFFER_VARIABLE t
+pub buffer_variable_rest : (t : Text) → is_phrase row.BUFFER t ≡ true → (first t == word.STR_OPEN) ≡ false → after_phrase row.BUFFER t ≡ after_phrase row.BUFFER_VARIABLE t
 buffer_variable_rest t ok is = (buffer_by_variable t ok is).rest

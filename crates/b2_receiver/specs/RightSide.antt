@@ -18,7 +18,7 @@ use Rattle.b2_atom.specs.declared.words.TheConstants as word
 use Rattle.b2_atom.specs.declared.rows.TheConstants as row
 use Rattle.b2_atom.specs.declared.forms.Start.{Start}
 use Rattle.b2_atom.specs.declared.forms.Start.TheVariants as start
-use Rattle.b2_rows.specs.Rows.{is_part, tree_at, after_part}
+use Rattle.b2_rows.specs.Rows.{is_phrase, tree_at, after_phrase}
 use Rattle.b2_rows.specs.Links.{token_code}
 use Rattle.b2_expr.specs.Answers.{TextAnswer, ◌>>=◌}
 use Rattle.b2_expr.specs.Scope.{Context}
@@ -98,13 +98,13 @@ operation_start = start.Among word.AND word.DSC
 
 -- whether the right side is read at a text, its tree as it is the end of an assignment's, and what is left after it
 unfoldable pub is_right_side : Text → Bool
-is_right_side t = if starts Atoms start.Alpha t then is_part row.FIRST_AND_OPERATIONS t else is_part row.OPERATIONS t
+is_right_side t = if starts Atoms start.Alpha t then is_phrase row.FIRST_AND_OPERATIONS t else is_phrase row.OPERATIONS t
 
 unfoldable pub right_side_tree : Text → Trees
 right_side_tree t = if starts Atoms start.Alpha t then In 1 (tree_at row.FIRST_AND_OPERATIONS t) Done else In 0 (tree_at row.OPERATIONS t) Done
 
 unfoldable pub after_right_side : Text → Text
-after_right_side t = if starts Atoms start.Alpha t then after_part row.FIRST_AND_OPERATIONS t else after_part row.OPERATIONS t
+after_right_side t = if starts Atoms start.Alpha t then after_phrase row.FIRST_AND_OPERATIONS t else after_phrase row.OPERATIONS t
 
 -- what an operator makes of the bytes of a receiver: under BOOL the operand stands at the left of them, under the others at
 -- the right; of a digit its last four bits count

@@ -16,10 +16,10 @@ mod assign;
 pub mod laws;
 mod locate;
 mod operations;
-mod passing;
 mod receiver;
 mod receivers;
 mod receiving;
+mod skip_text;
 
 pub use assign::{
     assign_bytes, assign_first, assign_number, assign_side, assign_value, buffer_bytes,
@@ -27,7 +27,6 @@ pub use assign::{
 };
 pub use locate::{alpha_receiver_at, number_receiver_at};
 pub use operations::{AlphaOperator, Operation, RightSide, is_operation_at, is_right_side_read};
-pub use passing::{past_alpha_receiver, past_any_receiver, past_number_receiver};
 pub use receiver::{AlphaReceiver, Array, Buffer, Portion, Receiver};
 pub use receivers::{
     alpha_receiver, any_receiver, array_named, buffer, number_receiver, right_side, whole_array,
@@ -35,3 +34,4 @@ pub use receivers::{
 pub use receiving::{
     assign_bytes_at, assign_number_at, assign_side_at, change_among, give_bytes, give_value,
 };
+pub use skip_text::{past_alpha_receiver, past_any_receiver, past_number_receiver};

@@ -1,7 +1,7 @@
 // Where receivers stand: their rows at a text.
 ghost use Rattle.std.specs.Prelude.{◌≡◌, true, drop, IfOk};
 ghost use Rattle.b2_atom.specs.declared.rows.TheConstants as row;
-ghost use Rattle.b2_rows.specs.Rows.{is_part, tree_at, after_part};
+ghost use Rattle.b2_rows.specs.Rows.{is_phrase, tree_at, after_phrase};
 ghost use Rattle.b2_expr.specs.Reads.{Gives};
 ghost use Rattle.b2_receiver.specs.Receivers as spec;
 ghost use Rattle.b2_receiver.specs.Receivers.{IsAlpha, IsArray, IsBuffer, IsNamed, IsNumeric, array_leaf, array_row, is_alpha_array};
@@ -28,8 +28,8 @@ use b2_rows::{Name, alpha_name, is_alpha_at, is_array_at, is_at, numeric_name};
 /// A numeric receiver, and what stands after it. X77 comes at the name, then the codes of the subscripts, P59 and P57.
 #[tactic(auto, using(crate::proofs::ReceiverRows::number_is))]
 pub fn number_receiver_at<'a>(s: &Scope<'_>, text: &'a [u8]) -> Result<(Element, &'a [u8]), Code>
-    requires part { is_part row.NUMERIC_RECEIVER text.now ≡ true }
-    ensures place { Gives (spec.number_receiver (context s.now) (tree_at row.NUMERIC_RECEIVER text.now)) (after_part row.NUMERIC_RECEIVER text.now) result }
+    requires phrase { is_phrase row.NUMERIC_RECEIVER text.now ≡ true }
+    ensures place { Gives (spec.number_receiver (context s.now) (tree_at row.NUMERIC_RECEIVER text.now)) (after_phrase row.NUMERIC_RECEIVER text.now) result }
     ensures name { IfOk result (λ p. IsNumeric p.0.var) }
 {
     let (located, rest) = match located(s, NameKind::NumberReceiver, text) {
@@ -45,8 +45,8 @@ pub fn number_receiver_at<'a>(s: &Scope<'_>, text: &'a [u8]) -> Result<(Element,
 /// All bytes of an alpha value, as a receiver.
 #[tactic(auto, using(crate::proofs::ReceiverRows::whole_is))]
 fn whole_value_at<'a>(s: &Scope<'_>, text: &'a [u8]) -> Result<(AlphaReceiver, &'a [u8]), Code>
-    requires part { is_part row.ALPHA_RECEIVER_VARIABLE text.now ≡ true }
-    ensures place { Gives (spec.whole_value (context s.now) (tree_at row.ALPHA_RECEIVER_VARIABLE text.now)) (after_part row.ALPHA_RECEIVER_VARIABLE text.now) result }
+    requires phrase { is_phrase row.ALPHA_RECEIVER_VARIABLE text.now ≡ true }
+    ensures place { Gives (spec.whole_value (context s.now) (tree_at row.ALPHA_RECEIVER_VARIABLE text.now)) (after_phrase row.ALPHA_RECEIVER_VARIABLE text.now) result }
     ensures name { IfOk result (λ p. IsAlpha p.0.element.var) }
 {
     let (located, rest) = match located(s, NameKind::AlphaReceiver, text) {
@@ -99,8 +99,8 @@ fn portion_count(left: u8, count: Option<Dec>) -> Result<u8, Code>
 /// The bytes that STR names, as a receiver: after the codes of its variable those of its numbers, and P34 last.
 #[tactic(auto, using(crate::proofs::ReceiverRows::part_is, b2_expr::proofs::Texts::part_variable, b2_expr::proofs::Texts::part_from, b2_expr::proofs::Texts::part_count, b2_expr::proofs::Texts::part_rest))]
 fn part_receiver_at<'a>(s: &Scope<'_>, text: &'a [u8]) -> Result<(AlphaReceiver, &'a [u8]), Code>
-    requires part { is_part row.STRING_PART text.now ≡ true }
-    ensures place { Gives (spec.part_receiver (context s.now) (tree_at row.STRING_PART text.now)) (after_part row.STRING_PART text.now) result }
+    requires phrase { is_phrase row.STRING_PART text.now ≡ true }
+    ensures place { Gives (spec.part_receiver (context s.now) (tree_at row.STRING_PART text.now)) (after_phrase row.STRING_PART text.now) result }
     ensures name { IfOk result (λ p. IsAlpha p.0.element.var) }
 {
     let (whole, after) = match whole_value_at(s, rest_after(text, 1)) {
@@ -133,8 +133,8 @@ pub fn alpha_receiver_at<'a>(
     s: &Scope<'_>,
     text: &'a [u8],
 ) -> Result<(AlphaReceiver, &'a [u8]), Code>
-    requires part { is_part row.ALPHA_RECEIVER text.now ≡ true }
-    ensures place { Gives (spec.alpha_receiver (context s.now) (tree_at row.ALPHA_RECEIVER text.now)) (after_part row.ALPHA_RECEIVER text.now) result }
+    requires phrase { is_phrase row.ALPHA_RECEIVER text.now ≡ true }
+    ensures place { Gives (spec.alpha_receiver (context s.now) (tree_at row.ALPHA_RECEIVER text.now)) (after_phrase row.ALPHA_RECEIVER text.now) result }
     ensures name { IfOk result (λ p. IsAlpha p.0.element.var) }
 {
     if is_at(STR_OPEN, text) {
@@ -147,8 +147,8 @@ pub fn alpha_receiver_at<'a>(
 /// A receiver of either kind, and what stands after it.
 #[tactic(auto, using(crate::proofs::ReceiverRows::any_alpha_here, crate::proofs::ReceiverRows::any_alpha_is, crate::proofs::ReceiverRows::any_alpha_rest, crate::proofs::ReceiverRows::any_number_here, crate::proofs::ReceiverRows::any_number_is, crate::proofs::ReceiverRows::any_number_rest))]
 pub fn any_receiver_at<'a>(s: &Scope<'_>, text: &'a [u8]) -> Result<(Receiver, &'a [u8]), Code>
-    requires part { is_part row.RECEIVER text.now ≡ true }
-    ensures place { Gives (spec.any_receiver (context s.now) (tree_at row.RECEIVER text.now)) (after_part row.RECEIVER text.now) result }
+    requires phrase { is_phrase row.RECEIVER text.now ≡ true }
+    ensures place { Gives (spec.any_receiver (context s.now) (tree_at row.RECEIVER text.now)) (after_phrase row.RECEIVER text.now) result }
     ensures name { IfOk result (λ p. IsNamed p.0) }
 {
     if is_alpha_at(text) {
@@ -217,9 +217,13 @@ pub fn array_named_at<'a>(
 
 /// A whole array of a kind, and what stands after it.
 #[tactic(auto, using(crate::proofs::ReceiverRows::array_here, crate::proofs::ReceiverRows::array_is, crate::proofs::ReceiverRows::array_rest))]
-fn array_at<'a>(env: &Env<'_>, kind: Kind, text: &'a [u8]) -> Result<(Array, &'a [u8]), Code>
-    requires part { is_part (array_row kind) text.now ≡ true }
-    ensures place { Gives (spec.array_receiver (surroundings env.now) (is_alpha_array kind) (tree_at (array_row kind) text.now)) (after_part (array_row kind) text.now) result }
+fn array_of_kind_at<'a>(
+    env: &Env<'_>,
+    kind: Kind,
+    text: &'a [u8],
+) -> Result<(Array, &'a [u8]), Code>
+    requires phrase { is_phrase (array_row kind) text.now ≡ true }
+    ensures place { Gives (spec.array_receiver (surroundings env.now) (is_alpha_array kind) (tree_at (array_row kind) text.now)) (after_phrase (array_row kind) text.now) result }
     ensures name { IfOk result (λ p. IsArray p.0.var × (p.0.var.alpha ≡ is_alpha_array kind)) }
 {
     match array_named_at(env, kind, text) {
@@ -231,26 +235,26 @@ fn array_at<'a>(env: &Env<'_>, kind: Kind, text: &'a [u8]) -> Result<(Array, &'a
 /// A whole array of either kind, and what stands after it.
 #[tactic(auto, using(crate::proofs::ReceiverRows::array_alpha_here, crate::proofs::ReceiverRows::array_alpha_is, crate::proofs::ReceiverRows::array_alpha_rest, crate::proofs::ReceiverRows::array_number_here, crate::proofs::ReceiverRows::array_number_is, crate::proofs::ReceiverRows::array_number_rest))]
 pub fn whole_array_at<'a>(env: &Env<'_>, text: &'a [u8]) -> Result<(Array, &'a [u8]), Code>
-    requires part { is_part row.WHOLE_ARRAY text.now ≡ true }
-    ensures place { Gives (spec.whole_array (surroundings env.now) (tree_at row.WHOLE_ARRAY text.now)) (after_part row.WHOLE_ARRAY text.now) result }
+    requires phrase { is_phrase row.WHOLE_ARRAY text.now ≡ true }
+    ensures place { Gives (spec.whole_array (surroundings env.now) (tree_at row.WHOLE_ARRAY text.now)) (after_phrase row.WHOLE_ARRAY text.now) result }
     ensures name { IfOk result (λ p. IsArray p.0.var) }
 {
     if is_alpha_at(text) {
-        array_at(env, Kind::Alpha, text)
+        array_of_kind_at(env, Kind::Alpha, text)
     } else {
-        array_at(env, Kind::Number, text)
+        array_of_kind_at(env, Kind::Number, text)
     }
 }
 
 /// A buffer that is no part of a value, and what stands after it.
 #[tactic(auto, using(crate::proofs::ReceiverRows::buffer_array_here, crate::proofs::ReceiverRows::buffer_array_is, crate::proofs::ReceiverRows::buffer_array_rest, crate::proofs::ReceiverRows::buffer_value_here, crate::proofs::ReceiverRows::buffer_value_is, crate::proofs::ReceiverRows::buffer_value_rest))]
 fn buffer_variable_at<'a>(s: &Scope<'_>, text: &'a [u8]) -> Result<(Buffer, &'a [u8]), Code>
-    requires part { is_part row.BUFFER_VARIABLE text.now ≡ true }
-    ensures place { Gives (spec.buffer_variable (context s.now) (tree_at row.BUFFER_VARIABLE text.now)) (after_part row.BUFFER_VARIABLE text.now) result }
+    requires phrase { is_phrase row.BUFFER_VARIABLE text.now ≡ true }
+    ensures place { Gives (spec.buffer_variable (context s.now) (tree_at row.BUFFER_VARIABLE text.now)) (after_phrase row.BUFFER_VARIABLE text.now) result }
     ensures name { IfOk result (λ p. IsBuffer p.0) }
 {
     if is_array_at(text) {
-        match array_at(s.env, Kind::Alpha, text) {
+        match array_of_kind_at(s.env, Kind::Alpha, text) {
             Ok((array, rest)) => Ok((Buffer::Array(array), rest)),
             Err(code) => Err(code),
         }
@@ -265,8 +269,8 @@ fn buffer_variable_at<'a>(s: &Scope<'_>, text: &'a [u8]) -> Result<(Buffer, &'a 
 /// A buffer, and what stands after it.
 #[tactic(auto, using(crate::proofs::ReceiverRows::buffer_part_here, crate::proofs::ReceiverRows::buffer_part_is, crate::proofs::ReceiverRows::buffer_part_rest, crate::proofs::ReceiverRows::buffer_variable_here, crate::proofs::ReceiverRows::buffer_variable_is, crate::proofs::ReceiverRows::buffer_variable_rest))]
 pub fn buffer_at<'a>(s: &Scope<'_>, text: &'a [u8]) -> Result<(Buffer, &'a [u8]), Code>
-    requires part { is_part row.BUFFER text.now ≡ true }
-    ensures place { Gives (spec.buffer (context s.now) (tree_at row.BUFFER text.now)) (after_part row.BUFFER text.now) result }
+    requires phrase { is_phrase row.BUFFER text.now ≡ true }
+    ensures place { Gives (spec.buffer (context s.now) (tree_at row.BUFFER text.now)) (after_phrase row.BUFFER text.now) result }
     ensures name { IfOk result (λ p. IsBuffer p.0) }
 {
     if is_at(STR_OPEN, text) {

@@ -3,7 +3,7 @@ ghost use Rattle.std.specs.Prelude.{◌≡◌, true, Ok, Err, MatchResult};
 ghost use Rattle.b2_atom.specs.declared.rows.TheConstants as row;
 ghost use Rattle.b2_atom.specs.declared.words.Origin.TheVariants.{Atoms};
 ghost use Rattle.b2_atom.specs.Grammar.{starts};
-ghost use Rattle.b2_rows.specs.Rows.{is_part, tree_at, after_part, is_list, list_at, after_list};
+ghost use Rattle.b2_rows.specs.Rows.{is_phrase, tree_at, after_phrase, is_list, list_at, after_list};
 ghost use Rattle.b2_vars.specs.Answers.{Answers};
 ghost use Rattle.b2_expr.specs.Reads.{Gives};
 ghost use Rattle.b2_receiver.specs.RightSide as spec;
@@ -92,8 +92,8 @@ fn with_operand<'a>(
     s: &Scope<'_>,
     text: &'a [u8],
 ) -> Result<(Operation, &'a [u8]), Code>
-    requires part { is_part row.ALPHA text.now ≡ true }
-    ensures { Gives (spec.with_operand operator (meaning.text (context s.now) (tree_at row.ALPHA text.now))) (after_part row.ALPHA text.now) result }
+    requires phrase { is_phrase row.ALPHA text.now ≡ true }
+    ensures { Gives (spec.with_operand operator (meaning.text (context s.now) (tree_at row.ALPHA text.now))) (after_phrase row.ALPHA text.now) result }
 {
     let mut operand = Bytes::new();
     match alpha_at(s, text, &mut operand) {
@@ -105,8 +105,8 @@ fn with_operand<'a>(
 /// BOOL, its digit and its operand.
 #[tactic(auto, using(crate::proofs::OperationRows::digit_here, crate::proofs::OperationRows::digit_operand, crate::proofs::OperationRows::digit_is, crate::proofs::OperationRows::digit_rest))]
 fn digit_operation_at<'a>(s: &Scope<'_>, text: &'a [u8]) -> Result<(Operation, &'a [u8]), Code>
-    requires part { is_part row.BOOLEAN text.now ≡ true }
-    ensures { Gives (spec.digit_operation (context s.now) (tree_at row.BOOLEAN text.now)) (after_part row.BOOLEAN text.now) result }
+    requires phrase { is_phrase row.BOOLEAN text.now ≡ true }
+    ensures { Gives (spec.digit_operation (context s.now) (tree_at row.BOOLEAN text.now)) (after_phrase row.BOOLEAN text.now) result }
 {
     let digit = hex_digit_at(rest_after(text, 1));
     with_operand(AlphaOperator::Bool(digit), s, rest_after(text, 2))
@@ -115,8 +115,8 @@ fn digit_operation_at<'a>(s: &Scope<'_>, text: &'a [u8]) -> Result<(Operation, &
 /// Any other operation.
 #[tactic(auto, using(crate::proofs::OperationRows::word_operand, crate::proofs::OperationRows::word_is, crate::proofs::OperationRows::word_rest))]
 fn word_operation_at<'a>(s: &Scope<'_>, text: &'a [u8]) -> Result<(Operation, &'a [u8]), Code>
-    requires part { is_part row.OTHER_OPERATION text.now ≡ true }
-    ensures { Gives (spec.word_operation (context s.now) (tree_at row.OTHER_OPERATION text.now)) (after_part row.OTHER_OPERATION text.now) result }
+    requires phrase { is_phrase row.OTHER_OPERATION text.now ≡ true }
+    ensures { Gives (spec.word_operation (context s.now) (tree_at row.OTHER_OPERATION text.now)) (after_phrase row.OTHER_OPERATION text.now) result }
 {
     with_operand(operator_of(first(text)), s, rest_after(text, 1))
 }
@@ -124,8 +124,8 @@ fn word_operation_at<'a>(s: &Scope<'_>, text: &'a [u8]) -> Result<(Operation, &'
 /// An operation, and what stands after it.
 #[tactic(auto, using(crate::proofs::OperationRows::on_digit_here, crate::proofs::OperationRows::on_digit_is, crate::proofs::OperationRows::on_digit_rest, crate::proofs::OperationRows::on_word_here, crate::proofs::OperationRows::on_word_is, crate::proofs::OperationRows::on_word_rest))]
 fn operation_at<'a>(s: &Scope<'_>, text: &'a [u8]) -> Result<(Operation, &'a [u8]), Code>
-    requires part { is_part row.OPERATION text.now ≡ true }
-    ensures { Gives (spec.operation (context s.now) (tree_at row.OPERATION text.now)) (after_part row.OPERATION text.now) result }
+    requires phrase { is_phrase row.OPERATION text.now ≡ true }
+    ensures { Gives (spec.operation (context s.now) (tree_at row.OPERATION text.now)) (after_phrase row.OPERATION text.now) result }
 {
     if is_at(BOOL, text) {
         digit_operation_at(s, text)
@@ -140,8 +140,8 @@ fn put_operation<'a>(
     text: &'a [u8],
     into: &mut Vec<Operation>,
 ) -> Result<&'a [u8], Fault>
-    requires part { is_part row.OPERATION text.now ≡ true }
-    ensures { spec.PutsOperations (spec.then_operation (context s.now) (Ok into.old.items) (tree_at row.OPERATION text.now)) (after_part row.OPERATION text.now) into.new.items result }
+    requires phrase { is_phrase row.OPERATION text.now ≡ true }
+    ensures { spec.PutsOperations (spec.then_operation (context s.now) (Ok into.old.items) (tree_at row.OPERATION text.now)) (after_phrase row.OPERATION text.now) into.new.items result }
 {
     match operation_at(s, text) {
         Ok((operation, rest)) => match into.push(operation) {
@@ -179,8 +179,8 @@ fn first_and_operations_at<'a>(
     s: &Scope<'_>,
     text: &'a [u8],
 ) -> Result<(RightSide, &'a [u8]), Fault>
-    requires part { is_part row.FIRST_AND_OPERATIONS text.now ≡ true }
-    ensures { spec.GivesSide (spec.first_and_operations (context s.now) (tree_at row.FIRST_AND_OPERATIONS text.now)) (after_part row.FIRST_AND_OPERATIONS text.now) result }
+    requires phrase { is_phrase row.FIRST_AND_OPERATIONS text.now ≡ true }
+    ensures { spec.GivesSide (spec.first_and_operations (context s.now) (tree_at row.FIRST_AND_OPERATIONS text.now)) (after_phrase row.FIRST_AND_OPERATIONS text.now) result }
 {
     let mut value = Bytes::new();
     let after = match alpha_at(s, text, &mut value) {
@@ -204,8 +204,8 @@ fn operations_alone_at<'a>(
     s: &Scope<'_>,
     text: &'a [u8],
 ) -> Result<(RightSide, &'a [u8]), Fault>
-    requires part { is_part row.OPERATIONS text.now ≡ true }
-    ensures { spec.GivesSide (spec.operations_alone (context s.now) (tree_at row.OPERATIONS text.now)) (after_part row.OPERATIONS text.now) result }
+    requires phrase { is_phrase row.OPERATIONS text.now ≡ true }
+    ensures { spec.GivesSide (spec.operations_alone (context s.now) (tree_at row.OPERATIONS text.now)) (after_phrase row.OPERATIONS text.now) result }
 {
     let mut operations = Vec::new(alloc);
     let after = match put_operation(s, text, &mut operations) {
@@ -228,7 +228,7 @@ pub fn right_side_at<'a>(
     s: &Scope<'_>,
     text: &'a [u8],
 ) -> Result<(RightSide, &'a [u8]), Fault>
-    requires part { is_right_side text.now ≡ true }
+    requires phrase { is_right_side text.now ≡ true }
     ensures { spec.GivesSide (spec.right_side (context s.now) (right_side_tree text.now)) (after_right_side text.now) result }
 {
     if is_alpha_at(text) {

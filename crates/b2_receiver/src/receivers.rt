@@ -4,7 +4,7 @@ ghost use Rattle.b2_atom.specs.Leaves.{leaf_width};
 ghost use Rattle.b2_atom.specs.declared.rows.TheConstants as row;
 ghost use Rattle.b2_atom.specs.declared.words.Origin.TheVariants.{Atoms};
 ghost use Rattle.b2_rows.specs.Leaves.{is_leaf, leaf_bytes};
-ghost use Rattle.b2_rows.specs.Rows.{is_part, tree_at, after_part};
+ghost use Rattle.b2_rows.specs.Rows.{is_phrase, tree_at, after_phrase};
 ghost use Rattle.b2_rows.specs.Values.{variable_name};
 ghost use Rattle.b2_receiver.specs.Receivers as spec;
 ghost use Rattle.b2_receiver.specs.Receivers.{IsAlpha, IsArray, IsBuffer, IsNamed, IsNumeric, GivesAt, array_leaf, is_alpha_array};
@@ -28,8 +28,8 @@ use std::alloc::Global;
 /// The numeric receiver at a cursor, which then stands after it; or the first code from the left, and then the cursor is as
 /// before. X77 comes at the name, then the codes of its subscripts, P59 and P57.
 pub fn number_receiver(c: &mut Cursor<'_>, e: &Env<'_>) -> Result<Element, Code>
-    requires part { is_part row.NUMERIC_RECEIVER c.old ≡ true }
-    ensures place { GivesAt (spec.number_receiver (in_statement (surroundings e.now)) (tree_at row.NUMERIC_RECEIVER c.old)) (after_part row.NUMERIC_RECEIVER c.old) c.old c.new result }
+    requires phrase { is_phrase row.NUMERIC_RECEIVER c.old ≡ true }
+    ensures place { GivesAt (spec.number_receiver (in_statement (surroundings e.now)) (tree_at row.NUMERIC_RECEIVER c.old)) (after_phrase row.NUMERIC_RECEIVER c.old) c.old c.new result }
     ensures name { IfOk result (λ to. IsNumeric to.var) }
 {
     let (to, rest) = match number_receiver_at(&in_statement(e), c.rest()) {
@@ -43,8 +43,8 @@ pub fn number_receiver(c: &mut Cursor<'_>, e: &Env<'_>) -> Result<Element, Code>
 /// The alpha receiver at a cursor, as `number_receiver`. Of STR the codes of its numbers come after those of its variable,
 /// and P34 last, where the value has no such bytes.
 pub fn alpha_receiver(c: &mut Cursor<'_>, e: &Env<'_>) -> Result<AlphaReceiver, Code>
-    requires part { is_part row.ALPHA_RECEIVER c.old ≡ true }
-    ensures place { GivesAt (spec.alpha_receiver (in_statement (surroundings e.now)) (tree_at row.ALPHA_RECEIVER c.old)) (after_part row.ALPHA_RECEIVER c.old) c.old c.new result }
+    requires phrase { is_phrase row.ALPHA_RECEIVER c.old ≡ true }
+    ensures place { GivesAt (spec.alpha_receiver (in_statement (surroundings e.now)) (tree_at row.ALPHA_RECEIVER c.old)) (after_phrase row.ALPHA_RECEIVER c.old) c.old c.new result }
     ensures name { IfOk result (λ to. IsAlpha to.element.var) }
 {
     let (to, rest) = match alpha_receiver_at(&in_statement(e), c.rest()) {
@@ -57,8 +57,8 @@ pub fn alpha_receiver(c: &mut Cursor<'_>, e: &Env<'_>) -> Result<AlphaReceiver, 
 
 /// The receiver of either kind at a cursor, as `number_receiver` and `alpha_receiver`.
 pub fn any_receiver(c: &mut Cursor<'_>, e: &Env<'_>) -> Result<Receiver, Code>
-    requires part { is_part row.RECEIVER c.old ≡ true }
-    ensures place { GivesAt (spec.any_receiver (in_statement (surroundings e.now)) (tree_at row.RECEIVER c.old)) (after_part row.RECEIVER c.old) c.old c.new result }
+    requires phrase { is_phrase row.RECEIVER c.old ≡ true }
+    ensures place { GivesAt (spec.any_receiver (in_statement (surroundings e.now)) (tree_at row.RECEIVER c.old)) (after_phrase row.RECEIVER c.old) c.old c.new result }
     ensures name { IfOk result IsNamed }
 {
     let (to, rest) = match any_receiver_at(&in_statement(e), c.rest()) {
@@ -72,8 +72,8 @@ pub fn any_receiver(c: &mut Cursor<'_>, e: &Env<'_>) -> Result<Receiver, Code>
 /// The buffer at a cursor: an alpha receiver, or an alpha array with empty parentheses after its name. Codes come as for
 /// these.
 pub fn buffer(c: &mut Cursor<'_>, e: &Env<'_>) -> Result<Buffer, Code>
-    requires part { is_part row.BUFFER c.old ≡ true }
-    ensures place { GivesAt (spec.buffer (in_statement (surroundings e.now)) (tree_at row.BUFFER c.old)) (after_part row.BUFFER c.old) c.old c.new result }
+    requires phrase { is_phrase row.BUFFER c.old ≡ true }
+    ensures place { GivesAt (spec.buffer (in_statement (surroundings e.now)) (tree_at row.BUFFER c.old)) (after_phrase row.BUFFER c.old) c.old c.new result }
     ensures name { IfOk result IsBuffer }
 {
     let (to, rest) = match buffer_at(&in_statement(e), c.rest()) {
@@ -87,8 +87,8 @@ pub fn buffer(c: &mut Cursor<'_>, e: &Env<'_>) -> Result<Buffer, Code>
 /// The whole array at a cursor, with empty parentheses after its name: X77 where there are no `@` variables, and P59 where
 /// the array isn't there.
 pub fn whole_array(c: &mut Cursor<'_>, e: &Env<'_>) -> Result<Array, Code>
-    requires part { is_part row.WHOLE_ARRAY c.old ≡ true }
-    ensures place { GivesAt (spec.whole_array (surroundings e.now) (tree_at row.WHOLE_ARRAY c.old)) (after_part row.WHOLE_ARRAY c.old) c.old c.new result }
+    requires phrase { is_phrase row.WHOLE_ARRAY c.old ≡ true }
+    ensures place { GivesAt (spec.whole_array (surroundings e.now) (tree_at row.WHOLE_ARRAY c.old)) (after_phrase row.WHOLE_ARRAY c.old) c.old c.new result }
     ensures name { IfOk result (λ array. IsArray array.var) }
 {
     let (array, rest) = match whole_array_at(e, c.rest()) {
@@ -116,7 +116,7 @@ pub fn array_named(c: &mut Cursor<'_>, kind: Kind, e: &Env<'_>) -> Result<Array,
 /// The right side of the alpha assignment at a cursor, which then stands after it: all its operands are evaluated. Or the
 /// first code from the left, and then the cursor is as before. Memory is taken where there are operations.
 pub fn right_side(alloc: Global, c: &mut Cursor<'_>, e: &Env<'_>) -> Result<RightSide, Fault>
-    requires part { is_right_side c.old ≡ true }
+    requires phrase { is_right_side c.old ≡ true }
     ensures { GivesSideAt (side.right_side (in_statement (surroundings e.now)) (right_side_tree c.old)) (after_right_side c.old) c.old c.new result }
 {
     let (side, rest) = match right_side_at(alloc, &in_statement(e), c.rest()) {

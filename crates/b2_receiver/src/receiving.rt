@@ -2,7 +2,7 @@
 ghost use Rattle.std.specs.Prelude.{◌≡◌, true, IfOk, Ok};
 ghost use Rattle.std.specs.Fn.{FnOnceReturnsAtMut};
 ghost use Rattle.b2_atom.specs.declared.rows.TheConstants as row;
-ghost use Rattle.b2_rows.specs.Rows.{is_part, tree_at};
+ghost use Rattle.b2_rows.specs.Rows.{is_phrase, tree_at};
 ghost use Rattle.b2_vars.specs.Assigned.{Assigned};
 ghost use Rattle.b2_vars.specs.Tables.{VarsState};
 ghost use Rattle.b2_vars.specs.Variables.{is_alpha};
@@ -105,7 +105,7 @@ pub fn assign_bytes_at(
     bytes: &[u8],
     text: &[u8],
 ) -> Result<Option<Code>, NoMemory>
-    requires part { is_part row.ALPHA_RECEIVER text.now ≡ true }
+    requires phrase { is_phrase row.ALPHA_RECEIVER text.now ≡ true }
     ensures worked { IfOk result (λ code. record { work = workspace work.new; code = code } ≡ spec.assign_bytes_at (Ok bytes.now) (tree_at row.ALPHA_RECEIVER text.now) (workspace work.old)) }
     ensures same_references { SameReferences work.old work.new }
 {
@@ -121,7 +121,7 @@ pub fn assign_side_at(
     side: &RightSide,
     text: &[u8],
 ) -> Result<Option<Code>, NoMemory>
-    requires part { is_part row.ALPHA_RECEIVER text.now ≡ true }
+    requires phrase { is_phrase row.ALPHA_RECEIVER text.now ≡ true }
     ensures worked { IfOk result (λ code. record { work = workspace work.new; code = code } ≡ spec.assign_side_at (side_seen side.now) (tree_at row.ALPHA_RECEIVER text.now) (workspace work.old)) }
     ensures same_references { SameReferences work.old work.new }
 {
@@ -138,7 +138,7 @@ pub fn assign_number_at(
     x: Result<Dec, Code>,
     text: &[u8],
 ) -> Result<Option<Code>, NoMemory>
-    requires part { is_part row.NUMERIC_RECEIVER text.now ≡ true }
+    requires phrase { is_phrase row.NUMERIC_RECEIVER text.now ≡ true }
     ensures worked { IfOk result (λ code. record { work = workspace work.new; code = code } ≡ spec.assign_number_at x (tree_at row.NUMERIC_RECEIVER text.now) (workspace work.old)) }
     ensures same_references { SameReferences work.old work.new }
 {

@@ -9,7 +9,7 @@ use Rattle.b2_atom.specs.declared.words.TheConstants as word
 use Rattle.b2_atom.specs.declared.rows.TheConstants as row
 use Rattle.b2_atom.specs.declared.forms.Start.TheVariants as start
 use Rattle.b2_atom.specs.declared.forms.Item.TheVariants.{Part, Many, Maybe}
-use Rattle.b2_rows.specs.Rows.{is_part, tree_at, after_part, is_list, list_at, When, Ends}
+use Rattle.b2_rows.specs.Rows.{is_phrase, tree_at, after_phrase, is_list, list_at, When, Ends}
 use Rattle.b2_rows.specs.Links.{Linked, Further}
 use Rattle.b2_rows.specs.Chains.{chain_row, front_row, item_row, more_row, more_start, is_sign, is_operator_of, ChainStands, SignedFactor, PlainFactor}
 use Rattle.b2_rows.specs.Laws.{EachChainStands}
@@ -31,58 +31,58 @@ chain_is chain.Length = refl
 chain_is chain.LengthProduct = refl
 chain_is chain.LengthPower = refl
 
-pub chain_stands : (c : Chain) (t : Text) → is_part (chain_row c) t ≡ true → ChainStands c t
+pub chain_stands : (c : Chain) (t : Text) → is_phrase (chain_row c) t ≡ true → ChainStands c t
 chain_stands c t ok =
     let r = row_stands (chain_row c) (Part (front_row c) ∷ Many (more_start c) (more_row c) ∷ []) t (chain_is c) ok in
     record {
       part = r.stands.0;
       list = r.stands.1.0;
-      tree = r.tree ∙ ap (In 2 (tree_at (front_row c) t)) (also_done (list_at (more_start c) (more_row c) (after_part (front_row c) t)));
+      tree = r.tree ∙ ap (In 2 (tree_at (front_row c) t)) (also_done (list_at (more_start c) (more_row c) (after_phrase (front_row c) t)));
       rest = r.rest;
     }
 
 -- signs and operators
-plus_is : (t : Text) → is_part row.PLUS t ≡ true → OneSign row.PLUS t
+plus_is : (t : Text) → is_phrase row.PLUS t ≡ true → OneSign row.PLUS t
 unfolding row_items
 plus_is t ok = one_sign row.PLUS 43 22 t refl refl ok
 
-minus_is : (t : Text) → is_part row.MINUS t ≡ true → OneSign row.MINUS t
+minus_is : (t : Text) → is_phrase row.MINUS t ≡ true → OneSign row.MINUS t
 unfolding row_items
 minus_is t ok = one_sign row.MINUS 45 22 t refl refl ok
 
-times_is : (t : Text) → is_part row.TIMES t ≡ true → OneSign row.TIMES t
+times_is : (t : Text) → is_phrase row.TIMES t ≡ true → OneSign row.TIMES t
 unfolding row_items
 times_is t ok = one_sign row.TIMES 42 22 t refl refl ok
 
-over_is : (t : Text) → is_part row.OVER t ≡ true → OneSign row.OVER t
+over_is : (t : Text) → is_phrase row.OVER t ≡ true → OneSign row.OVER t
 unfolding row_items
 over_is t ok = one_sign row.OVER 47 22 t refl refl ok
 
-pub sign_is : (t : Text) → is_part row.SIGN t ≡ true → OneSign row.SIGN t
+pub sign_is : (t : Text) → is_phrase row.SIGN t ≡ true → OneSign row.SIGN t
 unfolding row_items
 sign_is t ok = either_sign row.SIGN row.PLUS row.MINUS (start.Code 43) t refl (plus_is t) (minus_is t) ok
 
-addend_linked : (t : Text) → is_part row.ADDEND t ≡ true → Linked row.ADDEND row.PRODUCT t
+addend_linked : (t : Text) → is_phrase row.ADDEND t ≡ true → Linked row.ADDEND row.PRODUCT t
 unfolding row_items
 addend_linked t ok = row_linked row.ADDEND row.PRODUCT row.SIGN t refl (sign_is t) ok
 
-multiplier_linked : (t : Text) → is_part row.MULTIPLIER t ≡ true → Linked row.MULTIPLIER row.FACTOR t
+multiplier_linked : (t : Text) → is_phrase row.MULTIPLIER t ≡ true → Linked row.MULTIPLIER row.FACTOR t
 unfolding row_items
 multiplier_linked t ok = either_linked row.MULTIPLIER row.FACTOR row.TIMES row.OVER (start.Code 42) t refl (times_is t) (over_is t) ok
 
-exponent_linked : (t : Text) → is_part row.EXPONENT t ≡ true → Linked row.EXPONENT row.OPERAND t
+exponent_linked : (t : Text) → is_phrase row.EXPONENT t ≡ true → Linked row.EXPONENT row.OPERAND t
 unfolding row_items
 exponent_linked t ok = sign_linked row.EXPONENT row.OPERAND 94 22 t refl refl ok
 
-joined_linked : (t : Text) → is_part row.JOINED t ≡ true → Linked row.JOINED row.ALPHA_OPERAND t
+joined_linked : (t : Text) → is_phrase row.JOINED t ≡ true → Linked row.JOINED row.ALPHA_OPERAND t
 unfolding row_items
 joined_linked t ok = sign_linked row.JOINED row.ALPHA_OPERAND 38 22 t refl refl ok
 
-comparison_linked : (t : Text) → is_part row.FURTHER_COMPARISON t ≡ true → Linked row.FURTHER_COMPARISON row.COMPARISON t
+comparison_linked : (t : Text) → is_phrase row.FURTHER_COMPARISON t ≡ true → Linked row.FURTHER_COMPARISON row.COMPARISON t
 unfolding row_items
 comparison_linked t ok = among_linked row.FURTHER_COMPARISON row.COMPARISON word.AND word.XOR 22 t refl refl ok
 
-pub linked : (c : Chain) (t : Text) → is_part (more_row c) t ≡ true → Linked (more_row c) (item_row c) t
+pub linked : (c : Chain) (t : Text) → is_phrase (more_row c) t ≡ true → Linked (more_row c) (item_row c) t
 linked chain.Sum t ok = addend_linked t ok
 linked chain.Product t ok = multiplier_linked t ok
 linked chain.Power t ok = exponent_linked t ok
@@ -119,29 +119,29 @@ Factor true t = SignedFactor t
 Factor false t = PlainFactor t
 
 factor_by : (b : Bool) (t : Text)
-    → When b ((is_part row.SIGN t ≡ true) × ((is_part row.POWER (after_part row.SIGN t) ≡ true) × Unit {0})) ((is_part row.POWER t ≡ true) × Unit {0})
-    → tree_at row.FACTOR t ≡ (if b then In 1 (tree_at row.SIGN t) (In 2 (tree_at row.POWER (after_part row.SIGN t)) Done) else In 0 Done (In 2 (tree_at row.POWER t) Done))
-    → after_part row.FACTOR t ≡ (if b then after_part row.POWER (after_part row.SIGN t) else after_part row.POWER t)
+    → When b ((is_phrase row.SIGN t ≡ true) × ((is_phrase row.POWER (after_phrase row.SIGN t) ≡ true) × Unit {0})) ((is_phrase row.POWER t ≡ true) × Unit {0})
+    → tree_at row.FACTOR t ≡ (if b then In 1 (tree_at row.SIGN t) (In 2 (tree_at row.POWER (after_phrase row.SIGN t)) Done) else In 0 Done (In 2 (tree_at row.POWER t) Done))
+    → after_phrase row.FACTOR t ≡ (if b then after_phrase row.POWER (after_phrase row.SIGN t) else after_phrase row.POWER t)
     → Factor b t
 factor_by true t w is_a is_r =
     let s = sign_is t w.0 in
     record {
-      part = subst (λ (x : Text). is_part row.POWER x ≡ true) s.rest w.1.0;
+      part = subst (λ (x : Text). is_phrase row.POWER x ≡ true) s.rest w.1.0;
       tree = is_a ∙ ap (λ (x : Text). In 1 (tree_at row.SIGN t) (In 2 (tree_at row.POWER x) Done)) s.rest;
       sign = s.code;
-      rest = is_r ∙ ap (after_part row.POWER) s.rest;
+      rest = is_r ∙ ap (after_phrase row.POWER) s.rest;
       shorter = s.shorter;
     }
 factor_by false t w is_a is_r = record { part = w.0; tree = is_a; rest = is_r }
 
-factor : (t : Text) → is_part row.FACTOR t ≡ true → Factor (is_sign (first t)) t
+factor : (t : Text) → is_phrase row.FACTOR t ≡ true → Factor (is_sign (first t)) t
 unfolding row_items starts
 factor t ok =
     let r = row_stands row.FACTOR (Maybe (start.Two 43 45) row.SIGN ∷ Part row.POWER ∷ []) t refl ok in
     factor_by (starts Atoms (start.Two 43 45) t) t r.stands r.tree r.rest
 
-pub signed_factor : (t : Text) → is_part row.FACTOR t ≡ true → is_sign (first t) ≡ true → SignedFactor t
+pub signed_factor : (t : Text) → is_phrase row.FACTOR t ≡ true → is_sign (first t) ≡ true → SignedFactor t
 signed_factor t ok is = subst (λ (x : Bool). Factor x t) is (factor t ok)
 
-pub plain_factor : (t : Text) → is_part row.FACTOR t ≡ true → is_sign (first t) ≡ false → PlainFactor t
+pub plain_factor : (t : Text) → is_phrase row.FACTOR t ≡ true → is_sign (first t) ≡ false → PlainFactor t
 plain_factor t ok is = subst (λ (x : Bool). Factor x t) is (factor t ok)

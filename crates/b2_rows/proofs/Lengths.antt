@@ -14,7 +14,7 @@ use Rattle.b2_atom.specs.declared.forms.Item.{Item}
 use Rattle.b2_atom.specs.declared.forms.Item.TheVariants.{Word, Sign, Among, ProgramWord, Ignored, Comma, LeftOut, End, Typed, Part, Maybe, Either, Many, Nest, Statement}
 use Rattle.b2_atom.proofs.Booleans.{and_left, and_right, or_cases}
 use Rattle.b2_rows.specs.Leaves.{is_leaf, leaf_size, after_leaf}
-use Rattle.b2_rows.specs.Rows.{fits_unit, is_part, after_part, is_list, after_list, When, Stands, rest_by}
+use Rattle.b2_rows.specs.Rows.{fits_unit, is_phrase, after_phrase, is_list, after_list, When, Stands, rest_by}
 use Rattle.b2_rows.specs.Takes.{leaf_takes, items_take, row_takes, takes_byte}
 use Rattle.b2_rows.specs.Laws.{NothingIsAdded, EachTakerShortens}
 use Rattle.b2_rows.proofs.Levels.{part_no_longer, list_no_longer, short_of}
@@ -56,11 +56,11 @@ rest_no_longer (Comma ∷ is) t = over _ (drop 1 t) t (rest_no_longer is (drop 1
 rest_no_longer (LeftOut ∷ is) t = omega arith
 rest_no_longer (End ∷ is) t = rest_no_longer is t
 rest_no_longer (Typed k code ∷ is) t = over _ (after_leaf k t) t (rest_no_longer is (after_leaf k t)) (leaf_no_longer k t)
-rest_no_longer (Part n ∷ is) t = over _ (after_part n t) t (rest_no_longer is (after_part n t)) (part_no_longer n t)
-rest_no_longer (Nest n ∷ is) t = over _ (after_part n t) t (rest_no_longer is (after_part n t)) (part_no_longer n t)
-rest_no_longer (Maybe s n ∷ is) t = rest_if (starts Atoms s t) _ _ t (over _ (after_part n t) t (rest_no_longer is (after_part n t)) (part_no_longer n t)) (rest_no_longer is t)
+rest_no_longer (Part n ∷ is) t = over _ (after_phrase n t) t (rest_no_longer is (after_phrase n t)) (part_no_longer n t)
+rest_no_longer (Nest n ∷ is) t = over _ (after_phrase n t) t (rest_no_longer is (after_phrase n t)) (part_no_longer n t)
+rest_no_longer (Maybe s n ∷ is) t = rest_if (starts Atoms s t) _ _ t (over _ (after_phrase n t) t (rest_no_longer is (after_phrase n t)) (part_no_longer n t)) (rest_no_longer is t)
 rest_no_longer (Either s n m ∷ is) t =
-    rest_if (starts Atoms s t) _ _ t (over _ (after_part n t) t (rest_no_longer is (after_part n t)) (part_no_longer n t)) (over _ (after_part m t) t (rest_no_longer is (after_part m t)) (part_no_longer m t))
+    rest_if (starts Atoms s t) _ _ t (over _ (after_phrase n t) t (rest_no_longer is (after_phrase n t)) (part_no_longer n t)) (over _ (after_phrase m t) t (rest_no_longer is (after_phrase m t)) (part_no_longer m t))
 rest_no_longer (Many s n ∷ is) t = over _ _ t (rest_no_longer is _) (list_no_longer s n t)
 rest_no_longer (Statement p ∷ is) t = rest_no_longer is t
 
@@ -126,7 +126,7 @@ passed false x y h k = k
 passed true x y h k = cc
 
 abbrev Shortens : (ℕ → Bool) → Type 0
-Shortens row = (n : ℕ) (t : Text) → row n ≡ true → is_part n t ≡ true → length (after_part n t) < length t
+Shortens row = (n : ℕ) (t : Text) → row n ≡ true → is_phrase n t ≡ true → length (after_phrase n t) < length t
 
 -- the first item that takes a byte, or one after it
 first_or_later : (a b : Bool) (x y t : Text) → (a || b) ≡ true → length x ≤ length y → length y ≤ length t → (a ≡ true → length y < length t) → (b ≡ true → length x < length y) → length x < length t
@@ -146,16 +146,16 @@ rest_shorter row ih (Comma ∷ is) t h s = below _ (drop 1 t) t (rest_no_longer 
 rest_shorter row ih (LeftOut ∷ is) t h s = absurd s
 rest_shorter row ih (End ∷ is) t h s = rest_shorter row ih is t h s.1
 rest_shorter row ih (Typed k code ∷ is) t h s = first_or_later (leaf_takes k) _ _ (after_leaf k t) t h (rest_no_longer is (after_leaf k t)) (leaf_no_longer k t) (λ some. leaf_shorter k t some s.0) (λ later. rest_shorter row ih is (after_leaf k t) later s.1)
-rest_shorter row ih (Part n ∷ is) t h s = first_or_later (row n) _ _ (after_part n t) t h (rest_no_longer is (after_part n t)) (part_no_longer n t) (λ some. ih n t some s.0) (λ later. rest_shorter row ih is (after_part n t) later s.1)
-rest_shorter row ih (Nest n ∷ is) t h s = first_or_later (row n) _ _ (after_part n t) t h (rest_no_longer is (after_part n t)) (part_no_longer n t) (λ some. ih n t some s.0) (λ later. rest_shorter row ih is (after_part n t) later s.1)
+rest_shorter row ih (Part n ∷ is) t h s = first_or_later (row n) _ _ (after_phrase n t) t h (rest_no_longer is (after_phrase n t)) (part_no_longer n t) (λ some. ih n t some s.0) (λ later. rest_shorter row ih is (after_phrase n t) later s.1)
+rest_shorter row ih (Nest n ∷ is) t h s = first_or_later (row n) _ _ (after_phrase n t) t h (rest_no_longer is (after_phrase n t)) (part_no_longer n t) (λ some. ih n t some s.0) (λ later. rest_shorter row ih is (after_phrase n t) later s.1)
 rest_shorter row ih (Maybe st n ∷ is) t h s =
     shorter_if (starts Atoms st t) _ _ t
-    (λ b. under_it _ (after_part n t) t (rest_shorter row ih is (after_part n t) h (taken (starts Atoms st t) _ _ b s).1) (part_no_longer n t))
+    (λ b. under_it _ (after_phrase n t) t (rest_shorter row ih is (after_phrase n t) h (taken (starts Atoms st t) _ _ b s).1) (part_no_longer n t))
     (λ b. rest_shorter row ih is t h (passed (starts Atoms st t) _ _ b s))
 rest_shorter row ih (Either st n m ∷ is) t h s =
     shorter_if (starts Atoms st t) _ _ t
-    (λ b. first_or_later (row n && row m) _ _ (after_part n t) t h (rest_no_longer is (after_part n t)) (part_no_longer n t) (λ some. ih n t (and_left _ _ some) (taken (starts Atoms st t) _ _ b s).0) (λ later. rest_shorter row ih is (after_part n t) later (taken (starts Atoms st t) _ _ b s).1))
-    (λ b. first_or_later (row n && row m) _ _ (after_part m t) t h (rest_no_longer is (after_part m t)) (part_no_longer m t) (λ some. ih m t (and_right _ _ some) (passed (starts Atoms st t) _ _ b s).0) (λ later. rest_shorter row ih is (after_part m t) later (passed (starts Atoms st t) _ _ b s).1))
+    (λ b. first_or_later (row n && row m) _ _ (after_phrase n t) t h (rest_no_longer is (after_phrase n t)) (part_no_longer n t) (λ some. ih n t (and_left _ _ some) (taken (starts Atoms st t) _ _ b s).0) (λ later. rest_shorter row ih is (after_phrase n t) later (taken (starts Atoms st t) _ _ b s).1))
+    (λ b. first_or_later (row n && row m) _ _ (after_phrase m t) t h (rest_no_longer is (after_phrase m t)) (part_no_longer m t) (λ some. ih m t (and_right _ _ some) (passed (starts Atoms st t) _ _ b s).0) (λ later. rest_shorter row ih is (after_phrase m t) later (passed (starts Atoms st t) _ _ b s).1))
 rest_shorter row ih (Many st n ∷ is) t h s = under_it _ (after_list st n t) t (rest_shorter row ih is (after_list st n t) h s.1) (list_no_longer st n t)
 rest_shorter row ih (Statement p ∷ is) t h s = rest_shorter row ih is t h s
 
@@ -166,20 +166,20 @@ shortens (suc k) n t h ok =
     subst (λ (u : Text). length u < length t) (sym r.rest) (rest_shorter (row_takes k) (shortens k) (row_items n) t h r.stands)
 
 -- a row that takes a byte leaves less than the text
-pub part_shorter : (n : ℕ) (t : Text) → takes_byte n ≡ true → is_part n t ≡ true → length (after_part n t) < length t
+pub part_shorter : (n : ℕ) (t : Text) → takes_byte n ≡ true → is_phrase n t ≡ true → length (after_phrase n t) < length t
 unfolding takes_byte
 part_shorter n t h ok = shortens 40 n t h ok
 
 -- so a text at which it is read isn't empty
-pub part_some : (n : ℕ) (t : Text) → takes_byte n ≡ true → is_part n t ≡ true → 0 < length t
+pub part_some : (n : ℕ) (t : Text) → takes_byte n ≡ true → is_phrase n t ≡ true → 0 < length t
 part_some n t h ok = let e = part_shorter n t h ok in omega (arith, e)
 
 pub each_taker_shortens : EachTakerShortens
 each_taker_shortens n t h ok = part_shorter n t h ok
 
 -- a text at which a row or a repetition is read has at most 256 bytes
-pub part_fits : (n : ℕ) (t : Text) → is_part n t ≡ true → length t ≤ 256
-unfolding is_part
+pub part_fits : (n : ℕ) (t : Text) → is_phrase n t ≡ true → length t ≤ 256
+unfolding is_phrase
 part_fits n t ok = short_of t (and_left (fits_unit t) _ ok)
 
 pub list_fits : (s : Start) (n : ℕ) (t : Text) → is_list s n t ≡ true → length t ≤ 256
@@ -211,14 +211,14 @@ pub operand_of_any_kind_takes : takes_byte row.OPERAND_OF_ANY_KIND ≡ true
 unfolding takes_byte row_items
 operand_of_any_kind_takes = refl
 
-pub sum_shorter : (t : Text) → is_part row.SUM t ≡ true → length (after_part row.SUM t) < length t
+pub sum_shorter : (t : Text) → is_phrase row.SUM t ≡ true → length (after_phrase row.SUM t) < length t
 sum_shorter t ok = part_shorter row.SUM t sum_takes ok
 
-pub operand_shorter : (t : Text) → is_part row.OPERAND t ≡ true → length (after_part row.OPERAND t) < length t
+pub operand_shorter : (t : Text) → is_phrase row.OPERAND t ≡ true → length (after_phrase row.OPERAND t) < length t
 operand_shorter t ok = part_shorter row.OPERAND t operand_takes ok
 
-pub alpha_shorter : (t : Text) → is_part row.ALPHA t ≡ true → length (after_part row.ALPHA t) < length t
+pub alpha_shorter : (t : Text) → is_phrase row.ALPHA t ≡ true → length (after_phrase row.ALPHA t) < length t
 alpha_shorter t ok = part_shorter row.ALPHA t alpha_takes ok
 
-pub condition_shorter : (t : Text) → is_part row.CONDITION t ≡ true → length (after_part row.CONDITION t) < length t
+pub condition_shorter : (t : Text) → is_phrase row.CONDITION t ≡ true → length (after_phrase row.CONDITION t) < length t
 condition_shorter t ok = part_shorter row.CONDITION t condition_takes ok

@@ -15,7 +15,7 @@ use Rattle.b2_atom.specs.declared.forms.Item.{Item}
 use Rattle.b2_atom.specs.declared.forms.Item.TheVariants.{Word, Sign, Among, ProgramWord, Ignored, Comma, LeftOut, End, Typed, Part, Maybe, Either, Many, Nest, Statement}
 use Rattle.b2_atom.proofs.reading.Sound.{Takes, takes_level, takes_deep, takes_many, takes_statement}
 use Rattle.b2_rows.specs.Leaves.{leaf_size, after_leaf}
-use Rattle.b2_rows.specs.Rows.{reading_row, reading_list, after_part, after_list, fits_unit}
+use Rattle.b2_rows.specs.Rows.{reading_row, reading_list, after_phrase, after_list, fits_unit}
 
 -- the parsers of a unit: of the statements in it, which are none, and of what stands in parentheses
 abbrev pub no_statement : Position → Parser Text
@@ -146,8 +146,8 @@ takes_reading n t = takes_level no_statement in_parentheses (takes_statement 0) 
 pub reading_no_longer : (n : ℕ) (t : Text) → length (left_after (reading_row n t)) ≤ length t
 reading_no_longer n t = no_longer t (reading_row n t) (takes_reading n t)
 
-pub part_no_longer : (n : ℕ) (t : Text) → length (after_part n t) ≤ length t
-unfolding after_part
+pub part_no_longer : (n : ℕ) (t : Text) → length (after_phrase n t) ≤ length t
+unfolding after_phrase
 part_no_longer n t = reading_no_longer n t
 
 pub list_no_longer : (s : Start) (n : ℕ) (t : Text) → length (after_list s n t) ≤ length t
@@ -163,7 +163,7 @@ short_leaf leaf.Text t h = omega arith
 short_leaf leaf.LineNumber t h = short_drop 3 t h
 short_leaf k t h = short_drop (leaf_size k t) t h
 
-pub short_part : (n : ℕ) (t : Text) → length t ≤ 256 → length (after_part n t) ≤ 256
+pub short_part : (n : ℕ) (t : Text) → length t ≤ 256 → length (after_phrase n t) ≤ 256
 short_part n t h = let e = part_no_longer n t in omega (arith, e, h)
 
 pub short_list : (s : Start) (n : ℕ) (t : Text) → length t ≤ 256 → length (after_list s n t) ≤ 256

@@ -26,7 +26,7 @@ use Rattle.b2_atom.specs.declared.forms.Start.TheVariants as start
 use Rattle.b2_atom.proofs.Booleans.{both, equal, never, or_false}
 use Rattle.b2_atom.proofs.lines.EachUnit.{tree_is_cut}
 use Rattle.b2_atom.proofs.lines.LineLaws.{spells_tree, atoms_back}
-use Rattle.b2_rows.specs.Rows.{reading_row, tree_of, is_part, tree_at, after_part}
+use Rattle.b2_rows.specs.Rows.{reading_row, tree_of, is_phrase, tree_at, after_phrase}
 use Rattle.b2_rows.specs.Laws.{IsRow, IsRowOnTree}
 use Rattle.b2_rows.specs.Following.{line_tree, tree_units, further_on}
 use Rattle.b2_rows.proofs.Levels.{is_short}
@@ -157,10 +157,10 @@ error_items : row_items row.ERROR ≡ Word word.ERROR ∷ Part row.FOLLOWING ∷
 unfolding row_items
 error_items = refl
 
-pub else_first : (t : Text) → is_part row.ELSE t ≡ true → first t ≡ word.ELSE
+pub else_first : (t : Text) → is_phrase row.ELSE t ≡ true → first t ≡ word.ELSE
 else_first t ok = (row_stands row.ELSE (Word word.ELSE ∷ Either start.Line row.LINE_NUMBER row.FOLLOWING ∷ []) t else_items ok).stands.0
 
-pub error_first : (t : Text) → is_part row.ERROR t ≡ true → first t ≡ word.ERROR
+pub error_first : (t : Text) → is_phrase row.ERROR t ≡ true → first t ≡ word.ERROR
 error_first t ok = (row_stands row.ERROR (Word word.ERROR ∷ Part row.FOLLOWING ∷ []) t error_items ok).stands.0
 
 same_number : (m n : ℕ) → m ≡ n → (m == n) ≡ true
@@ -183,8 +183,8 @@ byte_by c n p (b ∷ s) m true false is is_row some f h g =
     let P : ℕ → Type 0 = λ (d : ℕ). row_at forms Atoms p (d ∷ s) ≡ Ok m in
     absurd (never (m == n) (same_number m n (f p s m (subst P (equal b c is) h))) is_row)
 
-unit_part : (u : TreeUnit) (n : ℕ) → IsRowOnTree u → u.row ≡ n → is_part n (atoms u.tree) ≡ true
-unit_part u n h same = subst (λ (m : ℕ). is_part m (atoms u.tree) ≡ true) same h.part
+unit_part : (u : TreeUnit) (n : ℕ) → IsRowOnTree u → u.row ≡ n → is_phrase n (atoms u.tree) ≡ true
+unit_part u n h same = subst (λ (m : ℕ). is_phrase m (atoms u.tree) ≡ true) same h.part
 
 pub else_told : (u : TreeUnit) → IsReadAlone u → IsRowOnTree u → (first (atoms u.tree) == word.ELSE) ≡ (u.row == row.ELSE)
 else_told u h k = byte_by word.ELSE row.ELSE u.position (atoms u.tree) u.row _ _ refl refl refl else_row (row_of_unit u h) (λ same. else_first (atoms u.tree) (unit_part u row.ELSE k same))
@@ -194,7 +194,7 @@ error_told u h k = byte_by word.ERROR row.ERROR u.position (atoms u.tree) u.row 
 
 -- a unit with its row
 pub unit_is_row : (n : ℕ) (bytes : Text) → length bytes ≤ 255 → IsReadBy n bytes → IsRow n bytes (tree_at n bytes)
-unfolding is_part tree_at after_part reading_row
+unfolding is_phrase tree_at after_phrase reading_row
 unit_is_row n bytes short h = record {
   part = both _ _ (is_short bytes (let e : length bytes ≤ 256 = omega (arith, short) in e)) (ap is_ok h.read);
   tree = refl;

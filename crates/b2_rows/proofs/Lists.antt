@@ -8,20 +8,20 @@ use Rattle.b2_atom.specs.Lines.{left_after}
 use Rattle.b2_atom.specs.declared.words.Origin.TheVariants.{Atoms}
 use Rattle.b2_atom.specs.declared.forms.Start.{Start}
 use Rattle.b2_atom.proofs.Booleans.{and_left, and_right, both, false_true}
-use Rattle.b2_rows.specs.Rows.{reading_row, reading_list, tree_of, fits_unit, is_part, tree_at, after_part, is_list, list_at, after_list, Goes, Ends}
+use Rattle.b2_rows.specs.Rows.{reading_row, reading_list, tree_of, fits_unit, is_phrase, tree_at, after_phrase, is_list, list_at, after_list, Goes, Ends}
 use Rattle.b2_rows.specs.Laws.{EachListSteps}
 use Rattle.b2_rows.proofs.Levels.{Up, many_up, reading_no_longer, is_short, short_of}
 
 going : (s : Start) (n : ℕ) (t : Text) (o u w : Outcome) → length t ≤ 256 → reading_row n t ≡ o → many (reader Atoms) s (reading_row n) 255 (left_after o) ≡ u → reading_list s n (left_after o) ≡ w
     → Up u w → reading_list s n t ≡ and_then (under 1 o) (many (reader Atoms) s (reading_row n) 255) → is_ok (reading_list s n t) ≡ true → Goes s n t
-unfolding is_part is_list tree_at list_at after_part after_list
+unfolding is_phrase is_list tree_at list_at after_phrase after_list
 going s n t (Err e) u w short is_o is_u is_w up is ok = absurd (false_true (sym (ap is_ok is) ∙ ok))
 going s n t (Ok p) (Err e) w short is_o is_u is_w up is ok = absurd (false_true (sym (ap is_ok (is ∙ ap (preceded (In 1 p.0 Done)) is_u)) ∙ ok))
 going s n t (Ok p) (Ok q) w short is_o is_u is_w up is ok =
     let same : reading_list s n p.1 ≡ Ok q = is_w ∙ up q refl in
     let whole : reading_list s n t ≡ Ok (In 1 p.0 q.0, q.1) = is ∙ ap (preceded (In 1 p.0 Done)) is_u in
     let less : length p.1 ≤ 256 = (let e : length (left_after (reading_row n t)) ≤ length t = reading_no_longer n t in let f : length (left_after (reading_row n t)) ≡ length p.1 = ap (λ (x : Outcome). length (left_after x)) is_o in omega (arith, e, f, short)) in
-    let at : after_part n t ≡ p.1 = ap left_after is_o in
+    let at : after_phrase n t ≡ p.1 = ap left_after is_o in
     record {
       part = both _ _ (is_short t short) (ap is_ok is_o);
       list = subst (λ (x : Text). (fits_unit x && is_ok (reading_list s n x)) ≡ true) (sym at) (both _ _ (is_short p.1 less) (ap is_ok same));

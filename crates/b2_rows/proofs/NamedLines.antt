@@ -15,8 +15,8 @@ use Rattle.b2_atom.specs.declared.forms.Leaf.TheVariants as leaf
 use Rattle.b2_atom.specs.declared.forms.Item.{Item}
 use Rattle.b2_atom.specs.declared.forms.Item.TheVariants.{Sign, Typed, Maybe}
 use Rattle.b2_rows.specs.Leaves.{is_leaf}
-use Rattle.b2_rows.specs.Rows.{is_part}
-use Rattle.b2_rows.specs.Optional.{maybe_part, maybe_tree}
+use Rattle.b2_rows.specs.Rows.{is_phrase}
+use Rattle.b2_rows.specs.Optional.{maybe_phrase, maybe_tree}
 use Rattle.b2_rows.specs.Values.{line_of}
 use Rattle.b2_rows.specs.LineNumbers.{named_lines, lines_from, second_line}
 use Rattle.b2_rows.proofs.Optional.{maybe_stands, begun_part, begun_tree, left_out_tree}
@@ -37,9 +37,9 @@ unfolding row_items
 comma_row = refl
 
 abbrev Named : Text → Type 0
-Named t = maybe_part start.Line row.LINE_NUMBERS t ≡ true
+Named t = maybe_phrase start.Line row.LINE_NUMBERS t ≡ true
 
-here : (t : Text) → Named t → starts Atoms start.Line t ≡ true → is_part row.LINE_NUMBERS t ≡ true
+here : (t : Text) → Named t → starts Atoms start.Line t ≡ true → is_phrase row.LINE_NUMBERS t ≡ true
 here t ok is = begun_part start.Line row.LINE_NUMBERS t ok is
 
 pub first_here : (t : Text) → Named t → starts Atoms start.Line t ≡ true → is_leaf leaf.LineNumber t ≡ true
@@ -49,7 +49,7 @@ begins : (c : ℕ) (t : Text) (b : Bool) → (first t == c) ≡ b → starts Ato
 unfolding starts
 begins c t b is = is
 
-second : (t : Text) → Named t → starts Atoms start.Line t ≡ true → (first (drop 3 t) == byte.comma) ≡ true → is_part row.COMMA_LINE (drop 3 t) ≡ true
+second : (t : Text) → Named t → starts Atoms start.Line t ≡ true → (first (drop 3 t) == byte.comma) ≡ true → is_phrase row.COMMA_LINE (drop 3 t) ≡ true
 second t ok is comma =
     begun_part (start.Code byte.comma) row.COMMA_LINE (drop 3 t) (maybe_stands _ _ _ (stands_of row.LINE_NUMBERS lines_items t lines_row (here t ok is)).0.1) (begins byte.comma (drop 3 t) true comma)
 

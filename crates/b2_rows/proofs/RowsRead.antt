@@ -5,12 +5,12 @@ use Rattle.b2_atom.specs.Words.{Text}
 use Rattle.b2_base.specs.Lexical.{first}
 use Rattle.b2_atom.specs.Grammar.{row_items, is_among}
 use Rattle.b2_atom.specs.declared.forms.Item.{Item}
-use Rattle.b2_rows.specs.Rows.{is_part, tree_at, after_part, Stands, tree_by, rest_by, RowStands}
+use Rattle.b2_rows.specs.Rows.{is_phrase, tree_at, after_phrase, Stands, tree_by, rest_by, RowStands}
 use Rattle.b2_rows.proofs.Standing.{row_stands}
 use Rattle.b2_rows.proofs.Levels.{short_of}
 
 -- how its items stand, its tree, and what is left after it
-pub stands_of : (n : ℕ) (is : List Item) (t : Text) → row_items n ≡ is → is_part n t ≡ true → Stands is t × (tree_at n t ≡ tree_by is t) × (after_part n t ≡ rest_by is t)
+pub stands_of : (n : ℕ) (is : List Item) (t : Text) → row_items n ≡ is → is_phrase n t ≡ true → Stands is t × (tree_at n t ≡ tree_by is t) × (after_phrase n t ≡ rest_by is t)
 stands_of n is t same ok = let r = row_stands n is t same ok in (RowStands.stands r, RowStands.tree r, RowStands.rest r)
 
 -- where a word or a sign stands, the text goes on after it
@@ -30,6 +30,6 @@ first_of_both : (a b : Bool) → (a && b) ≡ true → a ≡ true
 first_of_both true b h = refl
 first_of_both false b h = cc
 
-pub part_short : (n : ℕ) (t : Text) → is_part n t ≡ true → length t ≤ 256
-unfolding is_part
+pub part_short : (n : ℕ) (t : Text) → is_phrase n t ≡ true → length t ≤ 256
+unfolding is_phrase
 part_short n t ok = short_of t (first_of_both _ _ ok)

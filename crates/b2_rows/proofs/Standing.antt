@@ -16,7 +16,7 @@ use Rattle.b2_atom.specs.declared.forms.Item.{Item}
 use Rattle.b2_atom.specs.declared.forms.Item.TheVariants.{Word, Sign, Among, ProgramWord, Ignored, Comma, LeftOut, End, Typed, Part, Maybe, Either, Many, Nest, Statement}
 use Rattle.b2_atom.proofs.Booleans.{and_left, and_right, both}
 use Rattle.b2_rows.specs.Leaves.{put_leaf, after_leaf}
-use Rattle.b2_rows.specs.Rows.{reading_row, reading_list, tree_of, fits_unit, is_part, tree_at, after_part, is_list, list_at, after_list, When, Stands, tree_by, rest_by, RowStands}
+use Rattle.b2_rows.specs.Rows.{reading_row, reading_list, tree_of, fits_unit, is_phrase, tree_at, after_phrase, is_list, list_at, after_list, When, Stands, tree_by, rest_by, RowStands}
 use Rattle.b2_rows.specs.Laws.{EachRowStands}
 use Rattle.b2_rows.proofs.Levels.{no_statement, in_parentheses, at_level, up_level, up_nest, list_up, short_drop, short_leaf, short_part, short_list, is_short, short_of}
 use Rattle.b2_rows.proofs.Items.{Holds, holds_preceded, holds_map, symbol_case, among_case, nothing_case, end_case, leaf_case, part_case, list_case}
@@ -35,13 +35,13 @@ when_false true x y h k = cc
 
 -- a row in a row
 part_at : (b n : ℕ) (t : Text) (q : Parser Text) (v : Trees → Text → Type 0) → length t ≤ 256
-    → (is_part n t ≡ true → Holds (λ c r. v (In b (tree_at n t) c) r) (q (after_part n t))) → Holds v (and_then (under b (at_level 39 n t)) q)
-unfolding is_part tree_at after_part reading_row
+    → (is_phrase n t ≡ true → Holds (λ c r. v (In b (tree_at n t) c) r) (q (after_phrase n t))) → Holds v (and_then (under b (at_level 39 n t)) q)
+unfolding is_phrase tree_at after_phrase reading_row
 part_at b n t q v short h = part_case b (at_level 39 n t) (reading_row n t) q v (up_level 39 n t) (λ ok. h (both _ _ (is_short t short) ok))
 
 nest_at : (b n : ℕ) (t : Text) (q : Parser Text) (v : Trees → Text → Type 0) → length t ≤ 256
-    → (is_part n t ≡ true → Holds (λ c r. v (In b (tree_at n t) c) r) (q (after_part n t))) → Holds v (and_then (under b (in_parentheses n t)) q)
-unfolding is_part tree_at after_part
+    → (is_phrase n t ≡ true → Holds (λ c r. v (In b (tree_at n t) c) r) (q (after_phrase n t))) → Holds v (and_then (under b (in_parentheses n t)) q)
+unfolding is_phrase tree_at after_phrase
 nest_at b n t q v short h = part_case b (in_parentheses n t) (reading_row n t) q v (up_nest n t) (λ ok. h (both _ _ (is_short t short) ok))
 
 by_start : (b : Bool) (o u : Outcome) (q : Parser Text) (v : Trees → Text → Type 0) → (b ≡ true → Holds v (and_then o q)) → (b ≡ false → Holds v (and_then u q))
@@ -85,22 +85,22 @@ stands (Typed k code ∷ is) t short =
     holds_map (Row is (after_leaf k t)) _ (in_row is (after_leaf k t)) (λ a r m. ((is_k, m.0), a_leaf k t a _ m.1, m.2)) (stands is (after_leaf k t) (short_leaf k t short)))
 stands (Part n ∷ is) t short =
     part_at 2 n t (in_row is) _ short (λ ok.
-    holds_map (Row is (after_part n t)) _ (in_row is (after_part n t)) (λ a r k. ((ok, k.0), ap (In 2 (tree_at n t)) k.1, k.2)) (stands is (after_part n t) (short_part n t short)))
+    holds_map (Row is (after_phrase n t)) _ (in_row is (after_phrase n t)) (λ a r k. ((ok, k.0), ap (In 2 (tree_at n t)) k.1, k.2)) (stands is (after_phrase n t) (short_part n t short)))
 stands (Nest n ∷ is) t short =
     nest_at 2 n t (in_row is) _ short (λ ok.
-    holds_map (Row is (after_part n t)) _ (in_row is (after_part n t)) (λ a r k. ((ok, k.0), ap (In 2 (tree_at n t)) k.1, k.2)) (stands is (after_part n t) (short_part n t short)))
+    holds_map (Row is (after_phrase n t)) _ (in_row is (after_phrase n t)) (λ a r k. ((ok, k.0), ap (In 2 (tree_at n t)) k.1, k.2)) (stands is (after_phrase n t) (short_part n t short)))
 stands (Maybe s n ∷ is) t short =
     by_start (starts Atoms s t) (under 1 (at_level 39 n t)) (absent t) (in_row is) _
-    (λ b. part_at 1 n t (in_row is) _ short (λ ok. holds_map (Row is (after_part n t)) _ (in_row is (after_part n t))
-    (λ a r k. (when_true (starts Atoms s t) _ _ b (ok, k.0), ap (In 1 (tree_at n t)) k.1 ∙ sym (ap (λ (x : Bool). if x then In 1 (tree_at n t) (tree_by is (after_part n t)) else In 0 Done (tree_by is t)) b), k.2 ∙ sym (ap (λ (x : Bool). if x then rest_by is (after_part n t) else rest_by is t) b))) (stands is (after_part n t) (short_part n t short))))
+    (λ b. part_at 1 n t (in_row is) _ short (λ ok. holds_map (Row is (after_phrase n t)) _ (in_row is (after_phrase n t))
+    (λ a r k. (when_true (starts Atoms s t) _ _ b (ok, k.0), ap (In 1 (tree_at n t)) k.1 ∙ sym (ap (λ (x : Bool). if x then In 1 (tree_at n t) (tree_by is (after_phrase n t)) else In 0 Done (tree_by is t)) b), k.2 ∙ sym (ap (λ (x : Bool). if x then rest_by is (after_phrase n t) else rest_by is t) b))) (stands is (after_phrase n t) (short_part n t short))))
     (λ b. holds_preceded _ (In 0 Done Done) (in_row is t) (holds_map (Row is t) _ (in_row is t)
-    (λ a r k. (when_false (starts Atoms s t) _ _ b k.0, ap (In 0 Done) k.1 ∙ sym (ap (λ (x : Bool). if x then In 1 (tree_at n t) (tree_by is (after_part n t)) else In 0 Done (tree_by is t)) b), k.2 ∙ sym (ap (λ (x : Bool). if x then rest_by is (after_part n t) else rest_by is t) b))) (stands is t short)))
+    (λ a r k. (when_false (starts Atoms s t) _ _ b k.0, ap (In 0 Done) k.1 ∙ sym (ap (λ (x : Bool). if x then In 1 (tree_at n t) (tree_by is (after_phrase n t)) else In 0 Done (tree_by is t)) b), k.2 ∙ sym (ap (λ (x : Bool). if x then rest_by is (after_phrase n t) else rest_by is t) b))) (stands is t short)))
 stands (Either s n m ∷ is) t short =
     by_start (starts Atoms s t) (under 1 (at_level 39 n t)) (under 0 (at_level 39 m t)) (in_row is) _
-    (λ b. part_at 1 n t (in_row is) _ short (λ ok. holds_map (Row is (after_part n t)) _ (in_row is (after_part n t))
-    (λ a r k. (when_true (starts Atoms s t) _ _ b (ok, k.0), ap (In 1 (tree_at n t)) k.1 ∙ sym (ap (λ (x : Bool). if x then In 1 (tree_at n t) (tree_by is (after_part n t)) else In 0 (tree_at m t) (tree_by is (after_part m t))) b), k.2 ∙ sym (ap (λ (x : Bool). if x then rest_by is (after_part n t) else rest_by is (after_part m t)) b))) (stands is (after_part n t) (short_part n t short))))
-    (λ b. part_at 0 m t (in_row is) _ short (λ ok. holds_map (Row is (after_part m t)) _ (in_row is (after_part m t))
-    (λ a r k. (when_false (starts Atoms s t) _ _ b (ok, k.0), ap (In 0 (tree_at m t)) k.1 ∙ sym (ap (λ (x : Bool). if x then In 1 (tree_at n t) (tree_by is (after_part n t)) else In 0 (tree_at m t) (tree_by is (after_part m t))) b), k.2 ∙ sym (ap (λ (x : Bool). if x then rest_by is (after_part n t) else rest_by is (after_part m t)) b))) (stands is (after_part m t) (short_part m t short))))
+    (λ b. part_at 1 n t (in_row is) _ short (λ ok. holds_map (Row is (after_phrase n t)) _ (in_row is (after_phrase n t))
+    (λ a r k. (when_true (starts Atoms s t) _ _ b (ok, k.0), ap (In 1 (tree_at n t)) k.1 ∙ sym (ap (λ (x : Bool). if x then In 1 (tree_at n t) (tree_by is (after_phrase n t)) else In 0 (tree_at m t) (tree_by is (after_phrase m t))) b), k.2 ∙ sym (ap (λ (x : Bool). if x then rest_by is (after_phrase n t) else rest_by is (after_phrase m t)) b))) (stands is (after_phrase n t) (short_part n t short))))
+    (λ b. part_at 0 m t (in_row is) _ short (λ ok. holds_map (Row is (after_phrase m t)) _ (in_row is (after_phrase m t))
+    (λ a r k. (when_false (starts Atoms s t) _ _ b (ok, k.0), ap (In 0 (tree_at m t)) k.1 ∙ sym (ap (λ (x : Bool). if x then In 1 (tree_at n t) (tree_by is (after_phrase n t)) else In 0 (tree_at m t) (tree_by is (after_phrase m t))) b), k.2 ∙ sym (ap (λ (x : Bool). if x then rest_by is (after_phrase n t) else rest_by is (after_phrase m t)) b))) (stands is (after_phrase m t) (short_part m t short))))
 stands (Many s n ∷ is) t short =
     list_in s n t (in_row is) _ short (λ ok.
     holds_map (Row is (after_list s n t)) _ (in_row is (after_list s n t)) (λ a r k. ((ok, k.0), ap (also (list_at s n t)) k.1, k.2)) (stands is (after_list s n t) (short_list s n t short)))
@@ -109,13 +109,13 @@ of_ok : (v : Trees → Text → Type 0) (o : Outcome) → is_ok o ≡ true → H
 of_ok v (Ok p) is h = h
 of_ok v (Err e) is h = cc
 
-read_row : (n : ℕ) (is : List Item) (t : Text) → row_items n ≡ is → is_part n t ≡ true → Row is t (tree_at n t) (after_part n t)
-unfolding is_part tree_at after_part reading_row level
+read_row : (n : ℕ) (is : List Item) (t : Text) → row_items n ≡ is → is_phrase n t ≡ true → Row is t (tree_at n t) (after_phrase n t)
+unfolding is_phrase tree_at after_phrase reading_row level
 read_row n is t same ok =
     of_ok (Row is t) (at_level 40 n t) (and_right (fits_unit t) _ ok) (subst (λ (xs : List Item). Holds (Row is t) (in_row xs t)) (sym same) (stands is t (short_of t (and_left _ _ ok))))
 
 -- a row that is read
-pub row_stands : (n : ℕ) (is : List Item) (t : Text) → row_items n ≡ is → is_part n t ≡ true → RowStands n is t
+pub row_stands : (n : ℕ) (is : List Item) (t : Text) → row_items n ≡ is → is_phrase n t ≡ true → RowStands n is t
 row_stands n is t same ok = let r = read_row n is t same ok in record { stands = r.0; tree = r.1; rest = r.2 }
 
 pub each_row_stands : EachRowStands

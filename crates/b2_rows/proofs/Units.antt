@@ -19,7 +19,7 @@ use Rattle.b2_atom.specs.declared.forms.Position.TheVariants as position
 use Rattle.b2_atom.proofs.Booleans.{both}
 use Rattle.b2_atom.proofs.reading.Sound.{takes_statement}
 use Rattle.b2_atom.proofs.lines.EachUnit.{each_unit, tree_is_cut}
-use Rattle.b2_rows.specs.Rows.{reading_row, tree_of, is_part, tree_at, after_part}
+use Rattle.b2_rows.specs.Rows.{reading_row, tree_of, is_phrase, tree_at, after_phrase}
 use Rattle.b2_rows.specs.Laws.{IsRow, IsRowUnit, EachUnitIsARow, IsRowOnTree, EachTreeUnitIsItsRow}
 use Rattle.b2_rows.proofs.Levels.{no_longer, is_short}
 
@@ -35,7 +35,7 @@ of_under m n t rest (Ok p) is = (same_row m n p.0 t (ap tree_of is), (λ i. Ok (
 of_under m n t rest (Err e) is = cc
 
 row_of_reading : (n : ℕ) (u : Text) (t : Trees) (o : Outcome) → length u ≤ 256 → reading_row n u ≡ o → o ≡ Ok (t, []) → IsRow n u t
-unfolding is_part tree_at after_part
+unfolding is_phrase tree_at after_phrase
 row_of_reading n u t o short is_o is = record {
   part = both _ _ (is_short u short) (ap is_ok (is_o ∙ is));
   tree = ap tree_of (is_o ∙ is);

@@ -15,7 +15,7 @@ use Rattle.b2_atom.specs.declared.forms.Leaf.TheVariants as leaf
 use Rattle.b2_atom.specs.declared.forms.Start.TheVariants as start
 use Rattle.b2_atom.specs.declared.forms.Item.TheVariants.{Word, Typed, Either}
 use Rattle.b2_rows.specs.Leaves.{is_line_number}
-use Rattle.b2_rows.specs.Rows.{is_part, tree_at, When}
+use Rattle.b2_rows.specs.Rows.{is_phrase, tree_at, When}
 use Rattle.b2_rows.specs.Values.{line_of}
 use Rattle.b2_rows.specs.Following.{tree_units, unit_or_next, past_colon, named_goal, else_goal, false_goal, after_false, error_goal, taken_fault}
 use Rattle.b2_rows.specs.declared.following.Goal.TheVariants as goal
@@ -45,7 +45,7 @@ taken_way : (b : Bool) (x y : Type 0) → b ≡ true → When b x y → x
 taken_way true x y is h = h
 taken_way false x y is h = cc
 
-pub else_line : (t : Text) → is_part row.ELSE t ≡ true → starts Atoms start.Line (drop 1 t) ≡ true → is_line_number (drop 1 t) ≡ true
+pub else_line : (t : Text) → is_phrase row.ELSE t ≡ true → starts Atoms start.Line (drop 1 t) ≡ true → is_line_number (drop 1 t) ≡ true
 else_line t ok is =
     let r = row_stands row.ELSE (Word word.ELSE ∷ Either start.Line row.LINE_NUMBER row.FOLLOWING ∷ []) t else_items ok in
     let part = (taken_way (starts Atoms start.Line (drop 1 t)) _ _ is r.stands.1).0 in
@@ -64,20 +64,20 @@ not_named k (Put (Lined high low) t) = refl
 not_named k (Put t u) = refl
 not_named k (In n a t) = refl
 
-else_is : (t : Text) (k : ℕ) (y : Bool) → is_part row.ELSE t ≡ true → starts Atoms start.Line (drop 1 t) ≡ y
+else_is : (t : Text) (k : ℕ) (y : Bool) → is_phrase row.ELSE t ≡ true → starts Atoms start.Line (drop 1 t) ≡ y
     → else_goal k (tree_at row.ELSE t) ≡ (if y then named_goal k 1 (tree_at row.LINE_NUMBER (drop 1 t)) else named_goal k 0 (tree_at row.FOLLOWING (drop 1 t)))
 else_is t k y ok is =
     let r = row_stands row.ELSE (Word word.ELSE ∷ Either start.Line row.LINE_NUMBER row.FOLLOWING ∷ []) t else_items ok in
     ap (else_goal k) r.tree ∙ else_by k (tree_at row.LINE_NUMBER (drop 1 t)) (tree_at row.FOLLOWING (drop 1 t)) (starts Atoms start.Line (drop 1 t)) y is
 
-pub else_named : (t : Text) (k : ℕ) → is_part row.ELSE t ≡ true → starts Atoms start.Line (drop 1 t) ≡ true
+pub else_named : (t : Text) (k : ℕ) → is_phrase row.ELSE t ≡ true → starts Atoms start.Line (drop 1 t) ≡ true
     → else_goal k (tree_at row.ELSE t) ≡ goal.Line (line_of (get_or (drop 1 t) 1 0) (get_or (drop 1 t) 2 0))
 else_named t k ok is =
     let r = row_stands row.ELSE (Word word.ELSE ∷ Either start.Line row.LINE_NUMBER row.FOLLOWING ∷ []) t else_items ok in
     let part = (taken_way (starts Atoms start.Line (drop 1 t)) _ _ is r.stands.1).0 in
     else_is t k true ok is ∙ ap (named_goal k 1) (row_stands row.LINE_NUMBER (Typed leaf.LineNumber 15 ∷ []) (drop 1 t) line_items part).tree
 
-pub else_next : (t : Text) (k : ℕ) → is_part row.ELSE t ≡ true → starts Atoms start.Line (drop 1 t) ≡ false → else_goal k (tree_at row.ELSE t) ≡ goal.Unit (k + 1)
+pub else_next : (t : Text) (k : ℕ) → is_phrase row.ELSE t ≡ true → starts Atoms start.Line (drop 1 t) ≡ false → else_goal k (tree_at row.ELSE t) ≡ goal.Unit (k + 1)
 else_next t k ok is = else_is t k false ok is ∙ not_named k (tree_at row.FOLLOWING (drop 1 t))
 
 -- after a false IF
@@ -104,17 +104,17 @@ pub false_plain : (line : Text) (k : ℕ) (bytes : Text) → is_line line ≡ tr
     → after_false k (tree_units line) ≡ goal.Unit (further_unit k 0 (units_of line))
 false_plain line k bytes h is none = false_some line k bytes false (unit_found line (further_unit k 0 (units_of line)) bytes h is) h none
 
-part_of : (line : Text) (j : ℕ) (bytes : Text) (f : UnitFound line j bytes) → (first bytes == word.ELSE) ≡ true → is_part row.ELSE bytes ≡ true
+part_of : (line : Text) (j : ℕ) (bytes : Text) (f : UnitFound line j bytes) → (first bytes == word.ELSE) ≡ true → is_phrase row.ELSE bytes ≡ true
 part_of line j bytes f is =
     let same : f.unit.row ≡ row.ELSE = equal f.unit.row row.ELSE (sym (row_test line j bytes f) ∙ is) in
-    subst (λ (m : ℕ). is_part m bytes ≡ true) same (subst (λ (s : Text). is_part f.unit.row s ≡ true) f.same f.row.part)
+    subst (λ (m : ℕ). is_phrase m bytes ≡ true) same (subst (λ (s : Text). is_phrase f.unit.row s ≡ true) f.same f.row.part)
 
 tree_of_else : (line : Text) (j : ℕ) (bytes : Text) (f : UnitFound line j bytes) → (first bytes == word.ELSE) ≡ true → tree_at row.ELSE bytes ≡ f.unit.tree
 tree_of_else line j bytes f is =
     let same : f.unit.row ≡ row.ELSE = equal f.unit.row row.ELSE (sym (row_test line j bytes f) ∙ is) in
     subst (λ (m : ℕ). tree_at m bytes ≡ f.unit.tree) same (subst (λ (s : Text). tree_at f.unit.row s ≡ f.unit.tree) f.same f.row.tree)
 
-pub false_part : (line : Text) (k : ℕ) (bytes : Text) → is_line line ≡ true → FoundAt line k (Some bytes) → (first bytes == word.ELSE) ≡ true → is_part row.ELSE bytes ≡ true
+pub false_part : (line : Text) (k : ℕ) (bytes : Text) → is_line line ≡ true → FoundAt line k (Some bytes) → (first bytes == word.ELSE) ≡ true → is_phrase row.ELSE bytes ≡ true
 false_part line k bytes h is some = part_of line (further_unit k 0 (units_of line)) bytes (unit_found line (further_unit k 0 (units_of line)) bytes h is) some
 
 pub false_else : (line : Text) (k : ℕ) (bytes : Text) → is_line line ≡ true → FoundAt line k (Some bytes) → (first bytes == word.ELSE) ≡ true

@@ -9,7 +9,7 @@ use Rattle.b2_atom.specs.declared.words.TheConstants as word
 use Rattle.b2_atom.specs.declared.rows.TheConstants as row
 use Rattle.b2_atom.specs.declared.forms.Start.{Start}
 use Rattle.b2_atom.specs.declared.forms.Start.TheVariants as start
-use Rattle.b2_rows.specs.Rows.{is_part, tree_at, after_part, is_list, list_at, after_list}
+use Rattle.b2_rows.specs.Rows.{is_phrase, tree_at, after_phrase, is_list, list_at, after_list}
 use Rattle.b2_rows.specs.Links.{first_code}
 use Rattle.b2_rows.specs.declared.chains.Chain.{Chain}
 use Rattle.b2_rows.specs.declared.chains.Chain.TheVariants as chain
@@ -85,20 +85,20 @@ is_operator_of chain.LengthPower b = b == byte.caret
 
 -- a chain that is read: its first item, and after it the repetition of the others
 pub record ChainStands (c : Chain) (t : Text) : Type 0 where
-  pub part : is_part (front_row c) t ≡ true
-  pub list : is_list (more_start c) (more_row c) (after_part (front_row c) t) ≡ true
-  pub tree : tree_at (chain_row c) t ≡ In 2 (tree_at (front_row c) t) (list_at (more_start c) (more_row c) (after_part (front_row c) t))
-  pub rest : after_part (chain_row c) t ≡ after_list (more_start c) (more_row c) (after_part (front_row c) t)
+  pub part : is_phrase (front_row c) t ≡ true
+  pub list : is_list (more_start c) (more_row c) (after_phrase (front_row c) t) ≡ true
+  pub tree : tree_at (chain_row c) t ≡ In 2 (tree_at (front_row c) t) (list_at (more_start c) (more_row c) (after_phrase (front_row c) t))
+  pub rest : after_phrase (chain_row c) t ≡ after_list (more_start c) (more_row c) (after_phrase (front_row c) t)
 
 -- a factor: a sign and a power, or a power alone
 pub record SignedFactor (t : Text) : Type 0 where
-  pub part : is_part row.POWER (drop 1 t) ≡ true
+  pub part : is_phrase row.POWER (drop 1 t) ≡ true
   pub tree : tree_at row.FACTOR t ≡ In 1 (tree_at row.SIGN t) (In 2 (tree_at row.POWER (drop 1 t)) Done)
   pub sign : first_code (tree_at row.SIGN t) ≡ first t
-  pub rest : after_part row.FACTOR t ≡ after_part row.POWER (drop 1 t)
+  pub rest : after_phrase row.FACTOR t ≡ after_phrase row.POWER (drop 1 t)
   pub shorter : length (drop 1 t) < length t
 
 pub record PlainFactor (t : Text) : Type 0 where
-  pub part : is_part row.POWER t ≡ true
+  pub part : is_phrase row.POWER t ≡ true
   pub tree : tree_at row.FACTOR t ≡ In 0 Done (In 2 (tree_at row.POWER t) Done)
-  pub rest : after_part row.FACTOR t ≡ after_part row.POWER t
+  pub rest : after_phrase row.FACTOR t ≡ after_phrase row.POWER t

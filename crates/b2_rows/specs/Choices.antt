@@ -12,7 +12,7 @@ use Rattle.b2_atom.specs.declared.words.Origin.TheVariants.{Atoms}
 use Rattle.b2_atom.specs.declared.forms.Start.{Start}
 use Rattle.b2_atom.specs.declared.forms.Start.TheVariants as start
 use Rattle.b2_atom.specs.declared.forms.Item.TheVariants.{Either}
-use Rattle.b2_rows.specs.Rows.{is_part, tree_at, after_part}
+use Rattle.b2_rows.specs.Rows.{is_phrase, tree_at, after_phrase}
 use Rattle.b2_rows.specs.declared.operands.Operand.{Operand}
 use Rattle.b2_rows.specs.declared.operands.Operand.TheVariants as operand
 use Rattle.b2_rows.specs.declared.operands.AlphaOperand.{AlphaOperand}
@@ -20,9 +20,9 @@ use Rattle.b2_rows.specs.declared.operands.AlphaOperand.TheVariants as alpha
 
 -- a row that is read as another, in a branch
 pub record ReadAs (n m : ℕ) (wrapped : Trees → Trees) (t : Text) : Type 0 where
-  pub part : is_part m t ≡ true
+  pub part : is_phrase m t ≡ true
   pub tree : tree_at n t ≡ wrapped (tree_at m t)
-  pub rest : after_part n t ≡ after_part m t
+  pub rest : after_phrase n t ≡ after_phrase m t
 
 -- the trees of the two branches of a choice
 abbrev pub first_branch : Trees → Trees

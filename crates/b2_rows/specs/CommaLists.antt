@@ -7,7 +7,7 @@ use Rattle.b2_atom.specs.Tree.Trees.{Done, Put, In}
 use Rattle.b2_atom.specs.declared.forms.Start.{Start}
 use Rattle.b2_atom.specs.declared.forms.Start.TheVariants as start
 use Rattle.b2_atom.specs.declared.rows.TheConstants as row
-use Rattle.b2_rows.specs.Rows.{tree_at, after_part, is_list, list_at}
+use Rattle.b2_rows.specs.Rows.{tree_at, after_phrase, is_list, list_at}
 
 -- further items stand where commas do
 abbrev pub commas : Start
@@ -35,7 +35,7 @@ after_all_listed t = Done
 
 -- what stands after the first receiver at a text, and whether further ones stand at a text
 abbrev pub past_first : Text → Text
-past_first t = after_part row.RECEIVER t
+past_first t = after_phrase row.RECEIVER t
 
 abbrev pub are_others : Text → Bool
 are_others t = is_list commas row.COMMA_RECEIVER t

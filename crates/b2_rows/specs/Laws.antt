@@ -12,7 +12,7 @@ use Rattle.b2_atom.specs.Laws.{IsTree}
 use Rattle.b2_atom.specs.declared.words.Origin.TheVariants.{Atoms}
 use Rattle.b2_atom.specs.declared.forms.Start.{Start}
 use Rattle.b2_base.specs.Lexical.{first}
-use Rattle.b2_rows.specs.Rows.{is_part, tree_at, after_part, is_list, after_list, RowStands, Goes, Ends}
+use Rattle.b2_rows.specs.Rows.{is_phrase, tree_at, after_phrase, is_list, after_list, RowStands, Goes, Ends}
 use Rattle.b2_rows.specs.Takes.{takes_byte}
 use Rattle.b2_rows.specs.Links.{Further}
 use Rattle.b2_rows.specs.Chains.{chain_row, item_row, more_row, more_start, is_operator_of, ChainStands}
@@ -20,7 +20,7 @@ use Rattle.b2_rows.specs.declared.chains.Chain.{Chain}
 
 -- each row that is read stands item by item
 abbrev pub EachRowStands : Type 0
-EachRowStands = (n : ℕ) (t : Text) → is_part n t ≡ true → RowStands n (row_items n) t
+EachRowStands = (n : ℕ) (t : Text) → is_phrase n t ≡ true → RowStands n (row_items n) t
 
 -- a repetition goes on exactly where its row begins
 pub record ListsStep (s : Start) (n : ℕ) (t : Text) : Type 0 where
@@ -33,16 +33,16 @@ EachListSteps = (s : Start) (n : ℕ) (t : Text) → ListsStep s n t
 -- what is left is no longer than the text
 abbrev pub NothingIsAdded : Type 0
 NothingIsAdded =
-    ((n : ℕ) (t : Text) → length (after_part n t) ≤ length t)
+    ((n : ℕ) (t : Text) → length (after_phrase n t) ≤ length t)
     × ((s : Start) (n : ℕ) (t : Text) → length (after_list s n t) ≤ length t)
 
 -- and shorter after a row that takes a byte
 abbrev pub EachTakerShortens : Type 0
-EachTakerShortens = (n : ℕ) (t : Text) → takes_byte n ≡ true → is_part n t ≡ true → length (after_part n t) < length t
+EachTakerShortens = (n : ℕ) (t : Text) → takes_byte n ≡ true → is_phrase n t ≡ true → length (after_phrase n t) < length t
 
 -- a chain is an item and further items, which go on exactly where an operator stands
 pub record ChainSteps (c : Chain) (t : Text) : Type 0 where
-  pub stands : is_part (chain_row c) t ≡ true → ChainStands c t
+  pub stands : is_phrase (chain_row c) t ≡ true → ChainStands c t
   pub goes : is_list (more_start c) (more_row c) t ≡ true → is_operator_of c (first t) ≡ true → Further (more_start c) (more_row c) (item_row c) t
   pub ends : is_operator_of c (first t) ≡ false → Ends (more_start c) (more_row c) t
 
@@ -51,9 +51,9 @@ EachChainStands = (c : Chain) (t : Text) → ChainSteps c t
 
 -- bytes that are a row from the first to the last, and its tree
 pub record IsRow (n : ℕ) (bytes : Text) (t : Trees) : Type 0 where
-  pub part : is_part n bytes ≡ true
+  pub part : is_phrase n bytes ≡ true
   pub tree : tree_at n bytes ≡ t
-  pub whole : after_part n bytes ≡ []
+  pub whole : after_phrase n bytes ≡ []
 
 -- a unit of a line: the statement that is read of it, which is its row
 pub record IsRowUnit (u : LineUnit) : Type 0 where

@@ -7,7 +7,7 @@ use Rattle.b2_atom.specs.Tokens.Token.{Coded, Plain, Lined}
 use Rattle.b2_atom.specs.Tree.{Trees}
 use Rattle.b2_atom.specs.Tree.Trees.{Done, Put, In}
 use Rattle.b2_atom.specs.declared.forms.Start.{Start}
-use Rattle.b2_rows.specs.Rows.{is_part, tree_at, after_part, is_list, list_at, after_list}
+use Rattle.b2_rows.specs.Rows.{is_phrase, tree_at, after_phrase, is_list, list_at, after_list}
 
 -- the word or sign of a token, and 0 of what is typed by hand
 abbrev pub token_code : Token → ℕ
@@ -29,16 +29,16 @@ IsLink c a t = ⊥
 
 -- a row that is read as one operator at the front and an item after it
 pub record Linked (more item : ℕ) (t : Text) : Type 0 where
-  pub part : is_part item (drop 1 t) ≡ true
+  pub part : is_phrase item (drop 1 t) ≡ true
   pub link : IsLink (first t) (tree_at item (drop 1 t)) (tree_at more t)
-  pub rest : after_part more t ≡ after_part item (drop 1 t)
+  pub rest : after_phrase more t ≡ after_phrase item (drop 1 t)
   pub shorter : length (drop 1 t) < length t
 
 -- a repetition of such a row that goes on
 pub record Further (s : Start) (more item : ℕ) (t : Text) : Type 0 where
-  pub part : is_part item (drop 1 t) ≡ true
-  pub list : is_list s more (after_part item (drop 1 t)) ≡ true
-  pub tree : list_at s more t ≡ In 1 (tree_at more t) (list_at s more (after_part item (drop 1 t)))
+  pub part : is_phrase item (drop 1 t) ≡ true
+  pub list : is_list s more (after_phrase item (drop 1 t)) ≡ true
+  pub tree : list_at s more t ≡ In 1 (tree_at more t) (list_at s more (after_phrase item (drop 1 t)))
   pub link : IsLink (first t) (tree_at item (drop 1 t)) (tree_at more t)
-  pub rest : after_list s more t ≡ after_list s more (after_part item (drop 1 t))
-  pub shorter : length (after_part item (drop 1 t)) < length t
+  pub rest : after_list s more t ≡ after_list s more (after_phrase item (drop 1 t))
+  pub shorter : length (after_phrase item (drop 1 t)) < length t

@@ -6,11 +6,11 @@ use Rattle.b2_atom.specs.Tree.Trees.{Done, In}
 use Rattle.b2_atom.specs.Grammar.{starts}
 use Rattle.b2_atom.specs.declared.words.Origin.TheVariants.{Atoms}
 use Rattle.b2_atom.specs.declared.forms.Start.{Start}
-use Rattle.b2_rows.specs.Rows.{is_part, tree_at, after_part}
+use Rattle.b2_rows.specs.Rows.{is_phrase, tree_at, after_phrase}
 
 -- whether it is read where it begins
-unfoldable pub maybe_part : Start → ℕ → Text → Bool
-maybe_part s n t = if starts Atoms s t then is_part n t else true
+unfoldable pub maybe_phrase : Start → ℕ → Text → Bool
+maybe_phrase s n t = if starts Atoms s t then is_phrase n t else true
 
 -- its tree, as a branch, or an empty branch
 unfoldable pub maybe_tree : Start → ℕ → Text → Trees
@@ -18,4 +18,4 @@ maybe_tree s n t = if starts Atoms s t then In 1 (tree_at n t) Done else In 0 Do
 
 -- what is left after it
 unfoldable pub after_maybe : Start → ℕ → Text → Text
-after_maybe s n t = if starts Atoms s t then after_part n t else t
+after_maybe s n t = if starts Atoms s t then after_phrase n t else t

@@ -27,14 +27,14 @@ abbrev pub fits_unit : Text → Bool
 fits_unit t = nat_le (length t) 256
 
 -- whether a row is read at a text of a unit, its tree, and what is left after it
-unfoldable pub is_part : ℕ → Text → Bool
-is_part n t = fits_unit t && is_ok (reading_row n t)
+unfoldable pub is_phrase : ℕ → Text → Bool
+is_phrase n t = fits_unit t && is_ok (reading_row n t)
 
 unfoldable pub tree_at : ℕ → Text → Trees
 tree_at n t = tree_of (reading_row n t)
 
-unfoldable pub after_part : ℕ → Text → Text
-after_part n t = left_after (reading_row n t)
+unfoldable pub after_phrase : ℕ → Text → Text
+after_phrase n t = left_after (reading_row n t)
 
 -- a row as often as it begins
 unfoldable pub reading_list : Start → ℕ → Text → Outcome
@@ -68,11 +68,11 @@ Stands (Comma ∷ is) t = (first t ≡ byte.comma) × Stands is (drop 1 t)
 Stands (LeftOut ∷ is) t = ⊥
 Stands (End ∷ is) t = (t ≡ []) × Stands is t
 Stands (Typed k code ∷ is) t = (is_leaf k t ≡ true) × Stands is (after_leaf k t)
-Stands (Part n ∷ is) t = (is_part n t ≡ true) × Stands is (after_part n t)
-Stands (Nest n ∷ is) t = (is_part n t ≡ true) × Stands is (after_part n t)
-Stands (Maybe s n ∷ is) t = When (starts Atoms s t) ((is_part n t ≡ true) × Stands is (after_part n t)) (Stands is t)
+Stands (Part n ∷ is) t = (is_phrase n t ≡ true) × Stands is (after_phrase n t)
+Stands (Nest n ∷ is) t = (is_phrase n t ≡ true) × Stands is (after_phrase n t)
+Stands (Maybe s n ∷ is) t = When (starts Atoms s t) ((is_phrase n t ≡ true) × Stands is (after_phrase n t)) (Stands is t)
 Stands (Either s n m ∷ is) t =
-    When (starts Atoms s t) ((is_part n t ≡ true) × Stands is (after_part n t)) ((is_part m t ≡ true) × Stands is (after_part m t))
+    When (starts Atoms s t) ((is_phrase n t ≡ true) × Stands is (after_phrase n t)) ((is_phrase m t ≡ true) × Stands is (after_phrase m t))
 Stands (Many s n ∷ is) t = (is_list s n t ≡ true) × Stands is (after_list s n t)
 Stands (Statement p ∷ is) t = Stands is t
 
@@ -88,10 +88,10 @@ tree_by (Comma ∷ is) t = Put (Coded byte.comma) (tree_by is (drop 1 t))
 tree_by (LeftOut ∷ is) t = Done
 tree_by (End ∷ is) t = tree_by is t
 tree_by (Typed k code ∷ is) t = put_leaf k t (tree_by is (after_leaf k t))
-tree_by (Part n ∷ is) t = In 2 (tree_at n t) (tree_by is (after_part n t))
-tree_by (Nest n ∷ is) t = In 2 (tree_at n t) (tree_by is (after_part n t))
-tree_by (Maybe s n ∷ is) t = if starts Atoms s t then In 1 (tree_at n t) (tree_by is (after_part n t)) else In 0 Done (tree_by is t)
-tree_by (Either s n m ∷ is) t = if starts Atoms s t then In 1 (tree_at n t) (tree_by is (after_part n t)) else In 0 (tree_at m t) (tree_by is (after_part m t))
+tree_by (Part n ∷ is) t = In 2 (tree_at n t) (tree_by is (after_phrase n t))
+tree_by (Nest n ∷ is) t = In 2 (tree_at n t) (tree_by is (after_phrase n t))
+tree_by (Maybe s n ∷ is) t = if starts Atoms s t then In 1 (tree_at n t) (tree_by is (after_phrase n t)) else In 0 Done (tree_by is t)
+tree_by (Either s n m ∷ is) t = if starts Atoms s t then In 1 (tree_at n t) (tree_by is (after_phrase n t)) else In 0 (tree_at m t) (tree_by is (after_phrase m t))
 tree_by (Many s n ∷ is) t = also (list_at s n t) (tree_by is (after_list s n t))
 tree_by (Statement p ∷ is) t = tree_by is t
 
@@ -107,10 +107,10 @@ rest_by (Comma ∷ is) t = rest_by is (drop 1 t)
 rest_by (LeftOut ∷ is) t = []
 rest_by (End ∷ is) t = rest_by is t
 rest_by (Typed k code ∷ is) t = rest_by is (after_leaf k t)
-rest_by (Part n ∷ is) t = rest_by is (after_part n t)
-rest_by (Nest n ∷ is) t = rest_by is (after_part n t)
-rest_by (Maybe s n ∷ is) t = if starts Atoms s t then rest_by is (after_part n t) else rest_by is t
-rest_by (Either s n m ∷ is) t = if starts Atoms s t then rest_by is (after_part n t) else rest_by is (after_part m t)
+rest_by (Part n ∷ is) t = rest_by is (after_phrase n t)
+rest_by (Nest n ∷ is) t = rest_by is (after_phrase n t)
+rest_by (Maybe s n ∷ is) t = if starts Atoms s t then rest_by is (after_phrase n t) else rest_by is t
+rest_by (Either s n m ∷ is) t = if starts Atoms s t then rest_by is (after_phrase n t) else rest_by is (after_phrase m t)
 rest_by (Many s n ∷ is) t = rest_by is (after_list s n t)
 rest_by (Statement p ∷ is) t = rest_by is t
 
@@ -118,14 +118,14 @@ rest_by (Statement p ∷ is) t = rest_by is t
 pub record RowStands (n : ℕ) (is : List Item) (t : Text) : Type 0 where
   pub stands : Stands is t
   pub tree : tree_at n t ≡ tree_by is t
-  pub rest : after_part n t ≡ rest_by is t
+  pub rest : after_phrase n t ≡ rest_by is t
 
 -- a repetition that goes on: its row is read, and what is left is the same repetition
 pub record Goes (s : Start) (n : ℕ) (t : Text) : Type 0 where
-  pub part : is_part n t ≡ true
-  pub list : is_list s n (after_part n t) ≡ true
-  pub tree : list_at s n t ≡ In 1 (tree_at n t) (list_at s n (after_part n t))
-  pub rest : after_list s n t ≡ after_list s n (after_part n t)
+  pub part : is_phrase n t ≡ true
+  pub list : is_list s n (after_phrase n t) ≡ true
+  pub tree : list_at s n t ≡ In 1 (tree_at n t) (list_at s n (after_phrase n t))
+  pub rest : after_list s n t ≡ after_list s n (after_phrase n t)
 
 -- one that ends
 pub record Ends (s : Start) (n : ℕ) (t : Text) : Type 0 where

@@ -4,7 +4,7 @@ ghost use Rattle.b2_atom.specs.Lines.{units_of};
 ghost use Rattle.b2_atom.specs.declared.rows.TheConstants as row;
 ghost use Rattle.std.specs.Prelude.{slice_get};
 ghost use Rattle.std.specs.Option.{option_map};
-ghost use Rattle.b2_rows.specs.Rows.{is_part, tree_at};
+ghost use Rattle.b2_rows.specs.Rows.{is_phrase, tree_at};
 ghost use Rattle.b2_rows.specs.Following as spec;
 
 use crate::begins::{is_at, is_line_at};
@@ -69,7 +69,7 @@ pub fn past_colon(line: &LentAtoms<'_>, k: usize) -> Goal
 /// Where an ELSE leads that is the k-th unit: to its line, or to the next unit.
 #[tactic(auto, using(crate::proofs::WhatFollows::else_line, crate::proofs::WhatFollows::else_named, crate::proofs::WhatFollows::else_next))]
 fn else_goal(unit: &[u8], k: usize) -> Goal
-    requires part { is_part row.ELSE unit.now ≡ true }
+    requires phrase { is_phrase row.ELSE unit.now ≡ true }
     requires few { k < 255 }
     ensures goal { result ≡ spec.else_goal k (tree_at row.ELSE unit.now) }
 {

@@ -3,7 +3,7 @@ ghost use Rattle.std.specs.Prelude.{◌≡◌, ◌≤◌, ◌<◌, ◌+◌, ◌=
 ghost use Rattle.std.specs.Option.{option_map};
 ghost use Rattle.b2_atom.specs.Lines.{is_line, units_of};
 ghost use Rattle.b2_atom.specs.Tree.{uses_in};
-ghost use Rattle.b2_rows.specs.Rows.{is_part, tree_at};
+ghost use Rattle.b2_rows.specs.Rows.{is_phrase, tree_at};
 ghost use Rattle.b2_rows.specs.Laws.{IsRow};
 ghost use Rattle.b2_rows.specs.Following.{tree_units};
 
@@ -23,9 +23,9 @@ pub struct RowUnit<'a> {
 }
 
 /// Whether a row is read at a text of a unit. It walks the table: for tests, and for callers that can't know.
-#[tactic(auto, unfolding(crate::specs::Rows::is_part, crate::specs::Rows::reading_row))]
+#[tactic(auto, unfolding(crate::specs::Rows::is_phrase, crate::specs::Rows::reading_row))]
 pub fn is_read(row: u16, text: &[u8]) -> bool
-    ensures read { result ≡ is_part row text.now }
+    ensures read { result ≡ is_phrase row text.now }
 {
     text.len() <= 256 && reads_row(row, text)
 }

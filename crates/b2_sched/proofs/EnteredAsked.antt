@@ -33,7 +33,7 @@ use Rattle.b2_access.specs.declared.planned.Planned.TheVariants as planned
 use Rattle.b2_access.specs.declared.private.Private.{Private}
 use Rattle.b2_access.proofs.Borrowers.{marked_inside}
 use Rattle.b2_access.proofs.Choice.{either}
-use Rattle.b2_access.proofs.Courses.{each_course}
+use Rattle.b2_access.proofs.Dispatch.{each_dispatch}
 use Rattle.b2_access.proofs.Working.{as_it_comes}
 use Rattle.b2_drive.specs.Asking.{asks_or_fails}
 use Rattle.b2_drive.specs.Drives.{DrivesSeen, drive_used, drives_of}
@@ -120,13 +120,13 @@ AsksNone (planned.Done o) = Unit {0}
 AsksNone (planned.Ask x) = EntersNone x
 
 pub variables_ask_none : (me : Private) (s : SeenLent) → AsksNone (stmt_var.plan me s).planned
-variables_ask_none me s = as_it_comes AsksNone me s (stmt_var.works me s) (each_course stmt_var.is_refused stops (stmt_var.does me s) me s (λ w. AsksNone (planned_of w)) tt tt (λ p is u. tt))
+variables_ask_none me s = as_it_comes AsksNone me s (stmt_var.works me s) (each_dispatch stmt_var.is_refused stops (stmt_var.does me s) me s (λ w. AsksNone (planned_of w)) tt tt (λ p is u. tt))
 
 pub arrays_ask_none : (me : Private) (s : SeenLent) → AsksNone (stmt_mat.plan me s).planned
-arrays_ask_none me s = as_it_comes AsksNone me s (stmt_mat.works me s) (each_course stmt_mat.is_refused stops (stmt_mat.does me s) me s (λ w. AsksNone (planned_of w)) tt tt (λ p is u. tt))
+arrays_ask_none me s = as_it_comes AsksNone me s (stmt_mat.works me s) (each_dispatch stmt_mat.is_refused stops (stmt_mat.does me s) me s (λ w. AsksNone (planned_of w)) tt tt (λ p is u. tt))
 
 pub packed_ask_none : (me : Private) (s : SeenLent) → AsksNone (stmt_pack.plan me s).planned
-packed_ask_none me s = as_it_comes AsksNone me s (stmt_pack.works me s) (each_course stmt_pack.is_refused stops (stmt_pack.does me s) me s (λ w. AsksNone (planned_of w)) tt tt (λ p is u. tt))
+packed_ask_none me s = as_it_comes AsksNone me s (stmt_pack.works me s) (each_dispatch stmt_pack.is_refused stops (stmt_pack.does me s) me s (λ w. AsksNone (planned_of w)) tt tt (λ p is u. tt))
 
 pub terminal_asks_none : (devices : List Device) (me : Private) (s : SeenLent) → AsksNone (stmt_io.plan devices me s).planned
 terminal_asks_none devices me s =
@@ -210,7 +210,7 @@ WorkAsks w = AsksNone (planned_of w)
 pub disks_ask_none : (devices : List Device) (me : Private) (s : SeenLent) → AsksNone (stmt_disk.plan devices me s).planned
 disks_ask_none devices me s =
     as_it_comes AsksNone me s (stmt_disk.works devices me s)
-    (each_course stmt_disk.is_refused stops (stmt_disk.does devices me s) me s WorkAsks tt tt
+    (each_dispatch stmt_disk.is_refused stops (stmt_disk.does devices me s) me s WorkAsks tt tt
     (λ p is u. either WorkAsks (u.row == row.SELECT_DISK) _ _ tt
     (let e = context_of (work_in (setting_of me) s.home me.vars s.globals) in
     let d = drives_of devices me in
@@ -237,7 +237,7 @@ take_asks devices who t =
 pub devices_ask_none : (devices : List Device) (me : Private) (s : SeenLent) → AsksNone (stmt_device.plan devices me s).planned
 devices_ask_none devices me s =
     as_it_comes AsksNone me s (stmt_device.works devices me s)
-    (each_course stmt_device.is_refused stops (stmt_device.does devices me s) me s WorkAsks tt tt
+    (each_dispatch stmt_device.is_refused stops (stmt_device.does devices me s) me s WorkAsks tt tt
     (λ p is u. either WorkAsks (u.row == row.SELECT_PRINT) _ _ tt
     (either AsksNone (u.row == row.OPEN) _ _ (take_asks devices me.part u.tree) (either AsksNone (u.row == row.CLOSE) _ _ (freeing_asks devices me (devices_to_free u.tree)) tt))))
 
@@ -282,7 +282,7 @@ module _ (me : Private) (p : Place) (at : me.place ≡ Some p) where
 pub programs_load : (devices : List Device) (me : Private) (s : SeenLent) → LoadsIfAsks me (stmt_program.plan devices me s).planned
 programs_load devices me s =
     as_it_comes (LoadsIfAsks me) me s (stmt_program.works devices me s)
-    (each_course stmt_program.is_refused stops (stmt_program.does devices me s) me s (λ w. LoadsIfAsks me (planned_of w)) tt tt
+    (each_dispatch stmt_program.is_refused stops (stmt_program.does devices me s) me s (λ w. LoadsIfAsks me (planned_of w)) tt tt
     (λ p is u.
     let e = context_of (work_in (setting_of me) s.home me.vars s.globals) in
     let d = drives_of devices me in

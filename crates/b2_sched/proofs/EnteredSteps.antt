@@ -10,7 +10,7 @@ use Rattle.b2_access.specs.Borrowers.{homes_entered, homes_marked}
 use Rattle.b2_access.specs.Entering.{entered_after}
 use Rattle.b2_access.specs.Lending.{SeenLent}
 use Rattle.b2_access.specs.Loans.{lends}
-use Rattle.b2_access.specs.Marks.{typed_by_mark}
+use Rattle.b2_access.specs.KeyLiterals.{typed_by_mark}
 use Rattle.b2_access.specs.Objects.{Decided}
 use Rattle.b2_access.specs.Partition.{KeepsNone, is_ready}
 use Rattle.b2_access.specs.Placed.{Statement, statement_placed}

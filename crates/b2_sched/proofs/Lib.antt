@@ -2,9 +2,9 @@ pub mod BootDevices
 pub mod LoadLines
 pub mod Numbered
 -- Found: what is planned where a unit was found is what the language plans at its place.
-mod Found
--- InPassing: a statement that is done in passing, by its crate, and what it changes.
-mod InPassing
+mod FoundUnits
+-- InPassing: a statement that is done fast, by its crate, and what it changes.
+mod Fast
 pub mod Folds
 pub mod Numbers
 pub mod Lasting

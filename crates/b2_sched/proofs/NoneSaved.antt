@@ -23,7 +23,7 @@ use Rattle.b2_access.specs.declared.planned.Planned.{Planned}
 use Rattle.b2_access.specs.declared.planned.Planned.TheVariants as planned
 use Rattle.b2_access.specs.declared.private.Private.{Private}
 use Rattle.b2_access.proofs.Choice.{either}
-use Rattle.b2_access.proofs.Courses.{each_course}
+use Rattle.b2_access.proofs.Dispatch.{each_dispatch}
 use Rattle.b2_access.proofs.Working.{as_it_comes}
 use Rattle.b2_drive.specs.Asking.{asks_or_fails}
 use Rattle.b2_drive.specs.Drives.{DrivesSeen, drive_used, drives_of}
@@ -68,15 +68,15 @@ after (Err code) next h = tt
 -- on variables, arrays and packed fields, which ask for nothing
 pub variables_save_none : (me : Private) (s : SeenLent) → SavesNone (stmt_var.plan me s).planned
 variables_save_none me s =
-    as_it_comes SavesNone me s (stmt_var.works me s) (each_course stmt_var.is_refused stops (stmt_var.does me s) me s (λ w. SavesNone (planned_of w)) tt tt (λ p is u. tt))
+    as_it_comes SavesNone me s (stmt_var.works me s) (each_dispatch stmt_var.is_refused stops (stmt_var.does me s) me s (λ w. SavesNone (planned_of w)) tt tt (λ p is u. tt))
 
 pub arrays_save_none : (me : Private) (s : SeenLent) → SavesNone (stmt_mat.plan me s).planned
 arrays_save_none me s =
-    as_it_comes SavesNone me s (stmt_mat.works me s) (each_course stmt_mat.is_refused stops (stmt_mat.does me s) me s (λ w. SavesNone (planned_of w)) tt tt (λ p is u. tt))
+    as_it_comes SavesNone me s (stmt_mat.works me s) (each_dispatch stmt_mat.is_refused stops (stmt_mat.does me s) me s (λ w. SavesNone (planned_of w)) tt tt (λ p is u. tt))
 
 pub packed_save_none : (me : Private) (s : SeenLent) → SavesNone (stmt_pack.plan me s).planned
 packed_save_none me s =
-    as_it_comes SavesNone me s (stmt_pack.works me s) (each_course stmt_pack.is_refused stops (stmt_pack.does me s) me s (λ w. SavesNone (planned_of w)) tt tt (λ p is u. tt))
+    as_it_comes SavesNone me s (stmt_pack.works me s) (each_dispatch stmt_pack.is_refused stops (stmt_pack.does me s) me s (λ w. SavesNone (planned_of w)) tt tt (λ p is u. tt))
 
 -- of control
 may_ask_none : (a : Access) → MayAsk a → IsNoSave a
@@ -120,7 +120,7 @@ unfolding AsksNone
 freeing_none devices me None = held_none _
 freeing_none devices me (Some addrs) = freed_none (are_listed devices me.part addrs) addrs
 
-device_none : (devices : List Device) (me : Private) (u : Statement) → SavesNone (planned_of (stmt_device.course_of devices u me))
+device_none : (devices : List Device) (me : Private) (u : Statement) → SavesNone (planned_of (stmt_device.dispatch_of devices u me))
 unfolding AsksNone
 device_none devices me u =
     either (λ (k : Working). SavesNone (planned_of k)) (u.row == row.SELECT_PRINT) _ _ tt
@@ -130,7 +130,7 @@ device_none devices me u =
 pub devices_save_none : (devices : List Device) (me : Private) (s : SeenLent) → SavesNone (stmt_device.plan devices me s).planned
 devices_save_none devices me s =
     as_it_comes SavesNone me s (stmt_device.works devices me s)
-    (each_course stmt_device.is_refused stops (stmt_device.does devices me s) me s (λ w. SavesNone (planned_of w)) tt tt (λ p is u. device_none devices me u))
+    (each_dispatch stmt_device.is_refused stops (stmt_device.does devices me s) me s (λ w. SavesNone (planned_of w)) tt tt (λ p is u. device_none devices me u))
 
 -- on disks
 module _ (d : DrivesSeen) (e : Context) where
@@ -200,7 +200,7 @@ module _ (d : DrivesSeen) (e : Context) where
   unfolding AsksNone
   program_none declared homes program r t = either AsksNone (r == row.SAVE) _ _ (save_none t) (either AsksNone (r == row.LOAD) _ _ (load_none declared homes program t) tt)
 
-statement_on_disk : (devices : List Device) (me : Private) (s : SeenLent) (u : Statement) → SavesNone (planned_of (stmt_disk.course_of devices u me s))
+statement_on_disk : (devices : List Device) (me : Private) (s : SeenLent) (u : Statement) → SavesNone (planned_of (stmt_disk.dispatch_of devices u me s))
 unfolding AsksNone
 statement_on_disk devices me s u =
     either (λ (k : Working). SavesNone (planned_of k)) (u.row == row.SELECT_DISK) _ _ tt (disk_none (drives_of devices me) (context_of (work_in (setting_of me) s.home me.vars s.globals)) u.row u.tree)
@@ -208,11 +208,11 @@ statement_on_disk devices me s u =
 pub disks_save_none : (devices : List Device) (me : Private) (s : SeenLent) → SavesNone (stmt_disk.plan devices me s).planned
 disks_save_none devices me s =
     as_it_comes SavesNone me s (stmt_disk.works devices me s)
-    (each_course stmt_disk.is_refused stops (stmt_disk.does devices me s) me s (λ w. SavesNone (planned_of w)) tt tt (λ p is u. statement_on_disk devices me s u))
+    (each_dispatch stmt_disk.is_refused stops (stmt_disk.does devices me s) me s (λ w. SavesNone (planned_of w)) tt tt (λ p is u. statement_on_disk devices me s u))
 
 pub programs_save_none : (devices : List Device) (me : Private) (s : SeenLent) → SavesNone (stmt_program.plan devices me s).planned
 unfolding AsksNone
 programs_save_none devices me s =
     as_it_comes SavesNone me s (stmt_program.works devices me s)
-    (each_course stmt_program.is_refused stops (stmt_program.does devices me s) me s (λ w. SavesNone (planned_of w)) tt tt
+    (each_dispatch stmt_program.is_refused stops (stmt_program.does devices me s) me s (λ w. SavesNone (planned_of w)) tt tt
     (λ p is u. program_none (drives_of devices me) (context_of (work_in (setting_of me) s.home me.vars s.globals)) me.declared (homes_entered me.stack) (is_some p.line) u.row u.tree))

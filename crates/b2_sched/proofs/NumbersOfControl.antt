@@ -30,8 +30,8 @@ use Rattle.b2_receiver.specs.Receivers.{any_receiver}
 use Rattle.b2_receiver.specs.Receiving.{given_value}
 use Rattle.b2_receiver.specs.declared.receiver.Receiver.{Receiver}
 use Rattle.b2_access.specs.Borrowers.{homes_entered}
-use Rattle.b2_access.specs.Courses.{Here, here}
-use Rattle.b2_access.specs.Going.{to_place}
+use Rattle.b2_access.specs.Dispatch.{Here, here}
+use Rattle.b2_access.specs.Jumps.{to_place}
 use Rattle.b2_access.specs.Lending.{SeenLent}
 use Rattle.b2_access.specs.Partition.{setting_of}
 use Rattle.b2_access.specs.Placed.{Statement}
@@ -44,7 +44,7 @@ use Rattle.b2_access.specs.declared.planned.Outcome.{Outcome}
 use Rattle.b2_access.specs.declared.planned.Outcome.TheVariants as outcome
 use Rattle.b2_access.specs.declared.private.Private.{Private}
 use Rattle.b2_access.proofs.Choice.{either}
-use Rattle.b2_access.proofs.Courses.{each_course}
+use Rattle.b2_access.proofs.Dispatch.{each_dispatch}
 use Rattle.b2_access.proofs.Tables.{each_row}
 use Rattle.b2_stmt.specs.Arguments.{alpha_argument, argument, arguments, number_argument, operands_of}
 use Rattle.b2_stmt.specs.Asked.{Asks, asked_of, asking_rows, asks_choice, asks_loop, asks_mark, asks_nothing, asks_on, asks_pass, body_place, carried, is_still, line_chosen, place_after}
@@ -53,7 +53,7 @@ use Rattle.b2_stmt.specs.Borrowing.{asks_of_others, enters}
 use Rattle.b2_stmt.specs.Calls.{back_from, called_where, forgets, leaves_call, may_forget_all}
 use Rattle.b2_stmt.specs.Choices.{calls_a_line, choice_in}
 use Rattle.b2_stmt.specs.Clearing.{asked_access, clearing_ends, edit_finishes}
-use Rattle.b2_stmt.specs.Course.{continues, runs, runs_from, runs_where}
+use Rattle.b2_stmt.specs.RunControl.{continues, runs, runs_from, runs_where}
 use Rattle.b2_stmt.specs.Frames.{with_frame}
 use Rattle.b2_stmt.specs.Loops.{counter, goes_round, is_over, loop_begins, loop_counts, loop_element, loop_in, made_loop, next_value, nexts, step_in, tested, without_loop}
 use Rattle.b2_stmt.specs.Marked.{args_taken, calls_into, calls_mark, ends_taken, ends_with_args, mark_place, number_called, parameters_of, place_in, take_each, takes_args, takes_value, takes_values, value_to, values_fit}
@@ -298,12 +298,12 @@ module _ (me : Private) (s : SeenLent) (h : PrivateHolds me) (g : GlobalsHold s.
 
   planned : PlanningHolds (plan me s)
   planned =
-      each_course is_refused (stops me s) (does me s) me s PlanningHolds (h, g) (h, g)
+      each_dispatch is_refused (stops me s) (does me s) me s PlanningHolds (h, g) (h, g)
       (λ p is u. unless_asks (asked_access u.row u.tree me.declared (homes_entered me.stack)) u (here p me s))
 
   -- and how it finishes
   asked_there : AskedHolds (asked_at me s)
-  asked_there = each_course is_refused asked.Nothing (λ u at. asked_by u at me s) me s AskedHolds tt tt (λ p is u. asked_here u (here p me s))
+  asked_there = each_dispatch is_refused asked.Nothing (λ u at. asked_by u at me s) me s AskedHolds tt tt (λ p is u. asked_here u (here p me s))
 
   entered_holds : (home : ℕ) (spot : Spot) (x : Asked) → AskedHolds x → SteeredHolds (enters home spot x me)
   entered_holds home spot (asked.CallMark n args back) are = into_holds (Some home) (place_in home spot) args back me are h

@@ -18,7 +18,7 @@ use Rattle.b2_access.specs.declared.devices.Device.{Device}
 use Rattle.b2_access.specs.declared.planned.Outcome.TheVariants as outcome
 use Rattle.b2_access.specs.declared.private.Private.{Private}
 use Rattle.b2_access.proofs.Choice.{either}
-use Rattle.b2_access.proofs.Courses.{each_course}
+use Rattle.b2_access.proofs.Dispatch.{each_dispatch}
 use Rattle.b2_drive.specs.Drives.{drives_of, selects}
 use Rattle.b2_stmt_disk.specs.Limits.{after_name, gives_each, gives_file, gives_limits, gives_operands, is_absent, limits_end, numbers_of, receivers_in, whole_number}
 use Rattle.b2_stmt_disk.specs.Listing.{listing_ends}
@@ -65,11 +65,11 @@ told_holds (Some n) t me s h g = let w = work_in (setting_of me) s.home me.vars 
 pub disks_plan_numbers : (devices : List Device) (me : Private) (s : SeenLent) → PrivateHolds me → GlobalsHold s.globals → PlanningHolds (plan devices me s)
 disks_plan_numbers devices me s h g =
     planned_holds me s (works devices me s) h g
-    (each_course is_refused stops (does devices me s) me s WorkingHolds tt tt
+    (each_dispatch is_refused stops (does devices me s) me s WorkingHolds tt tt
     (λ p is u. either WorkingHolds (u.row == row.SELECT_DISK) _ _ (selected_holds (selects (drives_of devices me) u.tree) me h) tt))
 
 pub disks_finish_numbers : (x : Access) (a : Answer) (me : Private) (s : SeenLent) → PrivateHolds me → GlobalsHold s.globals → FinishingHolds (finish x a me s)
 disks_finish_numbers x a me s h g =
     finished_holds ends x a me s g
-    (each_course is_refused (repeats me) (finishes x a me s) me s WorkedHolds (work_of_holds me h) (work_of_holds me h)
+    (each_dispatch is_refused (repeats me) (finishes x a me s) me s WorkedHolds (work_of_holds me h) (work_of_holds me h)
     (λ p is u. each_ended WorkedHolds x a me s (λ t. told_holds (limits_told x a) t me s h g) (work_of_holds me h) (listing_holds (listing_told x a) me h) (work_of_holds me h) u))

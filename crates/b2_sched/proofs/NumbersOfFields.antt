@@ -33,7 +33,7 @@ use Rattle.b2_access.specs.declared.accesses.Answer.{Answer}
 use Rattle.b2_access.specs.declared.planned.Outcome.TheVariants as outcome
 use Rattle.b2_access.specs.declared.private.Private.{Private}
 use Rattle.b2_access.proofs.Choice.{either}
-use Rattle.b2_access.proofs.Courses.{each_course}
+use Rattle.b2_access.proofs.Dispatch.{each_dispatch}
 use Rattle.b2_access.proofs.Tables.{each_row}
 use Rattle.b2_expr.specs.Answers.{Answer as NumberAnswer, TextAnswer, ◌>>=◌}
 use Rattle.b2_expr.specs.Kinds.{suits}
@@ -279,7 +279,7 @@ changes_hold r =
 pub fields_plan_numbers : (me : Private) (s : SeenLent) → PrivateHolds me → GlobalsHold s.globals → PlanningHolds (plan me s)
 fields_plan_numbers me s h g =
     planned_holds me s (works me s) h g
-    (each_course is_refused stops (does me s) me s WorkingHolds tt tt
+    (each_dispatch is_refused stops (does me s) me s WorkingHolds tt tt
     (λ p is u. let w = work_in (setting_of me) s.home me.vars s.globals in changed_holds (changes u.row u.tree w) outcome.Next (work_of me) (changes_hold u.row u.tree w (works_in me s h g)) h.1))
 
 pub fields_finish_numbers : (x : Access) (a : Answer) (me : Private) (s : SeenLent) → PrivateHolds me → GlobalsHold s.globals → FinishingHolds (finish x a me s)

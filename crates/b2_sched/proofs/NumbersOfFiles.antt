@@ -30,15 +30,15 @@ use Rattle.b2_access.specs.declared.accesses.Answer.TheVariants as answer
 use Rattle.b2_access.specs.declared.devices.Device.{Device}
 use Rattle.b2_access.specs.declared.private.Private.{Private}
 use Rattle.b2_access.proofs.Choice.{either}
-use Rattle.b2_access.proofs.Courses.{each_course}
-use Rattle.b2_stmt_file.specs.Coming.{by_loading, values_in}
+use Rattle.b2_access.proofs.Dispatch.{each_dispatch}
+use Rattle.b2_stmt_file.specs.FileAnswers.{by_loading, values_in}
 use Rattle.b2_stmt_file.specs.Elements.{array_variables, receiver_of}
 use Rattle.b2_stmt_file.specs.LoadedValues.{Taken, each_takes, elements_take, item_located, item_takes, none_taken, shaped_takes, taken_by, takes_next, takes_to, takes_value, then_takes, unless_ended}
 use Rattle.b2_stmt_file.specs.Loading.{globals_told, items_loaded, load_ends, loading_ends, takes_by}
 use Rattle.b2_stmt_file.specs.Plan.{asks_for, does, ended_of, ends, finish, finishes, is_refused, plan, repeats, works}
 use Rattle.b2_stmt_file.specs.SavedNumbers.{IsAnyNumber}
-use Rattle.b2_stmt_file.specs.declared.coming.Came.{Came}
-use Rattle.b2_stmt_file.specs.declared.coming.Came.TheVariants as came
+use Rattle.b2_stmt_file.specs.declared.file_answers.Came.{Came}
+use Rattle.b2_stmt_file.specs.declared.file_answers.Came.TheVariants as came
 use Rattle.b2_stmt_file.specs.declared.loaded_values.Item.{Item}
 use Rattle.b2_stmt_file.specs.declared.loaded_values.Item.TheVariants as item
 use Rattle.b2_stmt_file.proofs.Planned.{each_ended}
@@ -49,7 +49,7 @@ use Rattle.b2_sched.proofs.NumbersPut.{Keeps, PutHolds, WorkingHolds, after_hold
 pub files_plan_numbers : (devices : List Device) (me : Private) (s : SeenLent) → PrivateHolds me → GlobalsHold s.globals → PlanningHolds (plan devices me s)
 files_plan_numbers devices me s h g =
     planned_holds me s (works devices me s) h g
-    (each_course is_refused stops (does devices me s) me s WorkingHolds tt tt (λ p is u. either WorkingHolds (u.row == row.IF_END) _ (asks_for devices u me s) tt tt))
+    (each_dispatch is_refused stops (does devices me s) me s WorkingHolds tt tt (λ p is u. either WorkingHolds (u.row == row.IF_END) _ (asks_for devices u me s) tt tt))
 
 -- receivers take values that are numbers
 abbrev TakenHolds : Taken → Type 0
@@ -132,7 +132,7 @@ module _ (x : Access) (a : Answer) (me : Private) (s : SeenLent) (are : AnswerHo
   statement_holds u = each_ended EndedHolds x a me s (λ t. work_of_holds me h) (λ t. loading_holds t) (λ t. work_of_holds me h) (work_of_holds me h) u
 
   ends_hold : EndedHolds (ends x a me s)
-  ends_hold = each_course is_refused (repeats me) (finishes x a me s) me s EndedHolds (work_of_holds me h) (work_of_holds me h) (λ p is u. statement_holds u)
+  ends_hold = each_dispatch is_refused (repeats me) (finishes x a me s) me s EndedHolds (work_of_holds me h) (work_of_holds me h) (λ p is u. statement_holds u)
 
 pub files_finish_numbers : (x : Access) (a : Answer) (me : Private) (s : SeenLent) → AnswerHolds a → PrivateHolds me → GlobalsHold s.globals → FinishingHolds (finish x a me s)
 files_finish_numbers x a me s are h g =

@@ -8,7 +8,7 @@ use Rattle.b2_access.specs.declared.accesses.Access.{Access}
 use Rattle.b2_access.specs.declared.accesses.Answer.{Answer}
 use Rattle.b2_access.specs.declared.devices.Device.{Device}
 use Rattle.b2_access.specs.declared.private.Private.{Private}
-use Rattle.b2_access.proofs.Courses.{each_course}
+use Rattle.b2_access.proofs.Dispatch.{each_dispatch}
 use Rattle.b2_stmt_program.specs.Loading.{loaded, loading_ends, replacing, started}
 use Rattle.b2_stmt_program.specs.Plan.{does, ended_by, finish, is_refused, plan, works}
 use Rattle.b2_sched.specs.Numbers.{FinishingHolds, GlobalsHold, PlanningHolds, PrivateHolds}
@@ -16,7 +16,7 @@ use Rattle.b2_sched.proofs.NumbersAssigned.{common_holds}
 use Rattle.b2_sched.proofs.NumbersPut.{SteeredHolds, WorkingHolds, planned_holds}
 
 pub programs_plan_numbers : (devices : List Device) (me : Private) (s : SeenLent) → PrivateHolds me → GlobalsHold s.globals → PlanningHolds (plan devices me s)
-programs_plan_numbers devices me s h g = planned_holds me s (works devices me s) h g (each_course is_refused stops (does devices me s) me s WorkingHolds tt tt (λ p is u. tt))
+programs_plan_numbers devices me s h g = planned_holds me s (works devices me s) h g (each_dispatch is_refused stops (does devices me s) me s WorkingHolds tt tt (λ p is u. tt))
 
 -- how they finish
 started_holds : (n : Option ℕ) (me : Private) → PrivateHolds me → SteeredHolds (started n me)

@@ -18,7 +18,7 @@ use Rattle.b2_expr.specs.Workspace.{changed_by, unchanged, work_in}
 use Rattle.b2_expr.specs.declared.operators.Level.TheVariants as level
 use Rattle.b2_receiver.specs.Receiving.{assign_bytes_at, assign_number_at}
 use Rattle.b2_access.specs.Lending.{SeenLent}
-use Rattle.b2_access.specs.Marks.{typed_by_mark}
+use Rattle.b2_access.specs.KeyLiterals.{typed_by_mark}
 use Rattle.b2_access.specs.Partition.{setting_of}
 use Rattle.b2_access.specs.Placed.{Statement}
 use Rattle.b2_access.specs.Showing.{shown_or_printed, shown_or_printed_where}
@@ -31,7 +31,7 @@ use Rattle.b2_access.specs.declared.planned.Outcome.{Outcome}
 use Rattle.b2_access.specs.declared.planned.Outcome.TheVariants as outcome
 use Rattle.b2_access.specs.declared.private.Private.{Private}
 use Rattle.b2_access.proofs.Choice.{either}
-use Rattle.b2_access.proofs.Courses.{each_course}
+use Rattle.b2_access.proofs.Dispatch.{each_dispatch}
 use Rattle.b2_stmt_io.specs.Converting.{converts, converts_bytes, converts_number, image_from, number_from}
 use Rattle.b2_stmt_io.specs.Inputs.{take_parts, takes_part, takes_parts, takes_some, takes_typed}
 use Rattle.b2_stmt_io.specs.Keys.{assigns_key, key_byte, key_goes, with_key}
@@ -81,7 +81,7 @@ converts_hold t w h = h
 pub terminal_plan_numbers : (devices : List Device) (me : Private) (s : SeenLent) → PrivateHolds me → GlobalsHold s.globals → PlanningHolds (plan devices me s)
 terminal_plan_numbers devices me s h g =
     planned_holds me s (works devices me s) h g
-    (each_course is_refused stops (does devices me s) me s WorkingHolds tt tt
+    (each_dispatch is_refused stops (does devices me s) me s WorkingHolds tt tt
     (λ p is u. let w = work_in (setting_of me) s.home me.vars s.globals in
     either WorkingHolds (u.row == row.CONVERT) _ _ (changed_holds (converts u.tree w) outcome.Next (work_of me) (converts_hold u.tree w (works_in me s h g)) h.1) tt))
 
@@ -144,7 +144,7 @@ statement_holds u p x a me s h g =
 pub terminal_finish_numbers : (x : Access) (a : Answer) (me : Private) (s : SeenLent) → PrivateHolds me → GlobalsHold s.globals → FinishingHolds (finish x a me s)
 terminal_finish_numbers x a me s h g =
     finished_holds ends x a me s g
-    (each_course is_refused (repeats me) (finishes x a me s) me s WorkedHolds (work_of_holds me h) (work_of_holds me h) (λ p is u. statement_holds u p x a me s h g))
+    (each_dispatch is_refused (repeats me) (finishes x a me s) me s WorkedHolds (work_of_holds me h) (work_of_holds me h) (λ p is u. statement_holds u p x a me s h g))
 
 pub printing_finish_numbers : (x : Access) (a : Answer) (me : Private) (s : SeenLent) → PrivateHolds me → GlobalsHold s.globals → FinishingHolds (finish_printing x a me s)
 printing_finish_numbers x a me s h g = finished_holds printing_ends x a me s g (shown_holds x a me h)

@@ -22,7 +22,7 @@ use Rattle.b2_access.specs.declared.accesses.Access.{Access}
 use Rattle.b2_access.specs.declared.accesses.Answer.{Answer as AccessAnswer}
 use Rattle.b2_access.specs.declared.private.Private.{Private}
 use Rattle.b2_access.proofs.Choice.{either}
-use Rattle.b2_access.proofs.Courses.{each_course}
+use Rattle.b2_access.proofs.Dispatch.{each_dispatch}
 use Rattle.b2_expr.specs.Answers.{Answer, ◌>>=◌}
 use Rattle.b2_expr.specs.Value.{context_of, literal_value, value}
 use Rattle.b2_expr.specs.Workspace.{WorkLeft, WorkState, work_in}
@@ -193,7 +193,7 @@ changes_hold r =
 pub variables_plan_numbers : (me : Private) (s : SeenLent) → PrivateHolds me → GlobalsHold s.globals → PlanningHolds (plan me s)
 variables_plan_numbers me s h g =
     planned_holds me s (works me s) h g
-    (each_course is_refused stops (does me s) me s WorkingHolds tt tt
+    (each_dispatch is_refused stops (does me s) me s WorkingHolds tt tt
     (λ p is u. let k = changes_hold u.row s.own.lines u.tree (work_in (setting_of me) s.home me.vars s.globals) me.next_data (works_in me s h g) in (k.0, k.1, h.1)))
 
 pub variables_finish_numbers : (x : Access) (a : AccessAnswer) (me : Private) (s : SeenLent) → PrivateHolds me → GlobalsHold s.globals → FinishingHolds (finish x a me s)

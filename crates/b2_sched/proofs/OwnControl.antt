@@ -41,15 +41,15 @@ use Rattle.b2_stmt.specs.Arguments.{arguments, operands_of}
 use Rattle.b2_stmt.specs.Marked.{calls_into, calls_mark, ends_taken, ends_with_args, mark_in, mark_place, number_called, place_in, takes_args}
 use Rattle.b2_stmt.specs.Parts.{part_came}
 use Rattle.b2_stmt.proofs.PartsCame.{each_part}
-use Rattle.b2_stmt.specs.Branches.{goto_goal, if_goal, passed_function}
+use Rattle.b2_stmt.specs.Branches.{goto_goal, if_goal, skipped_function}
 use Rattle.b2_stmt.specs.Calls.{back_from, called_where, forgets, leaves_call, may_forget_all}
 use Rattle.b2_stmt.specs.Choices.{calls_a_line, choice_in}
 use Rattle.b2_stmt.specs.Clearing.{asked_access, clearing_ends, edit_finishes}
-use Rattle.b2_stmt.specs.Course.{continues, runs, runs_from, runs_where}
+use Rattle.b2_stmt.specs.RunControl.{continues, runs, runs_from, runs_where}
 use Rattle.b2_stmt.specs.Frames.{with_frame}
-use Rattle.b2_access.specs.Going.{to_found, to_goal, to_place, where_there}
+use Rattle.b2_access.specs.Jumps.{to_found, to_goal, to_place, where_there}
 use Rattle.b2_stmt.specs.Loops.{loop_begins, loop_element, loop_counts, goes_round, is_over, loop_in, made_loop, next_value, nexts, tested, without_loop}
-use Rattle.b2_access.specs.Courses.{Here, here}
+use Rattle.b2_access.specs.Dispatch.{Here, here}
 use Rattle.b2_access.specs.Placed.{Statement}
 use Rattle.b2_stmt.specs.Plan.{acts, acts_unless, around, asked_at, asked_by, by_access, does, ends_at, finish, is_refused, plan, plans_asked, stops}
 use Rattle.b2_access.specs.Planning.{Planning, done, goes_or}
@@ -57,7 +57,7 @@ use Rattle.b2_access.specs.Views.{ClearCame, AllCleared, LinesErased, TextLocked
 use Rattle.b2_access.proofs.Choice.{either}
 use Rattle.b2_access.specs.Working.{work_of}
 use Rattle.b2_access.specs.Steering.{Steered, control_of, put_control, steered}
-use Rattle.b2_access.proofs.Courses.{each_course}
+use Rattle.b2_access.proofs.Dispatch.{each_dispatch}
 use Rattle.b2_access.proofs.Tables.{each_row}
 use Rattle.b2_stmt.specs.declared.asked.Asked.{Asked}
 use Rattle.b2_stmt.specs.declared.asked.Asked.TheVariants as asked
@@ -142,7 +142,7 @@ module _ (part : ℕ) where
   found_in lines p (Ok g) h = goes_in lines p g h
   found_in lines p (Err code) h = tt
 
-  passed_in : (t : Trees) → LeadsOwn part (passed_function t)
+  passed_in : (t : Trees) → LeadsOwn part (skipped_function t)
   passed_in Done = tt
   passed_in (In n a t) = tt
   passed_in (Put w Done) = tt
@@ -409,13 +409,13 @@ module _ (part : ℕ) where
   planned_in : (me : Private) (s : SeenLent) → Within me → PlanningIn (plan me s)
   unfolding PlanningIn
   planned_in me s w =
-      each_course is_refused (stops me s) (does me s) me s PlanningIn (w, tt) (w, tt)
+      each_dispatch is_refused (stops me s) (does me s) me s PlanningIn (w, tt) (w, tt)
       (λ p is u. unless_in (asked_access u.row u.tree me.declared (homes_entered me.stack)) u (here p me s) me s (stands_in p me is w) w)
 
   -- how it finishes
   asked_there : (me : Private) (s : SeenLent) → Within me → AskedIn (asked_at me s)
   unfolding AskedIn
-  asked_there me s w = each_course is_refused asked.Nothing (λ u h. asked_by u h me s) me s AskedIn tt tt (λ p is u. asked_in u.row u.tree (here p me s) (around me s) s.home.lines (stands_in p me is w))
+  asked_there me s w = each_dispatch is_refused asked.Nothing (λ u h. asked_by u h me s) me s AskedIn tt tt (λ p is u. asked_in u.row u.tree (here p me s) (around me s) s.home.lines (stands_in p me is w))
 
   enters_in : (g : ℕ) (spot : Spot) (x : Asked) (me : Private) → Within me → AskedIn x → EndedIn (enters g spot x me)
   unfolding EndedIn AskedIn

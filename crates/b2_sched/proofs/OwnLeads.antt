@@ -12,9 +12,9 @@ use Rattle.b2_text.specs.Program.{Lines, line_at, number_after}
 use Rattle.b2_vars.specs.Assigned.{Changed}
 use Rattle.b2_vars.specs.Tables.{VarsState}
 use Rattle.b2_access.specs.Disks.{FourNumbers}
-use Rattle.b2_access.specs.Going.{to_goal, to_place, where_there}
+use Rattle.b2_access.specs.Jumps.{to_goal, to_place, where_there}
 use Rattle.b2_access.specs.Lending.{SeenLent}
-use Rattle.b2_access.specs.Marks.{typed_by_mark}
+use Rattle.b2_access.specs.KeyLiterals.{typed_by_mark}
 use Rattle.b2_access.specs.Partition.{setting_of}
 use Rattle.b2_access.specs.Placed.{Statement}
 use Rattle.b2_access.specs.Places.{line_after, line_start}
@@ -60,7 +60,7 @@ use Rattle.b2_access.specs.declared.planned.Outcome.{Outcome}
 use Rattle.b2_access.specs.declared.planned.Outcome.TheVariants as outcome
 use Rattle.b2_access.specs.declared.private.Private.{Private}
 use Rattle.b2_access.proofs.Choice.{either}
-use Rattle.b2_access.proofs.Courses.{each_course}
+use Rattle.b2_access.proofs.Dispatch.{each_dispatch}
 use Rattle.b2_drive.specs.Asking.{change_ends}
 use Rattle.b2_stmt_device.specs.Freeing.{goes_freed}
 use Rattle.b2_stmt_device.specs.Plan as stmt_device
@@ -70,12 +70,12 @@ use Rattle.b2_stmt_disk.specs.Limits.{limits_end}
 use Rattle.b2_stmt_disk.specs.Listing.{listing_ends}
 use Rattle.b2_stmt_disk.specs.Plan as stmt_disk
 use Rattle.b2_stmt_disk.proofs.Planned as stmt_disk_planned
-use Rattle.b2_stmt_file.specs.Coming.{by_loading, by_opening, by_place, outcome_of}
+use Rattle.b2_stmt_file.specs.FileAnswers.{by_loading, by_opening, by_place, outcome_of}
 use Rattle.b2_stmt_file.specs.Loading.{loading_ends}
 use Rattle.b2_stmt_file.specs.Plan as stmt_file
 use Rattle.b2_stmt_file.specs.Saving as stmt_file_saving
-use Rattle.b2_stmt_file.specs.declared.coming.Came.{Came}
-use Rattle.b2_stmt_file.specs.declared.coming.Came.TheVariants as came
+use Rattle.b2_stmt_file.specs.declared.file_answers.Came.{Came}
+use Rattle.b2_stmt_file.specs.declared.file_answers.Came.TheVariants as came
 use Rattle.b2_stmt_file.proofs.Planned as stmt_file_planned
 use Rattle.b2_stmt_io.specs.Keys.{first_named, key_byte, key_goes, key_leads, key_taken_by, lines_of, other_named, waits, with_key}
 use Rattle.b2_stmt_io.specs.LineReading.{line_answered_by, types}
@@ -128,16 +128,16 @@ module _ (part : ℕ) where
 
   pub variables_plan : (me : Private) (s : SeenLent) → WorkOwn (stmt_var.works me s)
   variables_plan me s =
-      each_course stmt_var.is_refused stops (stmt_var.does me s) me s WorkOwn tt tt
+      each_dispatch stmt_var.is_refused stops (stmt_var.does me s) me s WorkOwn tt tt
       (λ p is u. code_own outcome.Next (stmt_var.changes u.row s.own.lines u.tree (work_in (setting_of me) s.home me.vars s.globals) me.next_data).code tt)
 
   pub arrays_plan : (me : Private) (s : SeenLent) → WorkOwn (stmt_mat.works me s)
   arrays_plan me s =
-      each_course stmt_mat.is_refused stops (stmt_mat.does me s) me s WorkOwn tt tt (λ p is u. code_own outcome.Next (stmt_mat.changes u.row u.tree (work_in (setting_of me) s.home me.vars s.globals)).code tt)
+      each_dispatch stmt_mat.is_refused stops (stmt_mat.does me s) me s WorkOwn tt tt (λ p is u. code_own outcome.Next (stmt_mat.changes u.row u.tree (work_in (setting_of me) s.home me.vars s.globals)).code tt)
 
   pub packed_plan : (me : Private) (s : SeenLent) → WorkOwn (stmt_pack.works me s)
   packed_plan me s =
-      each_course stmt_pack.is_refused stops (stmt_pack.does me s) me s WorkOwn tt tt (λ p is u. code_own outcome.Next (stmt_pack.changes u.row u.tree (work_in (setting_of me) s.home me.vars s.globals)).code tt)
+      each_dispatch stmt_pack.is_refused stops (stmt_pack.does me s) me s WorkOwn tt tt (λ p is u. code_own outcome.Next (stmt_pack.changes u.row u.tree (work_in (setting_of me) s.home me.vars s.globals)).code tt)
 
   pub terminal_plan : (devices : List Device) (me : Private) (s : SeenLent) → WorkOwn (stmt_io.works devices me s)
   terminal_plan devices me s = stmt_io_planned.each_planned devices me s (PlannedOwn part) tt tt (λ code. tt) (λ a is. tt) (λ addr bytes after is. tt)
@@ -210,7 +210,7 @@ module _ (part : ℕ) where
       stmt_io_planned.each_ended EndOwn x a me s (shown_own (column_shown x a) (column_printed x a) me) tt tt u p (keyed_own (key_came x a) p u.tree me s) (λ r. line_own _ (line_came x a) s.own.lines me)
 
   pub terminal_ends : (x : Access) (a : Answer) (me : Private) (s : SeenLent) → EndOwn (stmt_io.ends x a me s)
-  terminal_ends x a me s = each_course stmt_io.is_refused (stmt_io.repeats me) (stmt_io.finishes x a me s) me s EndOwn tt tt (λ p is u. statement_own u p x a me s)
+  terminal_ends x a me s = each_dispatch stmt_io.is_refused (stmt_io.repeats me) (stmt_io.finishes x a me s) me s EndOwn tt tt (λ p is u. statement_own u p x a me s)
 
   -- ---- on data files
 
@@ -230,7 +230,7 @@ module _ (part : ℕ) where
 
   pub files_end : (x : Access) (a : Answer) (me : Private) (s : SeenLent) → FileOwn (stmt_file.ends x a me s)
   files_end x a me s =
-      each_course stmt_file.is_refused (stmt_file.repeats me) (stmt_file.finishes x a me s) me s FileOwn tt tt
+      each_dispatch stmt_file.is_refused (stmt_file.repeats me) (stmt_file.finishes x a me s) me s FileOwn tt tt
       (λ p is u. stmt_file_planned.each_ended FileOwn x a me s (λ t. came_own (stmt_file_saving.came_of x a t)) (λ t. load_own x a t me s) (λ t. came_own (by_place (place_came x a))) tt u)
 
   -- ---- on disks
@@ -250,7 +250,7 @@ module _ (part : ℕ) where
 
   pub disks_end : (x : Access) (a : Answer) (me : Private) (s : SeenLent) → EndOwn (stmt_disk.ends x a me s)
   disks_end x a me s =
-      each_course stmt_disk.is_refused (stmt_disk.repeats me) (stmt_disk.finishes x a me s) me s EndOwn tt tt
+      each_dispatch stmt_disk.is_refused (stmt_disk.repeats me) (stmt_disk.finishes x a me s) me s EndOwn tt tt
       (λ p is u. stmt_disk_planned.each_ended EndOwn x a me s (λ t. limits_own (limits_told x a) t me s) (change_own (change_came x a)) (listing_own (listing_told x a) me) tt u)
 
   -- ---- that take and free devices
@@ -270,5 +270,5 @@ module _ (part : ℕ) where
 
   pub devices_end : (x : Access) (a : Answer) (me : Private) (s : SeenLent) → LeadsOwn part (stmt_device.ends x a me s).outcome
   devices_end x a me s =
-      each_course stmt_device.is_refused stmt_device.repeats (stmt_device.goes x a s) me s (LeadsOwn part) tt tt
+      each_dispatch stmt_device.is_refused stmt_device.repeats (stmt_device.goes x a s) me s (LeadsOwn part) tt tt
       (λ p is u. either (LeadsOwn part) (u.row == row.OPEN) _ _ (taking_own (taking_came x a) (line_if_busy u.tree) s.home.lines p) (either (LeadsOwn part) (u.row == row.CLOSE) _ _ (freeing_own (devices_freed x a)) tt))

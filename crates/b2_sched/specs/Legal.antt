@@ -7,7 +7,7 @@ use Rattle.b2_access.specs.Working.{planned_of, stops}
 use Rattle.b2_access.specs.declared.accesses.Access.{Access}
 use Rattle.b2_access.specs.declared.accesses.Access.TheVariants as access
 use Rattle.b2_access.specs.declared.devices.Device.{Device}
-use Rattle.b2_access.proofs.Courses.{each_course}
+use Rattle.b2_access.proofs.Dispatch.{each_dispatch}
 use Rattle.b2_access.proofs.Working.{as_it_comes}
 use Rattle.b2_stmt.specs.Plan as stmt
 use Rattle.b2_stmt.proofs.EachPlan.{MayAsk, each_plan}
@@ -46,17 +46,17 @@ control_legally me s = each_plan me s Fine legally (λ l e. tt)
 -- statements on variables
 pub variables_legally : PlansLegally stmt_var.plan
 variables_legally me s =
-    as_it_comes IsLegalPlan me s (stmt_var.works me s) (each_course stmt_var.is_refused stops (stmt_var.does me s) me s (λ w. IsLegalPlan (planned_of w)) tt tt (λ p is u. tt))
+    as_it_comes IsLegalPlan me s (stmt_var.works me s) (each_dispatch stmt_var.is_refused stops (stmt_var.does me s) me s (λ w. IsLegalPlan (planned_of w)) tt tt (λ p is u. tt))
 
 -- statements on arrays
 pub arrays_legally : PlansLegally stmt_mat.plan
 arrays_legally me s =
-    as_it_comes IsLegalPlan me s (stmt_mat.works me s) (each_course stmt_mat.is_refused stops (stmt_mat.does me s) me s (λ w. IsLegalPlan (planned_of w)) tt tt (λ p is u. tt))
+    as_it_comes IsLegalPlan me s (stmt_mat.works me s) (each_dispatch stmt_mat.is_refused stops (stmt_mat.does me s) me s (λ w. IsLegalPlan (planned_of w)) tt tt (λ p is u. tt))
 
 -- statements on packed fields
 pub packed_legally : PlansLegally stmt_pack.plan
 packed_legally me s =
-    as_it_comes IsLegalPlan me s (stmt_pack.works me s) (each_course stmt_pack.is_refused stops (stmt_pack.does me s) me s (λ w. IsLegalPlan (planned_of w)) tt tt (λ p is u. tt))
+    as_it_comes IsLegalPlan me s (stmt_pack.works me s) (each_dispatch stmt_pack.is_refused stops (stmt_pack.does me s) me s (λ w. IsLegalPlan (planned_of w)) tt tt (λ p is u. tt))
 
 -- statements at the terminal
 pub terminal_legally : (devices : List Device) → PlansLegally (stmt_io.plan devices)

@@ -6,7 +6,7 @@ use Rattle.b2_atom.specs.declared.rows.TheConstants as row
 use Rattle.b2_base.specs.declared.codes.TheConstants.{P48_DEVICE}
 use Rattle.b2_expr.specs.Value.{context_of}
 use Rattle.b2_expr.specs.Workspace.{work_in}
-use Rattle.b2_access.specs.Courses.{Here, course}
+use Rattle.b2_access.specs.Dispatch.{Here, dispatch}
 use Rattle.b2_access.specs.Devices.{is_printer_for}
 use Rattle.b2_access.specs.Lending.{SeenLent}
 use Rattle.b2_access.specs.OwnDevices.{PlannedListed, PlansListed, ReachesListed}
@@ -18,7 +18,7 @@ use Rattle.b2_access.specs.declared.accesses.Access.{Access}
 use Rattle.b2_access.specs.declared.accesses.Access.TheVariants as access
 use Rattle.b2_access.specs.declared.devices.Device.{Device}
 use Rattle.b2_access.specs.declared.private.Private.{Private}
-use Rattle.b2_access.proofs.Courses.{each_course}
+use Rattle.b2_access.proofs.Dispatch.{each_dispatch}
 use Rattle.b2_access.proofs.Working.{as_it_comes}
 use Rattle.b2_stmt.specs.Plan as stmt
 use Rattle.b2_stmt.proofs.EachPlan.{MayAsk, each_plan}
@@ -52,19 +52,19 @@ control_listed devices me s = each_plan me s (Fine devices me.part) (reaches dev
 pub variables_listed : PlansListed (λ devices. stmt_var.plan)
 variables_listed devices me s =
     as_it_comes (PlannedListed devices me.part) me s (stmt_var.works me s)
-    (each_course stmt_var.is_refused stops (stmt_var.does me s) me s (λ w. PlannedListed devices me.part (planned_of w)) tt tt (λ p is u. tt))
+    (each_dispatch stmt_var.is_refused stops (stmt_var.does me s) me s (λ w. PlannedListed devices me.part (planned_of w)) tt tt (λ p is u. tt))
 
 -- statements on arrays
 pub arrays_listed : PlansListed (λ devices. stmt_mat.plan)
 arrays_listed devices me s =
     as_it_comes (PlannedListed devices me.part) me s (stmt_mat.works me s)
-    (each_course stmt_mat.is_refused stops (stmt_mat.does me s) me s (λ w. PlannedListed devices me.part (planned_of w)) tt tt (λ p is u. tt))
+    (each_dispatch stmt_mat.is_refused stops (stmt_mat.does me s) me s (λ w. PlannedListed devices me.part (planned_of w)) tt tt (λ p is u. tt))
 
 -- statements on packed fields
 pub packed_listed : PlansListed (λ devices. stmt_pack.plan)
 packed_listed devices me s =
     as_it_comes (PlannedListed devices me.part) me s (stmt_pack.works me s)
-    (each_course stmt_pack.is_refused stops (stmt_pack.does me s) me s (λ w. PlannedListed devices me.part (planned_of w)) tt tt (λ p is u. tt))
+    (each_dispatch stmt_pack.is_refused stops (stmt_pack.does me s) me s (λ w. PlannedListed devices me.part (planned_of w)) tt tt (λ p is u. tt))
 
 -- statements at the terminal: PRINT shows at the same outlet, and nothing else goes by the table
 same_outlet : (ds es : List Device) (me : Private) → is_printer_for me.part me.print ds ≡ is_printer_for me.part me.print es → outlet_of ds me ≡ outlet_of es me
@@ -75,10 +75,10 @@ same_else : {A : Type 0} (b : Bool) (x y z : A) → y ≡ z → (if b then x els
 same_else true x y z same = refl
 same_else false x y z same = same
 
-terminal_course : (ds es : List Device) (me : Private) (s : SeenLent) (u : Statement) → outlet_of ds me ≡ outlet_of es me → stmt_io.course_of ds u me s ≡ stmt_io.course_of es u me s
-terminal_course ds es me s u same =
+terminal_dispatch : (ds es : List Device) (me : Private) (s : SeenLent) (u : Statement) → outlet_of ds me ≡ outlet_of es me → stmt_io.dispatch_of ds u me s ≡ stmt_io.dispatch_of es u me s
+terminal_dispatch ds es me s u same =
     same_else (u.row == row.CONVERT) _ _ _ (ap (λ (o : Result Outlet ℕ). Plans (stmt_io.asked_of u.row u.tree (context_of (work_in (setting_of me) s.home me.vars s.globals)) o me.term_column me.prompted)) same)
 
 pub terminal_by_listed : (ds es : List Device) (me : Private) (s : SeenLent) → ((a : List ℕ) → is_printer_for me.part a ds ≡ is_printer_for me.part a es) → stmt_io.plan ds me s ≡ stmt_io.plan es me s
 terminal_by_listed ds es me s same =
-    ap (λ (does : Statement → Here → Working). as_planned me s (course stmt_io.is_refused stops does me.place me s)) (λ i u h. terminal_course ds es me s u (same_outlet ds es me (same me.print)) i)
+    ap (λ (does : Statement → Here → Working). as_planned me s (dispatch stmt_io.is_refused stops does me.place me s)) (λ i u h. terminal_dispatch ds es me s u (same_outlet ds es me (same me.print)) i)

@@ -95,15 +95,15 @@ impl Language for Basic {
     }
 
     #[inline(always)]
-    fn pass(me: &mut Private, found: &Found<'_>) -> Lead {
+    fn do_fast(me: &mut Private, found: &Found<'_>) -> Lead {
         let row = found.unit.row;
         if row == rows::ASSIGNMENT {
-            return b2_stmt_var::pass(me, found);
+            return b2_stmt_var::do_fast(me, found);
         }
         if b2_stmt_var::is_built(row) {
             return Lead::none();
         }
-        b2_stmt::pass(me, found)
+        b2_stmt::do_fast(me, found)
     }
 
     fn plan_found(

@@ -29,7 +29,7 @@ pub enum Family {
     Disks,
 }
 
-/// The family of a row that is built. PRINT, the commonest of those that aren't done in passing, is told first.
+/// The family of a row that is built. PRINT, the commonest of those that aren't done fast, is told first.
 pub fn family_of(row: u16) -> Family
     ensures { result ≡ spec.family_of row }
 {

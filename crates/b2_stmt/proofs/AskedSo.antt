@@ -11,7 +11,7 @@ use Rattle.b2_text.specs.Program.{Lines}
 use Rattle.b2_text.specs.Spots.{first_opening, is_mark, or_else}
 use Rattle.b2_text.specs.declared.spots.Spot.{Spot}
 use Rattle.b2_access.specs.Borrowers.{homes_entered}
-use Rattle.b2_access.specs.Courses.{Here, course, course_at, here}
+use Rattle.b2_access.specs.Dispatch.{Here, dispatch, dispatch_at, here}
 use Rattle.b2_access.specs.Lending.{SeenLent}
 use Rattle.b2_access.specs.Partition.{runs_program}
 use Rattle.b2_access.specs.Placed.{Statement, statement_placed}
@@ -26,7 +26,7 @@ use Rattle.b2_access.specs.declared.planned.Planned.{Planned as PlannedState}
 use Rattle.b2_access.specs.declared.planned.Planned.TheVariants as planned
 use Rattle.b2_access.specs.declared.private.Private.{Private}
 use Rattle.b2_access.proofs.Choice.{either}
-use Rattle.b2_access.proofs.Courses.{each_course}
+use Rattle.b2_access.proofs.Dispatch.{each_dispatch}
 use Rattle.std.specs.Option.{option_map, option_map_or}
 use Rattle.b2_stmt.specs.Asked.{Asks, asked_of, asks_choice, asks_loop, asks_mark, asks_on, asks_pass, body_place, is_still, line_chosen, place_after}
 use Rattle.b2_stmt.specs.Breaks.{turns_to_pass}
@@ -52,11 +52,11 @@ either_two F false x y u v one two = two refl
 module _ (me : Private) (s : SeenLent) (F : Planning → Asked → Type 0) (stopped : (o : Outcome) → F (stops me s o) (asked.Nothing o))
     (each : (q : Place) → me.place ≡ Some q → (u : Statement) → is_refused u.row (is_some q.line) ≡ false → F (does me s u (here q me s)) (asked_by u (here q me s) me s)) where
   at_unit : (q : Place) → me.place ≡ Some q → (o : Option Statement)
-      → F (course_at is_refused (stops me s) (does me s) o (here q me s)) (course_at is_refused asked.Nothing (λ u h. asked_by u h me s) o (here q me s))
+      → F (dispatch_at is_refused (stops me s) (does me s) o (here q me s)) (dispatch_at is_refused asked.Nothing (λ u h. asked_by u h me s) o (here q me s))
   at_unit q is None = stopped outcome.Ready
   at_unit q is (Some u) = either_two F (is_refused u.row (is_some q.line)) _ _ _ _ (λ no. stopped (outcome.Failed S26_PROGRAM_ONLY)) (λ no. each q is u no)
 
-  at_place : (o : Option Place) → me.place ≡ o → F (course is_refused (stops me s) (does me s) o me s) (course is_refused asked.Nothing (λ u h. asked_by u h me s) o me s)
+  at_place : (o : Option Place) → me.place ≡ o → F (dispatch is_refused (stops me s) (does me s) o me s) (dispatch is_refused asked.Nothing (λ u h. asked_by u h me s) o me s)
   at_place None is = stopped outcome.Ready
   at_place (Some q) is = at_unit q is (statement_placed q me.immediate s.home.lines)
 
@@ -266,5 +266,5 @@ module _ (me : Private) (s : SeenLent) where
   pub asked_open : Stands me → AskedIn (is_open me.part me.stack) (asked_at me s)
   unfolding AskedIn
   asked_open w =
-      each_course is_refused asked.Nothing (λ u h. asked_by u h me s) me s (AskedIn (is_open me.part me.stack)) tt tt
+      each_dispatch is_refused asked.Nothing (λ u h. asked_by u h me s) me s (AskedIn (is_open me.part me.stack)) tt tt
       (λ q is u. asked_in (is_open me.part me.stack) u.row u.tree (here q me s) (around me s) s.home.lines (subst (PlaceStands me.part me.stack) is w.place))

@@ -11,7 +11,7 @@ use Rattle.b2_atom.specs.declared.rows.TheConstants as row
 use Rattle.b2_atom.specs.declared.forms.Start.TheVariants as start
 use Rattle.b2_atom.specs.declared.forms.Item.{Item}
 use Rattle.b2_atom.specs.declared.forms.Item.TheVariants.{Word, Maybe}
-use Rattle.b2_rows.specs.Rows.{is_part, tree_at}
+use Rattle.b2_rows.specs.Rows.{is_phrase, tree_at}
 use Rattle.b2_rows.proofs.RowsRead.{stands_of}
 use Rattle.b2_expr.specs.Answers.{◌>>=◌}
 use Rattle.b2_expr.specs.Functions.{whole_between}
@@ -28,7 +28,7 @@ break_row : row_items row.BREAK ≡ break_items
 unfolding row_items
 break_row = refl
 
-pub break_sum : (t : Text) → is_part row.BREAK t ≡ true → starts Atoms start.Numeric (drop 1 t) ≡ true → is_part row.SUM (drop 1 t) ≡ true
+pub break_sum : (t : Text) → is_phrase row.BREAK t ≡ true → starts Atoms start.Numeric (drop 1 t) ≡ true → is_phrase row.SUM (drop 1 t) ≡ true
 break_sum t ok is = (taken_way (starts Atoms start.Numeric (drop 1 t)) _ _ is (stands_of row.BREAK break_items t break_row ok).0.1).0
 
 break_by : (s : Context) (b c : Bool) (a : Trees) → b ≡ c
@@ -38,11 +38,11 @@ break_by s false false a is = refl
 break_by s true false a is = cc
 break_by s false true a is = cc
 
-pub break_with : (s : Context) (t : Text) → is_part row.BREAK t ≡ true → starts Atoms start.Numeric (drop 1 t) ≡ true
+pub break_with : (s : Context) (t : Text) → is_phrase row.BREAK t ≡ true → starts Atoms start.Numeric (drop 1 t) ≡ true
     → turns_to_pass s (tree_at row.BREAK t) ≡ (value s level.Sum (tree_at row.SUM (drop 1 t)) >>= (λ x. whole_between 0 255 x))
 break_with s t ok is =
     ap (turns_to_pass s) (stands_of row.BREAK break_items t break_row ok).1 ∙ break_by s (starts Atoms start.Numeric (drop 1 t)) true (tree_at row.SUM (drop 1 t)) is
 
-pub break_without : (s : Context) (t : Text) → is_part row.BREAK t ≡ true → starts Atoms start.Numeric (drop 1 t) ≡ false → turns_to_pass s (tree_at row.BREAK t) ≡ Ok 0
+pub break_without : (s : Context) (t : Text) → is_phrase row.BREAK t ≡ true → starts Atoms start.Numeric (drop 1 t) ≡ false → turns_to_pass s (tree_at row.BREAK t) ≡ Ok 0
 break_without s t ok is =
     ap (turns_to_pass s) (stands_of row.BREAK break_items t break_row ok).1 ∙ break_by s (starts Atoms start.Numeric (drop 1 t)) false (tree_at row.SUM (drop 1 t)) is

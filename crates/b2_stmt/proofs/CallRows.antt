@@ -14,7 +14,7 @@ use Rattle.b2_atom.specs.declared.forms.Leaf.TheVariants as leaf
 use Rattle.b2_atom.specs.declared.forms.Item.{Item}
 use Rattle.b2_atom.specs.declared.forms.Item.TheVariants.{Word, Typed, Maybe}
 use Rattle.b2_rows.specs.Leaves.{is_leaf}
-use Rattle.b2_rows.specs.Rows.{is_part, tree_at}
+use Rattle.b2_rows.specs.Rows.{is_phrase, tree_at}
 use Rattle.b2_rows.specs.Values.{line_of}
 use Rattle.b2_rows.proofs.RowsRead.{stands_of}
 use Rattle.b2_stmt.specs.Calls.{line_called, has_all}
@@ -26,10 +26,10 @@ gosub_row : row_items row.GOSUB ≡ gosub_items
 unfolding row_items
 gosub_row = refl
 
-pub gosub_line : (t : Text) → is_part row.GOSUB t ≡ true → is_leaf leaf.LineNumber (drop 1 t) ≡ true
+pub gosub_line : (t : Text) → is_phrase row.GOSUB t ≡ true → is_leaf leaf.LineNumber (drop 1 t) ≡ true
 gosub_line t ok = (stands_of row.GOSUB gosub_items t gosub_row ok).0.1.0
 
-pub gosub_is : (t : Text) → is_part row.GOSUB t ≡ true → line_called (tree_at row.GOSUB t) ≡ line_of (get_or (drop 1 t) 1 0) (get_or (drop 1 t) 2 0)
+pub gosub_is : (t : Text) → is_phrase row.GOSUB t ≡ true → line_called (tree_at row.GOSUB t) ≡ line_of (get_or (drop 1 t) 1 0) (get_or (drop 1 t) 2 0)
 gosub_is t ok = ap line_called (stands_of row.GOSUB gosub_items t gosub_row ok).1
 
 abbrev clear_items : List Item
@@ -43,6 +43,6 @@ all_by : (b : Bool) (a : Trees) → has_all (Put (Coded word.RETURN) (Put (Coded
 all_by true a = refl
 all_by false a = refl
 
-pub all_is : (t : Text) → is_part row.RETURN_CLEAR t ≡ true → has_all (tree_at row.RETURN_CLEAR t) ≡ (first (drop 1 (drop 1 t)) == word.ALL)
+pub all_is : (t : Text) → is_phrase row.RETURN_CLEAR t ≡ true → has_all (tree_at row.RETURN_CLEAR t) ≡ (first (drop 1 (drop 1 t)) == word.ALL)
 unfolding starts
 all_is t ok = ap has_all (stands_of row.RETURN_CLEAR clear_items t clear_row ok).1 ∙ all_by (first (drop 1 (drop 1 t)) == word.ALL) (tree_at row.ALL (drop 1 (drop 1 t)))

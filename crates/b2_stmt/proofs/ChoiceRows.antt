@@ -17,7 +17,7 @@ use Rattle.b2_atom.specs.declared.forms.Leaf.TheVariants as leaf
 use Rattle.b2_atom.specs.declared.forms.Item.{Item}
 use Rattle.b2_atom.specs.declared.forms.Item.TheVariants.{Word, ProgramWord, Sign, Typed, Part, Either, Many}
 use Rattle.b2_rows.specs.Leaves.{is_leaf}
-use Rattle.b2_rows.specs.Rows.{is_part, tree_at, after_part, is_list, list_at, When, Goes, Ends}
+use Rattle.b2_rows.specs.Rows.{is_phrase, tree_at, after_phrase, is_list, list_at, When, Goes, Ends}
 use Rattle.b2_rows.specs.Values.{line_of}
 use Rattle.b2_rows.proofs.Lists.{goes, ended}
 use Rattle.b2_expr.specs.Answers.{◌>>=◌}
@@ -58,7 +58,7 @@ other_tree : (t : Text) → is_list commas row.COMMA_LINE t ≡ true → (first 
 other_tree t ok is =
     let g = gone t ok is in
     let r = stands_of row.COMMA_LINE comma_items t comma_row g.part in
-    g.tree ∙ ap (λ (a : Trees). In 1 a (list_at commas row.COMMA_LINE (after_part row.COMMA_LINE t))) r.1
+    g.tree ∙ ap (λ (a : Trees). In 1 a (list_at commas row.COMMA_LINE (after_phrase row.COMMA_LINE t))) r.1
     ∙ ap (λ (u : Text). In 1 (Put (Coded byte.comma) (Put (Lined (get_or (drop 1 t) 1 0) (get_or (drop 1 t) 2 0)) Done)) (list_at commas row.COMMA_LINE u)) r.2
 
 -- the lines at a text, one after the other
@@ -110,9 +110,9 @@ unfolding row_items
 gosub_row = refl
 
 abbrev pub listed_text : Text → Text
-listed_text t = after_part row.SUM (drop 1 t)
+listed_text t = after_phrase row.SUM (drop 1 t)
 
-pub on_sum : (t : Text) → is_part row.ON t ≡ true → is_part row.SUM (drop 1 t) ≡ true
+pub on_sum : (t : Text) → is_phrase row.ON t ≡ true → is_phrase row.SUM (drop 1 t) ≡ true
 on_sum t ok = (stands_of row.ON on_items t on_row ok).0.1.0
 
 -- of both kinds
@@ -121,7 +121,7 @@ pub record Listed (u : Text) (b : Bool) : Type 0 where
   pub list : is_list commas row.COMMA_LINE (drop 3 (drop 1 u)) ≡ true
   pub lines : lines_of (if b then tree_at row.ON_GOTO u else tree_at row.ON_GOSUB u) ≡ lines_at (drop 1 u)
 
-listed_by : (u : Text) (b : Bool) → When b ((is_part row.ON_GOTO u ≡ true) × Unit {0}) ((is_part row.ON_GOSUB u ≡ true) × Unit {0}) → Listed u b
+listed_by : (u : Text) (b : Bool) → When b ((is_phrase row.ON_GOTO u ≡ true) × Unit {0}) ((is_phrase row.ON_GOSUB u ≡ true) × Unit {0}) → Listed u b
 listed_by u true h =
     let r = stands_of row.ON_GOTO goto_items u goto_row h.0 in
     record { line = r.0.1.0; list = r.0.1.1.0; lines = ap lines_of r.1 }
@@ -129,14 +129,14 @@ listed_by u false h =
     let r = stands_of row.ON_GOSUB gosub_items u gosub_row h.0 in
     record { line = r.0.1.0; list = r.0.1.1.0; lines = ap lines_of r.1 }
 
-literals_listed : (t : Text) → is_part row.ON t ≡ true → Listed (listed_text t) (first (listed_text t) == word.GOTO)
+literals_listed : (t : Text) → is_phrase row.ON t ≡ true → Listed (listed_text t) (first (listed_text t) == word.GOTO)
 unfolding starts
 literals_listed t ok = listed_by (listed_text t) (first (listed_text t) == word.GOTO) (stands_of row.ON on_items t on_row ok).0.1.1
 
-pub on_first : (t : Text) → is_part row.ON t ≡ true → is_leaf leaf.LineNumber (drop 1 (listed_text t)) ≡ true
+pub on_first : (t : Text) → is_phrase row.ON t ≡ true → is_leaf leaf.LineNumber (drop 1 (listed_text t)) ≡ true
 on_first t ok = Listed.line (literals_listed t ok)
 
-pub on_list : (t : Text) → is_part row.ON t ≡ true → is_list commas row.COMMA_LINE (drop 3 (drop 1 (listed_text t))) ≡ true
+pub on_list : (t : Text) → is_phrase row.ON t ≡ true → is_list commas row.COMMA_LINE (drop 3 (drop 1 (listed_text t))) ≡ true
 on_list t ok = Listed.list (literals_listed t ok)
 
 on_by : (s : Context) (b : Bool) (sum x y : Trees) → choice_in s (Put (Coded word.ON) (In 2 sum (if b then In 1 x Done else In 0 y Done)))
@@ -148,13 +148,13 @@ calls_by : (b : Bool) (sum x y : Trees) → calls_a_line (Put (Coded word.ON) (I
 calls_by true sum x y = refl
 calls_by false sum x y = refl
 
-pub on_calls : (t : Text) → is_part row.ON t ≡ true → calls_a_line (tree_at row.ON t) ≡ not (first (listed_text t) == word.GOTO)
+pub on_calls : (t : Text) → is_phrase row.ON t ≡ true → calls_a_line (tree_at row.ON t) ≡ not (first (listed_text t) == word.GOTO)
 unfolding starts
 on_calls t ok =
     ap calls_a_line (stands_of row.ON on_items t on_row ok).1
     ∙ calls_by (first (listed_text t) == word.GOTO) (tree_at row.SUM (drop 1 t)) (tree_at row.ON_GOTO (listed_text t)) (tree_at row.ON_GOSUB (listed_text t))
 
-pub on_is : (s : Context) (t : Text) → is_part row.ON t ≡ true → choice_in s (tree_at row.ON t)
+pub on_is : (s : Context) (t : Text) → is_phrase row.ON t ≡ true → choice_in s (tree_at row.ON t)
     ≡ (value s level.Sum (tree_at row.SUM (drop 1 t)) >>= (λ n. Ok (first (listed_text t) == word.GOTO, counted_line (fixed n) (lines_at (drop 1 (listed_text t))))))
 unfolding starts
 on_is s t ok =

@@ -19,7 +19,7 @@ use Rattle.b2_expr.specs.Answers.{Answer, ◌>>=◌, unless}
 use Rattle.b2_expr.specs.Named.{number_there}
 use Rattle.b2_stmt.specs.Loops.{loop_element, next_value, scalar_of}
 use Rattle.b2_receiver.specs.Assigning.{assigned_number, unless_refused}
-use Rattle.b2_stmt.specs.Passing.{MadeOrNot, digit_counted}
+use Rattle.b2_stmt.specs.Fast.{MadeOrNot, digit_counted}
 
 both : (a b : Bool) → (a && b) ≡ true → (a ≡ true) × (b ≡ true)
 both true b h = (refl, h)

@@ -8,7 +8,7 @@ use Rattle.b2_flow.specs.declared.frame.Place.{Place}
 use Rattle.b2_text.specs.Program.{Lines}
 use Rattle.b2_text.specs.declared.spots.Spot.{Spot}
 use Rattle.b2_access.specs.Borrowers.{homes_entered}
-use Rattle.b2_access.specs.Courses.{Here, here}
+use Rattle.b2_access.specs.Dispatch.{Here, here}
 use Rattle.b2_access.specs.Lending.{SeenLent}
 use Rattle.b2_access.specs.Placed.{Statement}
 use Rattle.b2_access.specs.Planning.{Planning, asks, done}
@@ -19,7 +19,7 @@ use Rattle.b2_access.specs.declared.accesses.Answer.{Answer}
 use Rattle.b2_access.specs.declared.planned.Outcome.TheVariants as outcome
 use Rattle.b2_access.specs.declared.private.Private.{Private}
 use Rattle.b2_access.proofs.Choice.{either}
-use Rattle.b2_access.proofs.Courses.{each_course}
+use Rattle.b2_access.proofs.Dispatch.{each_dispatch}
 use Rattle.b2_stmt.specs.Asked.{carried, is_still, still}
 use Rattle.b2_stmt.specs.Borrowing.{
   EnteringRefused,
@@ -123,7 +123,7 @@ module _ (me : Private) (s : SeenLent) (F : Planning → Type 0) (asking : (a : 
 
   pub each_plan : F (plan me s)
   each_plan =
-      each_course is_refused (stops me s) (does me s) me s F (ends s (unsteered me outcome.Ready)) (ends s (unsteered me _)) (λ p is u.
+      each_dispatch is_refused (stops me s) (does me s) me s F (ends s (unsteered me outcome.Ready)) (ends s (unsteered me _)) (λ p is u.
       unless (asked_access u.row u.tree me.declared (homes_entered me.stack)) u (here p me s) (may_ask_by_row u.row u.tree me.declared (homes_entered me.stack)))
 
 -- AND OF EACH END

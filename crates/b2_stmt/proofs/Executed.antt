@@ -4,7 +4,7 @@ use Rattle.std.specs.Option.{option_map_or}
 use Rattle.b2_atom.specs.Tree.{Trees}
 use Rattle.b2_atom.specs.declared.rows.TheConstants as row
 use Rattle.b2_access.specs.Borrowers.{homes_entered}
-use Rattle.b2_access.specs.Courses.{Here, permitted}
+use Rattle.b2_access.specs.Dispatch.{Here, permitted}
 use Rattle.b2_access.specs.Lending.{SeenLent}
 use Rattle.b2_access.specs.Placed.{Statement}
 use Rattle.b2_access.specs.Planning.{Planning, asks, done, stays}
@@ -14,7 +14,7 @@ use Rattle.b2_access.specs.declared.accesses.Access.{Access}
 use Rattle.b2_access.specs.declared.planned.Outcome.{Outcome}
 use Rattle.b2_access.specs.declared.planned.Planned.TheVariants as planned
 use Rattle.b2_access.specs.declared.private.Private.{Private}
-use Rattle.b2_access.proofs.Courses.{may_stand}
+use Rattle.b2_access.proofs.Dispatch.{may_stand}
 use Rattle.b2_stmt.specs.Asked.{carried, is_still, still}
 use Rattle.b2_flow.specs.Stacks.{entered_last}
 use Rattle.b2_stmt.specs.Borrowing.{asks_of_others, asks_to_leave}

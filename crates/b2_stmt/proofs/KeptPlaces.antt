@@ -22,8 +22,8 @@ use Rattle.b2_access.specs.Lending.{SeenLent}
 use Rattle.b2_access.specs.OwnTerminal.{AskedAt, PlannedAt, PlansAtTerminal}
 use Rattle.b2_access.specs.Pending.{KeepsOrShows, PlansToShow}
 use Rattle.b2_access.specs.Places.{line_start}
-use Rattle.b2_access.specs.Going.{to_place}
-use Rattle.b2_access.specs.Courses.{Here, here}
+use Rattle.b2_access.specs.Jumps.{to_place}
+use Rattle.b2_access.specs.Dispatch.{Here, here}
 use Rattle.b2_access.specs.Placed.{Statement}
 use Rattle.b2_access.specs.Planning.{Planning, done}
 use Rattle.b2_access.specs.Working.{work_of}
@@ -36,14 +36,14 @@ use Rattle.b2_access.specs.declared.planned.Planned.TheVariants as planned
 use Rattle.b2_access.specs.declared.private.Private.{Private}
 use Rattle.b2_access.specs.Views.{ClearCame, AllCleared, LinesErased, TextLocked, ClearLater, clear_came}
 use Rattle.b2_access.proofs.Choice.{either}
-use Rattle.b2_access.proofs.Courses.{each_course}
+use Rattle.b2_access.proofs.Dispatch.{each_dispatch}
 use Rattle.b2_access.proofs.OwnTerminal.{names_none}
 use Rattle.b2_access.proofs.Working.{keeps_or_shows}
 use Rattle.b2_stmt.specs.Asked.{carried, is_still}
 use Rattle.b2_stmt.specs.Borrowing.{asks_of_others, enters}
 use Rattle.b2_stmt.specs.Calls.{back_from, called_where, forgets, leaves_call, may_forget_all}
 use Rattle.b2_stmt.specs.Clearing.{asked_access, clearing_ends, edit_finishes}
-use Rattle.b2_stmt.specs.Course.{continues, runs, runs_from, runs_where}
+use Rattle.b2_stmt.specs.RunControl.{continues, runs, runs_from, runs_where}
 use Rattle.b2_stmt.specs.Frames.{with_frame}
 use Rattle.b2_stmt.specs.Loops.{loop_begins, loop_element, loop_counts, goes_round, is_over, made_loop, next_value, nexts, tested, without_loop}
 use Rattle.b2_stmt.specs.Marked.{calls_into, calls_mark, ends_taken, ends_with_args, mark_place, place_in, takes_args}
@@ -208,7 +208,7 @@ clears ClearLater me h = inl h
 pub plans_keep_none : PlansKeepNone plan
 unfolding PlansNothing
 plans_keep_none me s k =
-    each_course is_refused (stops me s) (does me s) me s PlansNothing (inl k) (inl k) (λ p is u. unless (asked_access u.row u.tree me.declared (homes_entered me.stack)) u (here p me s) me s k)
+    each_dispatch is_refused (stops me s) (does me s) me s PlansNothing (inl k) (inl k) (λ p is u. unless (asked_access u.row u.tree me.declared (homes_entered me.stack)) u (here p me s) me s k)
 
 enters_none : (home : ℕ) (spot : Spot) (x : Asked) (me : Private) → KeepsNoPlace me → KeepsNothing (enters home spot x me)
 unfolding KeepsNothing

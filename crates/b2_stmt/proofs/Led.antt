@@ -1,14 +1,14 @@
--- Where a statement is led that is done in passing.
+-- Where a statement is led that is done fast.
 use Rattle.std.proofs.Common.{◌≡◌, ◌∙◌, ℕ, sym, ap, Option, Some, None, option_map, unwrap_or}
 use Rattle.b2_flow.specs.declared.frame.Place.{Place}
 use Rattle.b2_rows.specs.declared.following.Goal.TheVariants as goal
-use Rattle.b2_access.specs.Going.{to_goal, to_place}
-use Rattle.b2_access.specs.Passing.{lead_of, led_by, place_following, place_led}
+use Rattle.b2_access.specs.Jumps.{to_goal, to_place}
+use Rattle.b2_access.specs.Fast.{lead_of, led_by, place_following, place_led}
 use Rattle.b2_access.specs.Places.{goal_place}
 use Rattle.b2_access.specs.declared.placed.Found.{Found}
 use Rattle.b2_access.specs.declared.planned.Outcome.TheVariants as outcome
 use Rattle.b2_access.proofs.Led.{following_led, goal_led}
-use Rattle.b2_stmt.specs.Passing.{IsPlaceLed, LeadsBy}
+use Rattle.b2_stmt.specs.Fast.{IsPlaceLed, LeadsBy}
 
 -- a place that a lead was made of
 led_place : (p : Place) (line : Option ℕ) (l : ℕ × ℕ) → p.line ≡ line → option_map (λ (n : ℕ). (n, p.unit)) line ≡ Some l → p ≡ place_led p.home l

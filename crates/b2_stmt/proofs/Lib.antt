@@ -8,14 +8,14 @@
 -- these in one record. AskedSo: why an access is asked for. Standing: how many calls entered each text, and where it stands in
 -- those of others, as it plans and as it finishes; and that it enters only those of others. Crates above cite its `plans_standing`,
 -- `finishes_standing` and `enters_others`.
--- Of what is done in passing: Led: where it leads. Tops: the frame on top. Counters: the variable of a loop. Steered: what RETURN and FOR
+-- Of what is done fast: Led: where it leads. Tops: the frame on top. Counters: the variable of a loop. Steered: what RETURN and FOR
 -- change. MarksPassed: GOSUB' and DEFFN'. Passed: what is planned, row by row.
 pub mod GoalUnits
 pub mod Framed
 pub mod BranchRows
 pub mod LoopRows
 pub mod CallRows
-pub mod CourseRows
+pub mod RunControlRows
 pub mod ChoiceRows
 pub mod ClearRows
 pub mod ArgumentRows
@@ -35,7 +35,7 @@ pub mod Reached
 pub mod LeftAlone
 pub mod Led
 pub mod Tops
-pub mod Passed
+pub mod FastRows
 pub mod Steered
-pub mod MarksPassed
+pub mod FastCalls
 pub mod Counters

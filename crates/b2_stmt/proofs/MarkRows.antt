@@ -21,8 +21,8 @@ use Rattle.b2_atom.specs.declared.forms.Item.{Item}
 use Rattle.b2_atom.specs.declared.forms.Item.TheVariants.{Word, Sign, Typed, Part, Nest, Maybe, Many}
 use Rattle.b2_rows.specs.Choices.{ReadAs, first_branch, second_branch}
 use Rattle.b2_rows.specs.Leaves.{is_leaf, leaf_bytes}
-use Rattle.b2_rows.specs.Optional.{maybe_part, maybe_tree}
-use Rattle.b2_rows.specs.Rows.{is_part, tree_at}
+use Rattle.b2_rows.specs.Optional.{maybe_phrase, maybe_tree}
+use Rattle.b2_rows.specs.Rows.{is_phrase, tree_at}
 use Rattle.b2_rows.specs.Values.{small_of}
 use Rattle.b2_rows.proofs.Choices.{either_first, either_second}
 use Rattle.b2_rows.proofs.Optional.{maybe_stands, begun_part, begun_tree, left_out_tree}
@@ -41,10 +41,10 @@ use Rattle.b2_rows.specs.CommaLists.{are_others, past_first, receivers_at, comma
 use Rattle.b2_stmt.proofs.ArgumentRows.{call_items, call_row, number_width}
 
 -- the number that GOSUB' calls
-pub called_number : (t : Text) → is_part row.GOSUB_MARKED t ≡ true → is_leaf leaf.Small (drop 1 t) ≡ true
+pub called_number : (t : Text) → is_phrase row.GOSUB_MARKED t ≡ true → is_leaf leaf.Small (drop 1 t) ≡ true
 called_number t ok = (stands_of row.GOSUB_MARKED call_items t call_row ok).0.1.0
 
-pub called_is : (t : Text) → is_part row.GOSUB_MARKED t ≡ true → number_called (tree_at row.GOSUB_MARKED t) ≡ small_of (leaf_bytes leaf.Small (drop 1 t))
+pub called_is : (t : Text) → is_phrase row.GOSUB_MARKED t ≡ true → number_called (tree_at row.GOSUB_MARKED t) ≡ small_of (leaf_bytes leaf.Small (drop 1 t))
 called_is t ok = ap number_called (stands_of row.GOSUB_MARKED call_items t call_row ok).1
 
 -- the call's frame, and no room for it
@@ -70,19 +70,19 @@ pub no_room : (entered : Option ℕ) (q : Place) (args : List Value) (back : Opt
 no_room entered q args back me is = by_room false entered q args back me is
 
 -- the kind of a receiver
-alpha_read : (t : Text) → is_part row.RECEIVER t ≡ true → starts Atoms start.Alpha t ≡ true → ReadAs row.RECEIVER row.ALPHA_RECEIVER first_branch t
+alpha_read : (t : Text) → is_phrase row.RECEIVER t ≡ true → starts Atoms start.Alpha t ≡ true → ReadAs row.RECEIVER row.ALPHA_RECEIVER first_branch t
 unfolding row_items
 alpha_read t ok is = either_first row.RECEIVER row.ALPHA_RECEIVER row.NUMERIC_RECEIVER start.Alpha t refl ok is
 
-pub number_read : (t : Text) → is_part row.RECEIVER t ≡ true → starts Atoms start.Alpha t ≡ false → ReadAs row.RECEIVER row.NUMERIC_RECEIVER second_branch t
+pub number_read : (t : Text) → is_phrase row.RECEIVER t ≡ true → starts Atoms start.Alpha t ≡ false → ReadAs row.RECEIVER row.NUMERIC_RECEIVER second_branch t
 unfolding row_items
 number_read t ok is = either_second row.RECEIVER row.ALPHA_RECEIVER row.NUMERIC_RECEIVER start.Alpha t refl ok is
 
-kind_by : (t : Text) (b : Bool) → is_part row.RECEIVER t ≡ true → starts Atoms start.Alpha t ≡ b → takes_bytes (tree_at row.RECEIVER t) ≡ b
+kind_by : (t : Text) (b : Bool) → is_phrase row.RECEIVER t ≡ true → starts Atoms start.Alpha t ≡ b → takes_bytes (tree_at row.RECEIVER t) ≡ b
 kind_by t true ok is = ap takes_bytes (ReadAs.tree (alpha_read t ok is))
 kind_by t false ok is = ap takes_bytes (ReadAs.tree (number_read t ok is))
 
-pub kind_is : (t : Text) → is_part row.RECEIVER t ≡ true → takes_bytes (tree_at row.RECEIVER t) ≡ starts Atoms start.Alpha t
+pub kind_is : (t : Text) → is_phrase row.RECEIVER t ≡ true → takes_bytes (tree_at row.RECEIVER t) ≡ starts Atoms start.Alpha t
 kind_is t ok = kind_by t (starts Atoms start.Alpha t) ok refl
 
 -- whether values fit receivers, one after another
@@ -140,16 +140,16 @@ abbrev tail : Text → Text
 tail t = drop (digits_width (drop 1 t)) (drop 1 t)
 
 pub record Marked (t : Text) : Type 0 where
-  pub part : maybe_part begun row.MARKED_TAIL (tail t) ≡ true
+  pub part : maybe_phrase begun row.MARKED_TAIL (tail t) ≡ true
   pub receivers : parameters_of (tree_at row.DEFFN_MARKED t) ≡ tail_receivers (maybe_tree begun row.MARKED_TAIL (tail t))
 
-marked : (t : Text) → is_part row.DEFFN_MARKED t ≡ true → Marked t
+marked : (t : Text) → is_phrase row.DEFFN_MARKED t ≡ true → Marked t
 unfolding maybe_tree
 marked t ok =
     let r = stands_of row.DEFFN_MARKED mark_items t mark_row ok in
     let width = number_width (drop 1 t) r.0.1.0 in
     record {
-      part = subst (λ (n : ℕ). maybe_part begun row.MARKED_TAIL (drop n (drop 1 t)) ≡ true) width (maybe_stands begun row.MARKED_TAIL (drop (leaf_width Atoms leaf.Small (drop 1 t)) (drop 1 t)) r.0.1.1);
+      part = subst (λ (n : ℕ). maybe_phrase begun row.MARKED_TAIL (drop n (drop 1 t)) ≡ true) width (maybe_stands begun row.MARKED_TAIL (drop (leaf_width Atoms leaf.Small (drop 1 t)) (drop 1 t)) r.0.1.1);
       receivers = ap parameters_of r.1 ∙ ap (λ (n : ℕ). tail_receivers (maybe_tree begun row.MARKED_TAIL (drop n (drop 1 t)))) width;
     }
 
@@ -168,21 +168,21 @@ begins_tail t is = opening_begins (first t) is
 no_quote : (c : ℕ) → (c == byte.opening) ≡ true → (c == byte.quote) ≡ false
 no_quote c is = grind (arith, nat_tests)
 
-tail_here : (t : Text) → maybe_part begun row.MARKED_TAIL t ≡ true → (first t == byte.opening) ≡ true → ReadAs row.MARKED_TAIL row.PARAMETERS second_branch t
+tail_here : (t : Text) → maybe_phrase begun row.MARKED_TAIL t ≡ true → (first t == byte.opening) ≡ true → ReadAs row.MARKED_TAIL row.PARAMETERS second_branch t
 unfolding row_items
 tail_here t ok is =
     either_second row.MARKED_TAIL row.LITERAL row.PARAMETERS (start.Code byte.quote) t refl (begun_part begun row.MARKED_TAIL t ok (begins_tail t is)) (loop_begins byte.quote t false (no_quote (first t) is))
 
-inner : (t : Text) → is_part row.DEFFN_MARKED t ≡ true → (first (tail t) == byte.opening) ≡ true → is_part row.RECEIVERS (drop 1 (tail t)) ≡ true
+inner : (t : Text) → is_phrase row.DEFFN_MARKED t ≡ true → (first (tail t) == byte.opening) ≡ true → is_phrase row.RECEIVERS (drop 1 (tail t)) ≡ true
 inner t ok is = (stands_of row.PARAMETERS parameter_items (tail t) parameter_row (ReadAs.part (tail_here (tail t) (Marked.part (marked t ok)) is))).0.1.0
 
-pub parameters_first : (t : Text) → is_part row.DEFFN_MARKED t ≡ true → (first (tail t) == byte.opening) ≡ true → is_part row.RECEIVER (drop 1 (tail t)) ≡ true
+pub parameters_first : (t : Text) → is_phrase row.DEFFN_MARKED t ≡ true → (first (tail t) == byte.opening) ≡ true → is_phrase row.RECEIVER (drop 1 (tail t)) ≡ true
 parameters_first t ok is = (stands_of row.RECEIVERS receiver_items (drop 1 (tail t)) receiver_row (inner t ok is)).0.0
 
-pub parameters_list : (t : Text) → is_part row.DEFFN_MARKED t ≡ true → (first (tail t) == byte.opening) ≡ true → are_others (past_first (drop 1 (tail t))) ≡ true
+pub parameters_list : (t : Text) → is_phrase row.DEFFN_MARKED t ≡ true → (first (tail t) == byte.opening) ≡ true → are_others (past_first (drop 1 (tail t))) ≡ true
 parameters_list t ok is = (stands_of row.RECEIVERS receiver_items (drop 1 (tail t)) receiver_row (inner t ok is)).0.1.0
 
-pub parameters_are : (t : Text) → is_part row.DEFFN_MARKED t ≡ true → (first (tail t) == byte.opening) ≡ true → parameters_of (tree_at row.DEFFN_MARKED t) ≡ receivers_at (drop 1 (tail t))
+pub parameters_are : (t : Text) → is_phrase row.DEFFN_MARKED t ≡ true → (first (tail t) == byte.opening) ≡ true → parameters_of (tree_at row.DEFFN_MARKED t) ≡ receivers_at (drop 1 (tail t))
 parameters_are t ok is =
     let m = marked t ok in
     let r = tail_here (tail t) (Marked.part m) is in
@@ -199,7 +199,7 @@ quote_begins : (t : Text) → starts Atoms begun t ≡ true → (first t == byte
 unfolding starts
 quote_begins t is other = quote_there (first t) is other
 
-none_by : (t : Text) (b : Bool) → starts Atoms begun t ≡ b → maybe_part begun row.MARKED_TAIL t ≡ true → (first t == byte.opening) ≡ false → tail_receivers (maybe_tree begun row.MARKED_TAIL t) ≡ []
+none_by : (t : Text) (b : Bool) → starts Atoms begun t ≡ b → maybe_phrase begun row.MARKED_TAIL t ≡ true → (first t == byte.opening) ≡ false → tail_receivers (maybe_tree begun row.MARKED_TAIL t) ≡ []
 unfolding row_items
 none_by t true it ok is =
     ap tail_receivers (begun_tree begun row.MARKED_TAIL t it)
@@ -207,7 +207,7 @@ none_by t true it ok is =
     (ReadAs.tree (either_first row.MARKED_TAIL row.LITERAL row.PARAMETERS (start.Code byte.quote) t refl (begun_part begun row.MARKED_TAIL t ok it) (loop_begins byte.quote t true (quote_begins t it is))))
 none_by t false it ok is = ap tail_receivers (left_out_tree begun row.MARKED_TAIL t it)
 
-pub no_parameters : (t : Text) → is_part row.DEFFN_MARKED t ≡ true → (first (tail t) == byte.opening) ≡ false → parameters_of (tree_at row.DEFFN_MARKED t) ≡ []
+pub no_parameters : (t : Text) → is_phrase row.DEFFN_MARKED t ≡ true → (first (tail t) == byte.opening) ≡ false → parameters_of (tree_at row.DEFFN_MARKED t) ≡ []
 no_parameters t ok is = let m = marked t ok in Marked.receivers m ∙ none_by (tail t) (starts Atoms begun (tail t)) refl (Marked.part m) is
 
 -- a receiver that took its value, and the others

@@ -14,7 +14,7 @@ use Rattle.b2_receiver.specs.Receiving.{given_value}
 use Rattle.b2_receiver.specs.declared.receiver.Receiver.{Receiver}
 use Rattle.b2_receiver.proofs.Reached.{given_value_reaches}
 use Rattle.b2_access.specs.Borrowers.{homes_entered}
-use Rattle.b2_access.specs.Courses.{Here, here}
+use Rattle.b2_access.specs.Dispatch.{Here, here}
 use Rattle.b2_access.specs.Lending.{SeenLent}
 use Rattle.b2_access.specs.Partition.{setting_of}
 use Rattle.b2_access.specs.Placed.{Statement}
@@ -24,7 +24,7 @@ use Rattle.b2_access.specs.Steering.{Steered}
 use Rattle.b2_access.specs.declared.accesses.Access.{Access}
 use Rattle.b2_access.specs.declared.private.Private.{Private}
 use Rattle.b2_access.proofs.Choice.{either}
-use Rattle.b2_access.proofs.Courses.{each_course}
+use Rattle.b2_access.proofs.Dispatch.{each_dispatch}
 use Rattle.b2_stmt.specs.Asked.{carried, is_still}
 use Rattle.b2_stmt.specs.Borrowing.{asks_of_others}
 use Rattle.b2_stmt.specs.Clearing.{asked_access}
@@ -67,4 +67,4 @@ by_asked (Some a) u h me s = refl
 pub plans_reach : PlansReach plan
 plans_reach me s =
     let F : Planning → Type 0 = λ p. ReachedUnlessAsks s.globals p.globals p.planned in
-    each_course is_refused (stops me s) (does me s) me s F (stay s.globals) (stay s.globals) (λ p is u. by_asked (asked_access u.row u.tree me.declared (homes_entered me.stack)) u (here p me s) me s)
+    each_dispatch is_refused (stops me s) (does me s) me s F (stay s.globals) (stay s.globals) (λ p is u. by_asked (asked_access u.row u.tree me.declared (homes_entered me.stack)) u (here p me s) me s)

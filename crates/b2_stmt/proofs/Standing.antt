@@ -27,7 +27,7 @@ use Rattle.b2_atom.specs.declared.rows.TheConstants as row
 use Rattle.b2_expr.specs.Workspace.{WorkLeft}
 use Rattle.b2_access.specs.Borrowers.{homes_entered, is_marked}
 use Rattle.b2_access.proofs.EnteredHomes.{marked_is}
-use Rattle.b2_access.specs.Courses.{here}
+use Rattle.b2_access.specs.Dispatch.{here}
 use Rattle.b2_access.specs.Lending.{SeenLent}
 use Rattle.b2_access.specs.Placed.{Statement}
 use Rattle.b2_access.specs.Places.{line_start}
@@ -40,7 +40,7 @@ use Rattle.b2_access.specs.declared.accesses.Answer.{Answer}
 use Rattle.b2_access.specs.declared.accesses.Answer.TheVariants as answer
 use Rattle.b2_access.specs.declared.planned.Planned.{Planned as PlannedState}
 use Rattle.b2_access.specs.declared.planned.Planned.TheVariants as planned
-use Rattle.b2_access.proofs.Courses.{each_course}
+use Rattle.b2_access.proofs.Dispatch.{each_dispatch}
 use Rattle.b2_stmt.specs.Asked.{carried, is_still, still}
 use Rattle.b2_stmt.specs.Clearing.{asked_access, edit_finishes}
 use Rattle.b2_stmt.specs.Plan.{acts, acts_unless, around, asked_at, asked_by, by_access, does, ends_at, finish, is_refused, plan, plans_asked, stops}
@@ -53,11 +53,11 @@ use Rattle.b2_stmt.proofs.HomesKept.{AskedIn, asked_in, either_in, spot_in, stil
 use Rattle.b2_expr.specs.Answers.{Answer as NumberAnswer}
 use Rattle.b2_expr.specs.Named.{number_there}
 use Rattle.b2_receiver.specs.Assigning.{assigned_number}
-use Rattle.b2_access.specs.Going.{to_place}
+use Rattle.b2_access.specs.Jumps.{to_place}
 use Rattle.b2_access.specs.Working.{work_of}
 use Rattle.b2_stmt.specs.Borrowing.{EntersOthers, asks_of_others, asks_to_drop, asks_to_leave, enters as goes_in, finds_line, lent_came, lent_ends}
 use Rattle.b2_stmt.specs.Calls.{back_from, called_where, forgets_all, goes_back, leaves_call, may_forget_all}
-use Rattle.b2_stmt.specs.Course.{continues, runs, runs_from, runs_where, stops_program}
+use Rattle.b2_stmt.specs.RunControl.{continues, runs, runs_from, runs_where, stops_program}
 use Rattle.b2_stmt.specs.Frames.{with_frame}
 use Rattle.b2_stmt.specs.Loops.{goes_round, is_over, loop_begins, loop_counts, loop_element, made_loop, next_value, nexts, tested, without_loop}
 use Rattle.b2_stmt.specs.Marked.{calls_into, calls_mark, code_of_none, ends_taken, ends_with_args, mark_in, mark_place, place_in, takes_args}
@@ -363,7 +363,7 @@ module _ (me : Private) (w : Stands me) where
   plan_standing : (s : SeenLent) → PlanStands (plan me s)
   unfolding Well
   plan_standing s =
-      each_course is_refused (stops me s) (does me s) me s PlanStands (ends_standing s (unsteered me outcome.Ready) (goes me.part me.stack me.place w.place me outcome.Ready good tt))
+      each_dispatch is_refused (stops me s) (does me s) me s PlanStands (ends_standing s (unsteered me outcome.Ready) (goes me.part me.stack me.place w.place me outcome.Ready good tt))
       (ends_standing s (unsteered me (outcome.Failed S26_PROGRAM_ONLY)) (fails S26_PROGRAM_ONLY))
       (λ q is u. unless_standing (asked_access u.row u.tree me.declared (homes_entered me.stack)) u q s is)
 

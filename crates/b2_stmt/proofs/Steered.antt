@@ -1,4 +1,4 @@
--- What RETURN and FOR change in passing, and where they lead.
+-- What RETURN and FOR change done fast, and where they lead.
 use Rattle.std.proofs.Common.{◌≡◌, ◌∙◌, ℕ, ◌+◌, ◌<◌, ◌≤◌, nat_lt, Bool, true, false, if◌then◌else◌, List, [], ◌∷◌, length, refl, sym, ap, subst, Option, Some, None, Result, Ok, unwrap_or, arith}
 use Rattle.std.proofs.lemmas.Bool.Decides.{nat_tests}
 use Rattle.std.specs.List.{slice_get}
@@ -11,11 +11,11 @@ use Rattle.b2_flow.specs.declared.frame.Place.{Place}
 use Rattle.b2_flow.specs.declared.frame.Var2.{Var2}
 use Rattle.b2_receiver.specs.Assigning.{assigned_number}
 use Rattle.b2_access.specs.Found.{here_found}
-use Rattle.b2_access.specs.Lead.{is_done, lead_seen}
-use Rattle.b2_access.specs.Passing.{lead_of, place_following, place_led}
+use Rattle.b2_access.specs.JumpTargets.{is_done, lead_seen}
+use Rattle.b2_access.specs.Fast.{lead_of, place_following, place_led}
 use Rattle.b2_access.specs.Planning.{Ended}
 use Rattle.b2_access.specs.Steering.{Steered, control_of, steered, unsteered}
-use Rattle.b2_access.specs.declared.passing.Lead.{Lead}
+use Rattle.b2_access.specs.declared.fast.Lead.{Lead}
 use Rattle.b2_access.specs.declared.placed.Found.{Found}
 use Rattle.b2_access.specs.declared.planned.Outcome.{Outcome}
 use Rattle.b2_access.specs.declared.planned.Outcome.TheVariants as outcome
@@ -23,7 +23,7 @@ use Rattle.b2_access.specs.declared.private.Private.{Private}
 use Rattle.b2_stmt.specs.Asked.{asks_loop, body_place, carried}
 use Rattle.b2_stmt.specs.Calls.{goes_back}
 use Rattle.b2_stmt.specs.Loops.{loop_begins, loop_element, made_loop, without_loop}
-use Rattle.b2_stmt.specs.Passing.{BeginsOrNot, LeadsBack, LeadsBy, Steers}
+use Rattle.b2_stmt.specs.Fast.{BeginsOrNot, LeadsBack, LeadsBy, Steers}
 use Rattle.b2_stmt.specs.declared.loops.Loop.{Loop}
 use Rattle.b2_access.proofs.Led.{following_led}
 use Rattle.b2_stmt.proofs.Tops.{goes_back_to}
@@ -37,9 +37,9 @@ pub steers_by : (f : Found) (me after : Private) (l : ℕ × ℕ) (d e : Steered
 steers_by f me after l d e is same h = subst (λ (x : Steered). Steers (Some l) f me after x) (sym is) (same, h)
 
 -- RETURN
-pub back_passes : (f : Found) (me after : Private) (to : Lead) → LeadsBack (lead_seen to) f.place.home (slice_get me.stack 0) → is_done to ≡ true
+pub back_fast : (f : Found) (me after : Private) (to : Lead) → LeadsBack (lead_seen to) f.place.home (slice_get me.stack 0) → is_done to ≡ true
     → after ≡ record me { stack = without_top_call me.stack } → Steers (lead_seen to) f me after (goes_back me)
-back_passes f me after to leads there same =
+back_fast f me after to leads there same =
     let seen = seen_done to there in
     let q = place_led f.place.home (to.line, to.unit) in
     let top : slice_get me.stack 0 ≡ Some (Call (Some q) None) = subst (λ (l : Option (ℕ × ℕ)). LeadsBack l f.place.home (slice_get me.stack 0)) seen leads in
@@ -85,10 +85,10 @@ begun l body me after none room same =
     ∙ ap (λ (b : Bool). steered me (if b then record { work = record (control_of made) { stack = For l.var l.limit l.step body ∷ without_loop l.var me.stack }; outcome = outcome.Next } else unsteered made (outcome.Failed A04_TOO_DEEP))) (room_there (length (without_loop l.var me.stack)) room)
     ∙ ap (λ (m : Private). ended_next m) (sym same)
 
-pub begin_passes : (f : Found) (me after : Private) (on : Lead) (l : Loop) (written : Result Loop ℕ) → written ≡ Ok l → lead_seen on ≡ lead_of (place_following f) → is_done on ≡ true
+pub begin_fast : (f : Found) (me after : Private) (on : Lead) (l : Loop) (written : Result Loop ℕ) → written ≡ Ok l → lead_seen on ≡ lead_of (place_following f) → is_done on ≡ true
     → BeginsOrNot l (place_led f.place.home (on.line, on.unit)) me after true
     → Steers (lead_seen on) f me after (carried (asks_loop written (body_place (here_found f) f.home.now.lines)) f.place me f.own.now.lines f.home.now.lines)
-begin_passes f me after on l written is follows there h =
+begin_fast f me after on l written is follows there h =
     let seen = seen_done on there in
     let q = place_led f.place.home (on.line, on.unit) in
     let next : place_following f ≡ Some q = following_led f (on.line, on.unit) (sym follows ∙ seen) in

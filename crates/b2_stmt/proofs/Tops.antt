@@ -11,15 +11,15 @@ use Rattle.b2_flow.specs.declared.frame.Place.{Place}
 use Rattle.b2_flow.specs.declared.frame.Var2.{Var2}
 use Rattle.b2_flow.specs.Frames.{is_loop_of, is_same_variable}
 use Rattle.b2_flow.proofs.Loops.{has_loop-top}
-use Rattle.b2_access.specs.Going.{to_place}
-use Rattle.b2_access.specs.Passing.{place_led}
+use Rattle.b2_access.specs.Jumps.{to_place}
+use Rattle.b2_access.specs.Fast.{place_led}
 use Rattle.b2_access.specs.Steering.{Steered, control_of, unsteered}
 use Rattle.b2_access.specs.declared.placed.Found.{Found}
 use Rattle.b2_access.specs.declared.planned.Outcome.TheVariants as outcome
 use Rattle.b2_access.specs.declared.private.Private.{Private}
 use Rattle.b2_stmt.specs.Calls.{back_from, goes_back}
 use Rattle.b2_stmt.specs.Loops.{goes_round, nexts}
-use Rattle.b2_stmt.specs.Passing.{LeadsBack, Steers}
+use Rattle.b2_stmt.specs.Fast.{LeadsBack, Steers}
 
 -- where a call stands on top, RETURN leads to where it leads back
 back_place : Option Frame → Option Place
@@ -82,8 +82,8 @@ round_by me v true s p is stack there =
     ap (λ (t : List Frame). goes_round (top_loop t) v (record me { stack = t })) stack
     ∙ ap (λ (o : Option (Number × Number × Place)). goes_round o v me) there
 
-pub round_passes : (f : Found) (me after : Private) (l : Option (ℕ × ℕ)) (v w : Var2) (limit step : Number) (body : Place) → slice_get me.stack 0 ≡ Some (For w limit step body) → is_same_variable w v ≡ true
+pub round_fast : (f : Found) (me after : Private) (l : Option (ℕ × ℕ)) (v w : Var2) (limit step : Number) (body : Place) → slice_get me.stack 0 ≡ Some (For w limit step body) → is_same_variable w v ≡ true
     → Steers l f me after (goes_round (Some (limit, step, body)) v me) → Steers l f me after (nexts v me)
-round_passes f me after l v w limit step body top same h =
+round_fast f me after l v w limit step body top same h =
     let on_top = on_top_by me.stack v (ap (λ (o : Option Frame). option_map_or (is_loop_of v) o false) top ∙ same) in
     subst (λ (e : Steered). Steers l f me after e) (sym (round_by me v (has_loop v me.stack) (from_loop v me.stack) (limit, step, body) on_top.0 on_top.1 (parts_by me.stack w limit step body top))) h

@@ -11,7 +11,7 @@ use Rattle.b2_atom.specs.Words.{Text}
 use Rattle.b2_atom.specs.Tree.{Trees, also}
 use Rattle.b2_atom.specs.Tree.Trees.{Done, Put, In}
 use Rattle.b2_atom.specs.declared.rows.TheConstants as row
-use Rattle.b2_rows.specs.Rows.{after_part, list_at, tree_at}
+use Rattle.b2_rows.specs.Rows.{after_phrase, list_at, tree_at}
 use Rattle.b2_expr.specs.Answers.{◌>>=◌}
 use Rattle.b2_expr.specs.Scope.{Context}
 use Rattle.b2_expr.specs.Value.{text, value}
@@ -44,7 +44,7 @@ abbrev pub other_operands : Text → List Trees
 other_operands t = further_listed (also (list_at commas row.COMMA_OPERAND t) Done)
 
 abbrev pub arguments_at : Text → List Trees
-arguments_at t = tree_at row.OPERAND_OF_ANY_KIND t ∷ other_operands (after_part row.OPERAND_OF_ANY_KIND t)
+arguments_at t = tree_at row.OPERAND_OF_ANY_KIND t ∷ other_operands (after_phrase row.OPERAND_OF_ANY_KIND t)
 
 -- what stands after the number of a GOSUB'
 abbrev pub past_number : Text → Text

@@ -11,18 +11,18 @@ use Rattle.b2_flow.specs.declared.frame.Place.{Place}
 use Rattle.b2_text.specs.Program.{Lines, line_at}
 use Rattle.b2_expr.specs.Scope.{Context}
 use Rattle.b2_vars.specs.Names.{is_legal_name}
-use Rattle.b2_access.specs.Courses.{Here}
+use Rattle.b2_access.specs.Dispatch.{Here}
 use Rattle.b2_access.specs.Places.{goal_place, line_start}
 use Rattle.b2_access.specs.Rows.{at_row, has_row}
 use Rattle.b2_access.specs.declared.planned.Outcome.{Outcome}
 use Rattle.b2_access.specs.declared.planned.Outcome.TheVariants as outcome
 use Rattle.b2_access.specs.declared.private.Private.{Private}
-use Rattle.b2_stmt.specs.Branches.{goto_goal, if_goal, passed_function}
+use Rattle.b2_stmt.specs.Branches.{goto_goal, if_goal, skipped_function}
 use Rattle.b2_stmt.specs.Breaks.{breaks, turns_to_pass}
 use Rattle.b2_stmt.specs.Calls.{called_where, forgets, goes_back, has_all, line_called}
 use Rattle.b2_stmt.specs.Choices.{calls_a_line, choice_in}
-use Rattle.b2_stmt.specs.Course.{continues, line_to_run, runs, selects, stop_text, stops_program, text_of_stop}
-use Rattle.b2_access.specs.Going.{to_found, to_goal, to_line}
+use Rattle.b2_stmt.specs.RunControl.{continues, line_to_run, runs, selects, stop_text, stops_program, text_of_stop}
+use Rattle.b2_access.specs.Jumps.{to_found, to_goal, to_line}
 use Rattle.b2_stmt.specs.Loops.{loop_begins, counter_in, loop_in, nexts, scalar_of}
 use Rattle.b2_stmt.specs.Arguments.{arguments, operands_of}
 use Rattle.b2_stmt.specs.Marked.{calls_mark, mark_place, number_called}
@@ -81,7 +81,7 @@ still_rows =
     ∷ (row.REMARK, λ t h s lines. outcome.Next)
     ∷ (row.IMAGE_LINE, λ t h s lines. outcome.Next)
     ∷ (row.DATA, λ t h s lines. outcome.Next)
-    ∷ (row.DEFFN, λ t h s lines. passed_function t)
+    ∷ (row.DEFFN, λ t h s lines. skipped_function t)
     ∷ (row.SELECT_PART, λ t h s lines. outcome.Failed D87_FILE_NAME)
     ∷ []
 

@@ -25,6 +25,6 @@ if_goal s k us (Put word (In n c (Put then_ (In m named end)))) = truth s c >>= 
 if_goal s k us t = Err S14_STATEMENT
 
 -- DEFFN that is reached in order does nothing; D87 where the name that DEFFN @PART is to declare isn't one
-abbrev pub passed_function : Trees → Outcome
-passed_function (Put word (In n body end)) = if n == 1 then outcome.Failed D87_FILE_NAME else outcome.Next
-passed_function t = outcome.Next
+abbrev pub skipped_function : Trees → Outcome
+skipped_function (Put word (In n body end)) = if n == 1 then outcome.Failed D87_FILE_NAME else outcome.Next
+skipped_function t = outcome.Next

@@ -12,7 +12,7 @@ use Rattle.b2_access.specs.declared.planned.Outcome.TheVariants as outcome
 use Rattle.b2_access.specs.declared.private.Private.{Private}
 use Rattle.b2_stmt.specs.Frames.{with_frame}
 use Rattle.b2_rows.specs.LineNumbers.{line_in}
-use Rattle.b2_access.specs.Going.{to_place}
+use Rattle.b2_access.specs.Jumps.{to_place}
 use Rattle.b2_access.specs.Partition.{without_frames}
 use Rattle.b2_access.specs.Steering.{Steered, control_of, unsteered}
 

@@ -2,7 +2,7 @@ pub mod Branches
 pub mod Frames
 pub mod Loops
 pub mod Calls
-pub mod Course
+pub mod RunControl
 pub mod Choices
 pub mod Breaks
 pub mod Lines
@@ -13,4 +13,4 @@ pub mod Marked
 pub mod Parts
 pub mod Clearing
 pub mod Plan
-pub mod Passing
+pub mod Fast

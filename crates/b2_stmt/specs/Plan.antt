@@ -10,7 +10,7 @@ use Rattle.b2_expr.specs.Scope.{Context}
 use Rattle.b2_expr.specs.Value.{context_of}
 use Rattle.b2_expr.specs.Workspace.{work_in}
 use Rattle.b2_access.specs.Partition.{setting_of}
-use Rattle.b2_access.specs.Courses.{Here, course}
+use Rattle.b2_access.specs.Dispatch.{Here, dispatch}
 use Rattle.b2_access.specs.Placed.{Statement}
 use Rattle.b2_access.specs.Rows.{has_row}
 use Rattle.b2_access.specs.Borrowers.{homes_entered}
@@ -74,11 +74,11 @@ stops me s o = done s (stays me o)
 
 -- what the statement at a partition's place plans
 abbrev pub plan : Private → SeenLent → Planning
-plan me s = course is_refused (stops me s) (does me s) me.place me s
+plan me s = dispatch is_refused (stops me s) (does me s) me.place me s
 
 -- what the statement at its place asks of the private state, as it finishes
 abbrev pub asked_at : Private → SeenLent → Asked
-asked_at me s = course is_refused asked.Nothing (λ u h. asked_by u h me s) me.place me s
+asked_at me s = dispatch is_refused asked.Nothing (λ u h. asked_by u h me s) me.place me s
 
 -- how it finishes, by the access that it asked for and its answer
 abbrev pub ends_at : Option Place → Access → Answer → Private → SeenLent → Steered

@@ -3,28 +3,28 @@ ghost use Rattle.std.specs.Prelude.{◌≡◌, ◌<◌, true, IfOk};
 ghost use Rattle.b2_atom.specs.declared.rows.TheConstants as row;
 ghost use Rattle.b2_rows.specs.Following.{tree_units};
 ghost use Rattle.b2_rows.specs.Laws.{IsRow};
-ghost use Rattle.b2_rows.specs.Rows.{is_part, tree_at};
+ghost use Rattle.b2_rows.specs.Rows.{is_phrase, tree_at};
 ghost use Rattle.b2_expr.specs.Value.{context_of};
 ghost use Rattle.b2_stmt.specs.Arguments.{arguments, operands_of};
 ghost use Rattle.b2_stmt.specs.Marked.{number_called as called_number};
 ghost use Rattle.b2_expr.specs.Workspace.{workspace};
 ghost use Rattle.b2_stmt.specs.Branches.{if_goal as if_goal_of};
 ghost use Rattle.b2_stmt.specs.Breaks.{turns_to_pass as turns_of_break};
-ghost use Rattle.b2_access.specs.Going.{to_found};
+ghost use Rattle.b2_access.specs.Jumps.{to_found};
 ghost use Rattle.b2_stmt.specs.Loops.{loop_in};
-ghost use Rattle.b2_stmt.specs.Course.{stop_text as shown_by_stop, text_of_stop};
+ghost use Rattle.b2_stmt.specs.RunControl.{stop_text as shown_by_stop, text_of_stop};
 ghost use Rattle.b2_stmt.specs.Asked as spec;
 ghost use Rattle.b2_stmt.specs.Asked.{HasLegalNames};
 ghost use Rattle.b2_access.specs.Steering.{steered};
 
 use crate::arguments::arguments_of;
-use crate::branches::{goto_goal, if_goal, passed_function, passed_goal};
+use crate::branches::{goto_goal, if_goal, skipped_function, skipped_goal};
 use crate::breaks::{pass_turns, turns_to_pass};
 use crate::calls::{call_line, forget, go_back, has_all, line_called};
 use crate::choices::{calls_a_line, choice_at};
-use crate::course::{line_to_run, resume, run_program, select, stop, stop_text, text_of_stop};
 use crate::loops::{Loop, begin_loop, counter_at, loop_at, next_round};
 use crate::marked::{call_mark, number_called};
+use crate::run_control::{line_to_run, resume, run_program, select, stop, stop_text, text_of_stop};
 use b2_access::{Outcome, Private, failed, failing, place_after, to_found, to_goal, to_line};
 use b2_atom::{LentAtoms, rows};
 use b2_base::codes::{D87_FILE_NAME, S26_PROGRAM_ONLY, S27_LEFT_OUT};
@@ -83,7 +83,7 @@ fn body_place(home: &Text, line: &LentAtoms<'_>, place: Place) -> Place
 
 /// What FOR asks for.
 fn ask_loop(work: &Workspace<'_>, unit: &[u8], body: Place) -> Asked
-    requires part { is_part row.FOR unit.now ≡ true }
+    requires phrase { is_phrase row.FOR unit.now ≡ true }
     ensures asked { result ≡ spec.asks_loop (loop_in (context_of (workspace work.now)) (tree_at row.FOR unit.now)) body }
     ensures named { HasLegalNames result }
 {
@@ -115,7 +115,7 @@ fn line_chosen(
 
 /// What ON asks for.
 fn ask_choice(work: &Workspace<'_>, line: &LentAtoms<'_>, place: Place, unit: &[u8]) -> Asked
-    requires part { is_part row.ON unit.now ≡ true }
+    requires phrase { is_phrase row.ON unit.now ≡ true }
     requires few { place.unit < 255 }
     ensures asked { result ≡ spec.asks_on (tree_at row.ON unit.now) (record { place = place; units = tree_units line.now }) (context_of (workspace work.now)) work.now.home.now.lines }
     ensures named { HasLegalNames result }
@@ -132,7 +132,7 @@ fn ask_choice(work: &Workspace<'_>, line: &LentAtoms<'_>, place: Place, unit: &[
 
 /// How IF ends.
 fn if_outcome(work: &Workspace<'_>, line: &LentAtoms<'_>, place: Place, unit: &[u8]) -> Outcome
-    requires part { is_part row.IF unit.now ≡ true }
+    requires phrase { is_phrase row.IF unit.now ≡ true }
     requires few { place.unit < 255 }
     ensures { result ≡ to_found work.now.home.now.lines place (if_goal_of (context_of (workspace work.now)) place.unit (tree_units line.now) (tree_at row.IF unit.now)) }
 {
@@ -159,7 +159,7 @@ pub fn still(
     row: u16,
     unit: &[u8],
 ) -> Outcome
-    requires part { is_part row unit.now ≡ true }
+    requires phrase { is_phrase row unit.now ≡ true }
     requires few { place.unit < 255 }
     ensures { result ≡ spec.still row (tree_at row unit.now) (record { place = place; units = tree_units line.now }) (context_of (workspace work.now)) work.now.home.now.lines }
 {
@@ -167,11 +167,11 @@ pub fn still(
     match row {
         rows::IF => if_outcome(work, line, place, unit),
         rows::GOTO => to_goal(work.home, place, goto_goal(unit)),
-        rows::ELSE => to_goal(work.home, place, passed_goal(line, k)),
+        rows::ELSE => to_goal(work.home, place, skipped_goal(line, k)),
         rows::ERROR => to_goal(work.home, place, Goal::NextLine),
         rows::END => Outcome::Ready,
         rows::REMARK | rows::IMAGE_LINE | rows::DATA => Outcome::Next,
-        rows::DEFFN => passed_function(unit),
+        rows::DEFFN => skipped_function(unit),
         rows::SELECT_PART => failed(D87_FILE_NAME),
         _ => failed(S27_LEFT_OUT),
     }
@@ -179,7 +179,7 @@ pub fn still(
 
 /// What STOP asks for.
 fn ask_stop(alloc: Global, unit: &[u8], after: Option<Place>) -> Result<Asked, NoMemory>
-    requires part { is_part row.STOP unit.now ≡ true }
+    requires phrase { is_phrase row.STOP unit.now ≡ true }
     ensures { IfOk result (λ asked. asked ≡ Asked.Stop (shown_by_stop (text_of_stop (tree_at row.STOP unit.now))) after) }
 {
     let shown = stop_text(alloc, text_of_stop(unit))?;
@@ -193,7 +193,7 @@ fn ask_mark(
     unit: &[u8],
     back: Option<Place>,
 ) -> Result<Asked, NoMemory>
-    requires part { is_part row.GOSUB_MARKED unit.now ≡ true }
+    requires phrase { is_phrase row.GOSUB_MARKED unit.now ≡ true }
     ensures asked { IfOk result (λ asked. asked ≡ spec.asks_mark (called_number (tree_at row.GOSUB_MARKED unit.now)) (arguments (context_of (workspace work.now)) (operands_of (tree_at row.GOSUB_MARKED unit.now))) back) }
     ensures named { IfOk result HasLegalNames }
 {
@@ -209,7 +209,7 @@ fn ask_mark(
 
 /// What $BREAK asks for.
 fn ask_pass(work: &Workspace<'_>, unit: &[u8]) -> Asked
-    requires part { is_part row.BREAK unit.now ≡ true }
+    requires phrase { is_phrase row.BREAK unit.now ≡ true }
     ensures asked { result ≡ spec.asks_pass (turns_of_break (context_of (workspace work.now)) (tree_at row.BREAK unit.now)) }
     ensures named { HasLegalNames result }
 {

@@ -6,14 +6,14 @@ ghost use Rattle.b2_access.specs.Lending.{SeenLent};
 ghost use Rattle.b2_stmt.specs.Asked.{HasLegalNames, carried};
 ghost use Rattle.b2_stmt.specs.Borrowing as spec;
 ghost use Rattle.b2_stmt.specs.Calls.{forgets, goes_back, may_forget_all};
-ghost use Rattle.b2_stmt.specs.Course.{runs};
+ghost use Rattle.b2_stmt.specs.RunControl.{runs};
 ghost use Rattle.b2_stmt.specs.Marked.{calls_mark, mark_place};
 ghost use Rattle.b2_stmt.specs.Plan.{by_access};
 
 use crate::asked::{Asked, do_asked};
 use crate::calls::{forget, go_back, may_forget_all};
-use crate::course::run_program;
 use crate::marked::{call_into, code_of_none, mark_place};
+use crate::run_control::run_program;
 use b2_access::{Access, Outcome, Planned, Private, homes_entered};
 use b2_base::NoMemory;
 use b2_dec::ValueList;

@@ -1,7 +1,7 @@
 // $BREAK.
 ghost use Rattle.std.specs.Prelude.{◌≡◌, true};
 ghost use Rattle.b2_atom.specs.declared.rows.TheConstants as row;
-ghost use Rattle.b2_rows.specs.Rows.{is_part, tree_at};
+ghost use Rattle.b2_rows.specs.Rows.{is_phrase, tree_at};
 ghost use Rattle.b2_access.specs.Steering.{steered};
 ghost use Rattle.b2_expr.specs.Scope.{surroundings};
 ghost use Rattle.b2_expr.specs.Value.{in_statement};
@@ -17,7 +17,7 @@ use b2_rows::is_numeric_at;
 /// How many turns are passed: the number that is written, which must be from 0 to 255 without its fraction, or 0.
 #[tactic(auto, using(crate::proofs::BreakRows::break_sum, crate::proofs::BreakRows::break_with, crate::proofs::BreakRows::break_without))]
 pub fn turns_to_pass(e: &Env<'_>, unit: &[u8]) -> Result<u8, Code>
-    requires part { is_part row.BREAK unit.now ≡ true }
+    requires phrase { is_phrase row.BREAK unit.now ≡ true }
     ensures { result ≡ spec.turns_to_pass (in_statement (surroundings e.now)) (tree_at row.BREAK unit.now) }
 {
     let text = rest_after(unit, 1);

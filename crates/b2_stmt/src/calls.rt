@@ -1,7 +1,7 @@
 // GOSUB, RETURN and RETURN CLEAR.
 ghost use Rattle.std.specs.Prelude.{◌≡◌, true};
 ghost use Rattle.b2_atom.specs.declared.rows.TheConstants as row;
-ghost use Rattle.b2_rows.specs.Rows.{is_part, tree_at};
+ghost use Rattle.b2_rows.specs.Rows.{is_phrase, tree_at};
 ghost use Rattle.b2_access.specs.Places.{line_start};
 ghost use Rattle.b2_text.specs.Program.{line_at};
 ghost use Rattle.b2_stmt.specs.Calls as spec;
@@ -19,7 +19,7 @@ use b2_text::Text;
 /// The line that GOSUB calls.
 #[tactic(auto, using(crate::proofs::CallRows::gosub_line, crate::proofs::CallRows::gosub_is))]
 pub fn line_called(unit: &[u8]) -> u16
-    requires part { is_part row.GOSUB unit.now ≡ true }
+    requires phrase { is_phrase row.GOSUB unit.now ≡ true }
     ensures { result ≡ spec.line_called (tree_at row.GOSUB unit.now) }
 {
     line_at(rest_after(unit, 1))
@@ -84,7 +84,7 @@ pub fn may_forget_all(me: &Private, place: Place) -> bool
 }
 
 /// RETURN CLEAR ALL.
-fn forget_all(me: &mut Private, place: Place) -> Outcome
+fn forget_calls(me: &mut Private, place: Place) -> Outcome
     ensures ended { record { me = me.new; outcome = result } ≡ steered me.old (spec.forgets_all place me.old) }
     ensures part { me.new.part ≡ me.old.part }
 {
@@ -98,7 +98,7 @@ fn forget_all(me: &mut Private, place: Place) -> Outcome
 /// Whether RETURN CLEAR has ALL.
 #[tactic(auto, using(crate::proofs::CallRows::all_is))]
 pub fn has_all(unit: &[u8]) -> bool
-    requires part { is_part row.RETURN_CLEAR unit.now ≡ true }
+    requires phrase { is_phrase row.RETURN_CLEAR unit.now ≡ true }
     ensures { result ≡ spec.has_all (tree_at row.RETURN_CLEAR unit.now) }
 {
     is_at(ALL, rest_after(rest_after(unit, 1), 1))
@@ -110,7 +110,7 @@ pub fn forget(me: &mut Private, place: Place, all: bool) -> Outcome
     ensures part { me.new.part ≡ me.old.part }
 {
     if all {
-        forget_all(me, place)
+        forget_calls(me, place)
     } else {
         forget_call(me)
     }

@@ -3,7 +3,7 @@ ghost use Rattle.std.specs.Prelude.{◌≡◌, true, drop, slice_get};
 ghost use Rattle.b2_atom.specs.declared.forms.Leaf.TheVariants as leaf;
 ghost use Rattle.b2_atom.specs.declared.rows.TheConstants as row;
 ghost use Rattle.b2_rows.specs.Leaves.{is_leaf};
-ghost use Rattle.b2_rows.specs.Rows.{is_part, tree_at, is_list};
+ghost use Rattle.b2_rows.specs.Rows.{is_phrase, tree_at, is_list};
 ghost use Rattle.b2_expr.specs.Functions.{fixed};
 ghost use Rattle.b2_expr.specs.Scope.{surroundings};
 ghost use Rattle.b2_expr.specs.Value.{in_statement};
@@ -61,7 +61,7 @@ fn line_after_word(listed: &[u8], x: Dec) -> Option<u16>
 /// Whether ON calls the line that it chooses.
 #[tactic(auto, using(crate::proofs::ChoiceRows::on_sum, crate::proofs::ChoiceRows::on_calls))]
 pub fn calls_a_line(unit: &[u8]) -> bool
-    requires part { is_part row.ON unit.now ≡ true }
+    requires phrase { is_phrase row.ON unit.now ≡ true }
     ensures { result ≡ spec.calls_a_line (tree_at row.ON unit.now) }
 {
     !is_at(GOTO, past_sum(rest_after(unit, 1)))
@@ -70,7 +70,7 @@ pub fn calls_a_line(unit: &[u8]) -> bool
 /// Whether ON goes there or calls, and the line that is chosen; or the code of its number.
 #[tactic(auto, using(crate::proofs::ChoiceRows::on_sum, crate::proofs::ChoiceRows::on_first, crate::proofs::ChoiceRows::on_list, crate::proofs::ChoiceRows::on_is))]
 pub fn choice_at(e: &Env<'_>, unit: &[u8]) -> Result<(bool, Option<u16>), Code>
-    requires part { is_part row.ON unit.now ≡ true }
+    requires phrase { is_phrase row.ON unit.now ≡ true }
     ensures { result ≡ spec.choice_in (in_statement (surroundings e.now)) (tree_at row.ON unit.now) }
 {
     let mut c = Cursor::over(rest_after(unit, 1));

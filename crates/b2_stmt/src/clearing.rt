@@ -1,7 +1,7 @@
 // CLEAR, CLEAR P, DEFFN @PART and SELECT @PART: what they ask of the store, and how they finish.
 ghost use Rattle.std.specs.Prelude.{◌≡◌, true, IfOk};
 ghost use Rattle.b2_atom.specs.declared.rows.TheConstants as row;
-ghost use Rattle.b2_rows.specs.Rows.{is_part, tree_at};
+ghost use Rattle.b2_rows.specs.Rows.{is_phrase, tree_at};
 ghost use Rattle.b2_access.specs.Answering.{can_answer};
 ghost use Rattle.b2_access.specs.Partition.{no_files};
 ghost use Rattle.b2_access.specs.Borrowers.{homes_entered};
@@ -21,7 +21,7 @@ use std::alloc::Global;
 /// What CLEAR P asks for.
 #[tactic(auto, using(crate::proofs::ClearRows::clear_lines, crate::proofs::ClearRows::clear_is))]
 fn asks_to_erase(unit: &[u8], homes: u16) -> Access
-    requires part { is_part row.CLEAR_P unit.now ≡ true }
+    requires phrase { is_phrase row.CLEAR_P unit.now ≡ true }
     ensures { result ≡ spec.asks_to_erase homes (tree_at row.CLEAR_P unit.now) }
 {
     let (from, to) = named_lines(rest_after(rest_after(unit, 1), 1));
@@ -41,7 +41,7 @@ pub fn asks_access(row: u16) -> bool
 
 /// The access that a statement asks for by its row, where it asks for one.
 pub fn asked_access(row: u16, unit: &[u8], me: &Private) -> Option<Access>
-    requires part { is_part row unit.now ≡ true }
+    requires phrase { is_phrase row unit.now ≡ true }
     ensures { result ≡ spec.asked_access row (tree_at row unit.now) me.now.declared (homes_entered me.now.stack) }
 {
     match row {

@@ -2,7 +2,7 @@
 ghost use Rattle.std.specs.Prelude.{◌≡◌, true, IfOk, Some};
 ghost use Rattle.b2_rows.specs.Following.{tree_units};
 ghost use Rattle.b2_access.specs.Answering.{can_answer};
-ghost use Rattle.b2_access.specs.Courses.{course_at, permitted};
+ghost use Rattle.b2_access.specs.Dispatch.{dispatch_at, permitted};
 ghost use Rattle.b2_access.specs.Found.{IsRead, here_found, seen_found, statement_found};
 ghost use Rattle.b2_access.specs.Lending.{globals_lent, seen_lent};
 ghost use Rattle.b2_access.specs.Placed.{statement_on as named_on};
@@ -27,7 +27,7 @@ use b2_text::Spot;
 use std::alloc::Global;
 
 /// What a statement asks of the private state that was found on a line, nothing where it may not stand there.
-#[tactic(auto, using(b2_access::proofs::Courses::may_not_stand, b2_access::proofs::Courses::may_stand))]
+#[tactic(auto, using(b2_access::proofs::Dispatch::may_not_stand, b2_access::proofs::Dispatch::may_stand))]
 fn asked_unit(
     alloc: Global,
     me: &mut Private,
@@ -56,7 +56,7 @@ fn asked_on(
     line: &LentAtoms<'_>,
     place: Place,
 ) -> Result<Asked, NoMemory>
-    ensures asked { IfOk result (λ asked. asked ≡ course_at spec.is_refused Asked.Nothing (λ u h. spec.asked_by u h me.old (seen_lent lent.old)) (named_on (Some line.now) place.unit) (record { place = place; units = tree_units line.now })) }
+    ensures asked { IfOk result (λ asked. asked ≡ dispatch_at spec.is_refused Asked.Nothing (λ u h. spec.asked_by u h me.old (seen_lent lent.old)) (named_on (Some line.now) place.unit) (record { place = place; units = tree_units line.now })) }
     ensures named { IfOk result HasLegalNames }
     ensures me { me.new ≡ me.old }
     ensures same { globals_lent lent.new ≡ globals_lent lent.old }

@@ -1,7 +1,7 @@
 // FOR and NEXT.
 ghost use Rattle.std.specs.Prelude.{◌≡◌, true, IfOk, Ok};
 ghost use Rattle.b2_atom.specs.declared.rows.TheConstants as row;
-ghost use Rattle.b2_rows.specs.Rows.{is_part, tree_at};
+ghost use Rattle.b2_rows.specs.Rows.{is_phrase, tree_at};
 ghost use Rattle.b2_vars.specs.Names.{is_legal_name};
 ghost use Rattle.b2_flow.specs.declared.frame.Frame.TheVariants.{For};
 ghost use Rattle.b2_expr.specs.Named.{number_there};
@@ -71,7 +71,7 @@ fn loop_element(v: Var2) -> Element
 /// The step that is written, or 1.
 #[tactic(auto, using(crate::proofs::LoopRows::step_sum, crate::proofs::LoopRows::step_is))]
 fn step_at(e: &Env<'_>, text: &[u8]) -> Result<Dec, Code>
-    requires part { is_part row.STEP text.now ≡ true }
+    requires phrase { is_phrase row.STEP text.now ≡ true }
     ensures { result ≡ spec.step_in (in_statement (surroundings e.now)) 1 (tree_at row.STEP text.now) }
 {
     number(&mut Cursor::over(rest_after(text, 1)), e)
@@ -80,7 +80,7 @@ fn step_at(e: &Env<'_>, text: &[u8]) -> Result<Dec, Code>
 /// What FOR writes: its values from left to right.
 #[tactic(auto, using(crate::proofs::LoopRows::for_name, crate::proofs::LoopRows::for_from, crate::proofs::LoopRows::for_limit, crate::proofs::LoopRows::for_step, crate::proofs::LoopRows::for_is, crate::proofs::LoopRows::for_without, crate::proofs::LoopRows::from_refused, crate::proofs::LoopRows::limit_refused, crate::proofs::LoopRows::legal_counter))]
 pub fn loop_at(e: &Env<'_>, unit: &[u8]) -> Result<Loop, Code>
-    requires part { is_part row.FOR unit.now ≡ true }
+    requires phrase { is_phrase row.FOR unit.now ≡ true }
     ensures written { result ≡ spec.loop_in (in_statement (surroundings e.now)) (tree_at row.FOR unit.now) }
     ensures named { IfOk result (λ l. is_legal_name (scalar_of l.var) ≡ true) }
 {
@@ -220,7 +220,7 @@ pub fn next_round(me: &mut Private, v: Var2) -> Result<Outcome, NoMemory>
 /// The variable of NEXT.
 #[tactic(auto, using(crate::proofs::LoopRows::next_name, crate::proofs::LoopRows::next_is, crate::proofs::LoopRows::legal_counter))]
 pub fn counter_at(unit: &[u8]) -> Var2
-    requires part { is_part row.NEXT unit.now ≡ true }
+    requires phrase { is_phrase row.NEXT unit.now ≡ true }
     ensures variable { result ≡ spec.counter_in (tree_at row.NEXT unit.now) }
     ensures named { is_legal_name (scalar_of result) ≡ true }
 {

@@ -1,7 +1,7 @@
 // GOSUB', which calls the DEFFN' of a number, and DEFFN', which takes what the call passes.
 ghost use Rattle.std.specs.Prelude.{◌≡◌, true, IfOk, Some, []};
 ghost use Rattle.b2_atom.specs.declared.rows.TheConstants as row;
-ghost use Rattle.b2_rows.specs.Rows.{is_part, tree_at};
+ghost use Rattle.b2_rows.specs.Rows.{is_phrase, tree_at};
 ghost use Rattle.b2_receiver.specs.Receivers.{IsNamed};
 ghost use Rattle.b2_expr.specs.Workspace.{SameReferences, workspace};
 ghost use Rattle.b2_stmt.specs.Marked as spec;
@@ -26,7 +26,7 @@ use b2_text::{Spot, Text};
 /// The number that GOSUB' calls.
 #[tactic(auto, using(crate::proofs::MarkRows::called_number, crate::proofs::MarkRows::called_is))]
 pub fn number_called(unit: &[u8]) -> u8
-    requires part { is_part row.GOSUB_MARKED unit.now ≡ true }
+    requires phrase { is_phrase row.GOSUB_MARKED unit.now ≡ true }
     ensures { result ≡ spec.number_called (tree_at row.GOSUB_MARKED unit.now) }
 {
     small_at(rest_after(unit, 1))
@@ -111,7 +111,7 @@ pub fn call_mark(
 /// Whether there are as many values as receivers at a text, each of its receiver's kind.
 #[tactic(auto, using(b2_receiver::proofs::ReceiverLists::other_part, b2_receiver::proofs::ReceiverLists::other_list, b2_receiver::proofs::ReceiverLists::receiver_shorter, crate::proofs::MarkRows::kind_is))]
 fn values_fit(text: &[u8], args: &[Value]) -> bool
-    requires part { is_part row.RECEIVER text.now ≡ true }
+    requires phrase { is_phrase row.RECEIVER text.now ≡ true }
     requires list { are_others (past_first text.now) ≡ true }
     ensures { result ≡ spec.values_fit (receivers_at text.now) args.now }
 {
@@ -156,7 +156,7 @@ fn take_value(
     value: &Value,
     text: &[u8],
 ) -> Result<Option<Code>, NoMemory>
-    requires part { is_part row.RECEIVER text.now ≡ true }
+    requires phrase { is_phrase row.RECEIVER text.now ≡ true }
     ensures worked { IfOk result (λ code. record { work = workspace work.new; code = code } ≡ spec.takes_value (tree_at row.RECEIVER text.now) value.now (workspace work.old)) }
     ensures same_references { SameReferences work.old work.new }
 {
@@ -173,7 +173,7 @@ fn take_each(
     args: &[Value],
     text: &[u8],
 ) -> Result<Option<Code>, NoMemory>
-    requires part { is_part row.RECEIVER text.now ≡ true }
+    requires phrase { is_phrase row.RECEIVER text.now ≡ true }
     requires list { are_others (past_first text.now) ≡ true }
     ensures worked { IfOk result (λ code. record { work = workspace work.new; code = code } ≡ spec.take_each spec.takes_value (receivers_at text.now) args.now (workspace work.old)) }
     ensures same_references { SameReferences work.old work.new }
@@ -198,8 +198,12 @@ fn take_each(
 }
 
 /// Assigns values to the receivers at a text. P35 comes before any of them takes its value.
-fn take_at(work: &mut Workspace<'_>, args: &[Value], text: &[u8]) -> Result<Option<Code>, NoMemory>
-    requires part { is_part row.RECEIVER text.now ≡ true }
+fn take_arguments_at(
+    work: &mut Workspace<'_>,
+    args: &[Value],
+    text: &[u8],
+) -> Result<Option<Code>, NoMemory>
+    requires phrase { is_phrase row.RECEIVER text.now ≡ true }
     requires list { are_others (past_first text.now) ≡ true }
     ensures worked { IfOk result (λ code. record { work = workspace work.new; code = code } ≡ spec.takes_values (receivers_at text.now) args.now (workspace work.old)) }
     ensures same_references { SameReferences work.old work.new }
@@ -230,14 +234,14 @@ fn take_arguments(
     args: &[Value],
     unit: &[u8],
 ) -> Result<Option<Code>, NoMemory>
-    requires part { is_part row.DEFFN_MARKED unit.now ≡ true }
+    requires phrase { is_phrase row.DEFFN_MARKED unit.now ≡ true }
     ensures worked { IfOk result (λ code. record { work = workspace work.new; code = code } ≡ spec.takes_values (spec.parameters_of (tree_at row.DEFFN_MARKED unit.now)) args.now (workspace work.old)) }
     ensures same_references { SameReferences work.old work.new }
 {
     let number = rest_after(unit, 1);
     let text = rest_after(number, digits_width(number));
     if is_at(b'(', text) {
-        take_at(work, args, rest_after(text, 1))
+        take_arguments_at(work, args, rest_after(text, 1))
     } else {
         Ok(take_none(work, args))
     }
@@ -249,7 +253,7 @@ pub fn take_args(
     lent: &mut Lent<'_>,
     found: &Found<'_>,
 ) -> Result<Outcome, NoMemory>
-    requires part { is_part row.DEFFN_MARKED found.now.unit.now.bytes.now ≡ true }
+    requires phrase { is_phrase row.DEFFN_MARKED found.now.unit.now.bytes.now ≡ true }
     ensures ended { IfOk result (λ o. record { me = me.new; globals = globals_lent lent.new; planned = Planned.Done o } ≡ spec.ends_with_args (takes_args (tree_at row.DEFFN_MARKED found.now.unit.now.bytes.now) me.old (seen_found found.now (globals_lent lent.old))) me.old (seen_found found.now (globals_lent lent.old))) }
     ensures same_texts { (lent.new.own ≡ lent.old.own) × (lent.new.home ≡ lent.old.home) }
     ensures same_reference { lent.new.globals.ghost_name ≡ lent.old.globals.ghost_name }

@@ -1,7 +1,7 @@
 // DEFFN @PART and SELECT @PART: the name that a partition declares, and the one that it selects.
 ghost use Rattle.std.specs.Prelude.{◌≡◌, true};
 ghost use Rattle.b2_atom.specs.declared.rows.TheConstants as row;
-ghost use Rattle.b2_rows.specs.Rows.{is_part, tree_at};
+ghost use Rattle.b2_rows.specs.Rows.{is_phrase, tree_at};
 ghost use Rattle.b2_access.specs.Steering.{steered};
 ghost use Rattle.b2_stmt.specs.Parts as spec;
 
@@ -14,7 +14,7 @@ use b2_rows::{is_at, quoted_at};
 /// The name after @PART at a text, None where the bytes that are written aren't one.
 #[tactic(auto, using(crate::proofs::PartRows::part_literal, crate::proofs::PartRows::part_is))]
 fn part_name(text: &[u8]) -> Option<Name8>
-    requires part { is_part row.GLOBAL_PART text.now ≡ true }
+    requires phrase { is_phrase row.GLOBAL_PART text.now ≡ true }
     ensures { result ≡ spec.part_name (tree_at row.GLOBAL_PART text.now) }
 {
     Name8::of(quoted_at(rest_after(text, 1)))
@@ -23,7 +23,7 @@ fn part_name(text: &[u8]) -> Option<Name8>
 /// The name that DEFFN is to declare, where it is DEFFN @PART and the name is one.
 #[tactic(auto, using(crate::proofs::PartRows::declared_part, crate::proofs::PartRows::declared_is, crate::proofs::PartRows::function_is))]
 pub fn declared_by(unit: &[u8]) -> Option<Name8>
-    requires part { is_part row.DEFFN unit.now ≡ true }
+    requires phrase { is_phrase row.DEFFN unit.now ≡ true }
     ensures { result ≡ spec.declared_by (tree_at row.DEFFN unit.now) }
 {
     let text = rest_after(unit, 1);
@@ -37,7 +37,7 @@ pub fn declared_by(unit: &[u8]) -> Option<Name8>
 /// The name that SELECT @PART is to select, where it is one.
 #[tactic(auto, using(crate::proofs::PartRows::selected_part, crate::proofs::PartRows::selected_is))]
 pub fn selected_by(unit: &[u8]) -> Option<Name8>
-    requires part { is_part row.SELECT_PART unit.now ≡ true }
+    requires phrase { is_phrase row.SELECT_PART unit.now ≡ true }
     ensures { result ≡ spec.selected_by (tree_at row.SELECT_PART unit.now) }
 {
     part_name(rest_after(unit, 1))

@@ -2,7 +2,7 @@
 ghost use Rattle.std.specs.Prelude.{◌≡◌, false, IfOk, None, Some};
 ghost use Rattle.std.specs.Option.{option_map_or};
 ghost use Rattle.b2_rows.specs.Following.{tree_units};
-ghost use Rattle.b2_access.specs.Courses.{course_at, permitted};
+ghost use Rattle.b2_access.specs.Dispatch.{dispatch_at, permitted};
 ghost use Rattle.b2_access.specs.Found.{IsRead, here_found, seen_found, statement_found};
 ghost use Rattle.b2_access.specs.Lending.{globals_lent, seen_lent};
 ghost use Rattle.b2_access.specs.Placed.{statement_on as named_on};
@@ -201,7 +201,7 @@ fn execute_allowed(
 
 /// Executes a statement that its caller has found, where it asks for no access by its row. Where it asks for the text of another, nothing
 /// is done, the access goes to the caller, and the outcome says nothing.
-#[tactic(auto, using(b2_access::proofs::Courses::may_not_stand, crate::proofs::Executed::quiet_there))]
+#[tactic(auto, using(b2_access::proofs::Dispatch::may_not_stand, crate::proofs::Executed::quiet_there))]
 pub fn execute(
     alloc: Global,
     me: &mut Private,
@@ -234,7 +234,7 @@ fn planned_of(outcome: Outcome, access: Option<Access>) -> Planned
 }
 
 /// What a statement plans that was found on a line.
-#[tactic(auto, using(b2_access::proofs::Courses::may_not_stand, crate::proofs::Executed::access_planned, crate::proofs::Executed::none_planned))]
+#[tactic(auto, using(b2_access::proofs::Dispatch::may_not_stand, crate::proofs::Executed::access_planned, crate::proofs::Executed::none_planned))]
 fn plan_unit(
     alloc: Global,
     me: &mut Private,
@@ -289,7 +289,7 @@ fn plan_on(
     line: &LentAtoms<'_>,
     place: Place,
 ) -> Result<Planned, NoMemory>
-    ensures planned { IfOk result (λ p. record { me = me.new; globals = globals_lent lent.new; planned = p } ≡ course_at spec.is_refused (spec.stops me.old (seen_lent lent.old)) (spec.does me.old (seen_lent lent.old)) (named_on (Some line.now) place.unit) (record { place = place; units = tree_units line.now })) }
+    ensures planned { IfOk result (λ p. record { me = me.new; globals = globals_lent lent.new; planned = p } ≡ dispatch_at spec.is_refused (spec.stops me.old (seen_lent lent.old)) (spec.does me.old (seen_lent lent.old)) (named_on (Some line.now) place.unit) (record { place = place; units = tree_units line.now })) }
     ensures same_texts { (lent.new.own ≡ lent.old.own) × (lent.new.home ≡ lent.old.home) }
     ensures same_reference { lent.new.globals.ghost_name ≡ lent.old.globals.ghost_name }
     ensures part { me.new.part ≡ me.old.part }

@@ -4,7 +4,7 @@ use Rattle.std.specs.Str.{bytes_eq}
 use Rattle.std.proofs.Common.{ap, ◌∙◌}
 use Rattle.b2_base.specs.declared.codes.TheConstants.{P48_DEVICE, S27_LEFT_OUT}
 use Rattle.b2_atom.specs.declared.rows.TheConstants as row
-use Rattle.b2_access.specs.Courses.{Here, course}
+use Rattle.b2_access.specs.Dispatch.{Here, dispatch}
 use Rattle.b2_access.specs.Devices.{has_device, is_platter_for, is_printer_for}
 use Rattle.b2_access.specs.OwnDevices.{is_device_for}
 use Rattle.b2_access.specs.Partition.{terminal_address}
@@ -20,7 +20,7 @@ use Rattle.b2_drive.specs.Asking.{asks_or_fails}
 use Rattle.b2_stmt_device.specs.Freeing.{devices_to_free, frees_held, plans_to_free}
 use Rattle.b2_stmt_device.specs.Held.{are_listed, those_listed}
 use Rattle.b2_stmt_device.specs.Laws.{StatementsPlanByListed}
-use Rattle.b2_stmt_device.specs.Plan.{course_of, is_refused, planned_of}
+use Rattle.b2_stmt_device.specs.Plan.{dispatch_of, is_refused, planned_of}
 use Rattle.b2_stmt_device.specs.Selecting.{device_if_shown, device_selected, selected}
 use Rattle.b2_stmt_device.specs.Taking.{asks_to_take, devices_to_take}
 use Rattle.b2_drive.specs.Drives.{address_selected}
@@ -53,10 +53,10 @@ module _ (ds es : List Device) (me : Private) (same : (printer : Bool) (a : List
       ap (λ (b : Bool). if u.row == row.OPEN then asks_or_fails (if b then Ok (access.OpenDevices (devices_to_take u.tree)) else Err P48_DEVICE) else (if u.row == row.CLOSE then plans_to_free ds me (devices_to_free u.tree) else planned.Done (outcome.Failed S27_LEFT_OUT))) (all_same ds es me.part same (devices_to_take u.tree))
       ∙ ap (λ (x : Planned). if u.row == row.OPEN then asks_or_fails (asks_to_take es me.part u.tree) else (if u.row == row.CLOSE then x else planned.Done (outcome.Failed S27_LEFT_OUT))) (freeing_same (devices_to_free u.tree))
 
-  course_same : (u : Statement) → course_of ds u me ≡ course_of es u me
-  course_same u =
+  dispatch_same : (u : Statement) → dispatch_of ds u me ≡ dispatch_of es u me
+  dispatch_same u =
       ap (λ (r : Result (List ℕ) ℕ). if u.row == row.SELECT_PRINT then Ends (selected r me) else Plans (planned_of ds u me)) (shown_same ds es me.part same (address_selected u.tree))
       ∙ ap (λ (x : Planned). if u.row == row.SELECT_PRINT then Ends (selected (device_selected es me.part u.tree) me) else Plans x) (planned_same u)
 
 pub by_table : StatementsPlanByListed
-by_table ds es me s same = ap (λ (does : Statement → Here → Working). as_planned me s (course is_refused stops does me.place me s)) (λ i u h. course_same ds es me same u i)
+by_table ds es me s same = ap (λ (does : Statement → Here → Working). as_planned me s (dispatch is_refused stops does me.place me s)) (λ i u h. dispatch_same ds es me same u i)

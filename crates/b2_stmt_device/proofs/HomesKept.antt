@@ -14,7 +14,7 @@ use Rattle.b2_access.specs.declared.devices.Device.{Device}
 use Rattle.b2_access.specs.declared.planned.Outcome.{Outcome}
 use Rattle.b2_access.specs.declared.private.Private.{Private}
 use Rattle.b2_access.proofs.Choice.{either}
-use Rattle.b2_access.proofs.Courses.{each_course}
+use Rattle.b2_access.proofs.Dispatch.{each_dispatch}
 use Rattle.b2_access.proofs.Homes.{lined}
 use Rattle.b2_drive.proofs.Asked.{marks_no_home}
 use Rattle.b2_stmt_device.specs.Freeing.{goes_freed}
@@ -39,7 +39,7 @@ module _ (among : ℕ → Bool) where
   place_in : (x : Access) (a : Answer) (me : Private) (s : SeenLent) → PlaceIn among me.place → OutcomeIn among (ends x a me s).outcome
   place_in x a me s k =
       let F : Outcome → Type 0 = OutcomeIn among in
-      each_course is_refused repeats (goes x a s) me s F tt tt
+      each_dispatch is_refused repeats (goes x a s) me s F tt tt
       (λ p is u. either F (u.row == row.OPEN) _ _ (taking_in (taking_came x a) (line_if_busy u.tree) s.home.lines p (subst (λ (o : Option Place). PlaceIn among o) is k))
       (either F (u.row == row.CLOSE) _ _ (freeing_in (devices_freed x a)) tt))
 

@@ -15,8 +15,8 @@ use Rattle.b2_atom.specs.declared.forms.Leaf.TheVariants as leaf
 use Rattle.b2_atom.specs.declared.forms.Item.{Item}
 use Rattle.b2_atom.specs.declared.forms.Item.TheVariants.{Sign, Part, Maybe}
 use Rattle.b2_rows.specs.Leaves.{is_leaf, leaf_bytes}
-use Rattle.b2_rows.specs.Rows.{is_part, tree_at, after_part}
-use Rattle.b2_rows.specs.Optional.{maybe_part, maybe_tree}
+use Rattle.b2_rows.specs.Rows.{is_phrase, tree_at, after_phrase}
+use Rattle.b2_rows.specs.Optional.{maybe_phrase, maybe_tree}
 use Rattle.b2_rows.proofs.Optional.{maybe_stands, begun_part, begun_tree, left_out_tree}
 use Rattle.b2_rows.proofs.RowsRead.{stands_of}
 use Rattle.std.proofs.lemmas.List.{append-nil, append_assoc}
@@ -29,7 +29,7 @@ comma_starts t b is = is
 
 -- what may follow by a comma
 abbrev Follows : ℕ → Text → Type 0
-Follows n t = maybe_part (start.Code byte.comma) n t ≡ true
+Follows n t = maybe_phrase (start.Code byte.comma) n t ≡ true
 
 abbrev followed_by : ℕ → Text → Trees
 followed_by n t = maybe_tree (start.Code byte.comma) n t
@@ -54,10 +54,10 @@ abbrev past : Text → Text
 past t = drop 3 (drop 1 t)
 
 module _ (n m : ℕ) (is : row_items n ≡ more_items m) where
-  begun : (t : Text) → Follows n t → (first t == byte.comma) ≡ true → is_part n t ≡ true
+  begun : (t : Text) → Follows n t → (first t == byte.comma) ≡ true → is_phrase n t ≡ true
   begun t ok c = begun_part (start.Code byte.comma) n t ok (comma_starts t true c)
 
-  device_next : (t : Text) → Follows n t → (first t == byte.comma) ≡ true → is_part row.DEVICE (drop 1 t) ≡ true
+  device_next : (t : Text) → Follows n t → (first t == byte.comma) ≡ true → is_phrase row.DEVICE (drop 1 t) ≡ true
   device_next t ok c = (stands_of n (more_items m) t is (begun t ok c)).0.1.0
 
   address_next : (t : Text) → Follows n t → (first t == byte.comma) ≡ true → is_leaf leaf.Address (drop 1 (drop 1 t)) ≡ true
@@ -66,10 +66,10 @@ module _ (n m : ℕ) (is : row_items n ≡ more_items m) where
   rest_next : (t : Text) → Follows n t → (first t == byte.comma) ≡ true → Follows m (past (drop 1 t))
   rest_next t ok c =
       subst (λ (u : Text). Follows m u) (after_device (drop 1 t) (device_next t ok c))
-      (maybe_stands (start.Code byte.comma) m (after_part row.DEVICE (drop 1 t)) (stands_of n (more_items m) t is (begun t ok c)).0.1.1)
+      (maybe_stands (start.Code byte.comma) m (after_phrase row.DEVICE (drop 1 t)) (stands_of n (more_items m) t is (begun t ok c)).0.1.1)
 
   tree_next : (t : Text) → Follows n t → (first t == byte.comma) ≡ true
-      → tree_at n t ≡ Put (Coded byte.comma) (In 2 (tree_at row.DEVICE (drop 1 t)) (followed_by m (after_part row.DEVICE (drop 1 t))))
+      → tree_at n t ≡ Put (Coded byte.comma) (In 2 (tree_at row.DEVICE (drop 1 t)) (followed_by m (after_phrase row.DEVICE (drop 1 t))))
   unfolding maybe_tree
   tree_next t ok c = (stands_of n (more_items m) t is (begun t ok c)).1
 
@@ -77,7 +77,7 @@ module _ (n m : ℕ) (is : row_items n ≡ more_items m) where
   more_next t ok c =
       ap more_devices (begun_tree (start.Code byte.comma) n t (comma_starts t true c))
       ∙ ap (λ (a : Trees). more_devices (In 1 a Done)) (tree_next t ok c)
-      ∙ ap (λ (x : List ℕ). x ∷ more_devices (followed_by m (after_part row.DEVICE (drop 1 t)))) (address_is (drop 1 t) (device_next t ok c))
+      ∙ ap (λ (x : List ℕ). x ∷ more_devices (followed_by m (after_phrase row.DEVICE (drop 1 t)))) (address_is (drop 1 t) (device_next t ok c))
       ∙ ap (λ (u : Text). leaf_bytes leaf.Address (drop 1 (drop 1 t)) ∷ more_devices (followed_by m u)) (after_device (drop 1 t) (device_next t ok c))
 
 second_row : row_items row.COMMA_DEVICE_2 ≡ more_items row.COMMA_DEVICE_3
@@ -88,23 +88,23 @@ third_row : row_items row.COMMA_DEVICE_3 ≡ more_items row.COMMA_DEVICE_4
 unfolding row_items
 third_row = refl
 
-pub second_address : (t : Text) → maybe_part (start.Code byte.comma) row.COMMA_DEVICE_2 t ≡ true → (first t == byte.comma) ≡ true → is_leaf leaf.Address (drop 1 (drop 1 t)) ≡ true
+pub second_address : (t : Text) → maybe_phrase (start.Code byte.comma) row.COMMA_DEVICE_2 t ≡ true → (first t == byte.comma) ≡ true → is_leaf leaf.Address (drop 1 (drop 1 t)) ≡ true
 second_address t ok c = address_next row.COMMA_DEVICE_2 row.COMMA_DEVICE_3 second_row t ok c
 
-pub second_rest : (t : Text) → maybe_part (start.Code byte.comma) row.COMMA_DEVICE_2 t ≡ true → (first t == byte.comma) ≡ true → maybe_part (start.Code byte.comma) row.COMMA_DEVICE_3 (drop 3 (drop 1 (drop 1 t))) ≡ true
+pub second_rest : (t : Text) → maybe_phrase (start.Code byte.comma) row.COMMA_DEVICE_2 t ≡ true → (first t == byte.comma) ≡ true → maybe_phrase (start.Code byte.comma) row.COMMA_DEVICE_3 (drop 3 (drop 1 (drop 1 t))) ≡ true
 second_rest t ok c = rest_next row.COMMA_DEVICE_2 row.COMMA_DEVICE_3 second_row t ok c
 
-pub second_is : (t : Text) → maybe_part (start.Code byte.comma) row.COMMA_DEVICE_2 t ≡ true → (first t == byte.comma) ≡ true
+pub second_is : (t : Text) → maybe_phrase (start.Code byte.comma) row.COMMA_DEVICE_2 t ≡ true → (first t == byte.comma) ≡ true
     → more_devices (maybe_tree (start.Code byte.comma) row.COMMA_DEVICE_2 t) ≡ leaf_bytes leaf.Address (drop 1 (drop 1 t)) ∷ more_devices (maybe_tree (start.Code byte.comma) row.COMMA_DEVICE_3 (drop 3 (drop 1 (drop 1 t))))
 second_is t ok c = more_next row.COMMA_DEVICE_2 row.COMMA_DEVICE_3 second_row t ok c
 
-pub third_address : (t : Text) → maybe_part (start.Code byte.comma) row.COMMA_DEVICE_3 t ≡ true → (first t == byte.comma) ≡ true → is_leaf leaf.Address (drop 1 (drop 1 t)) ≡ true
+pub third_address : (t : Text) → maybe_phrase (start.Code byte.comma) row.COMMA_DEVICE_3 t ≡ true → (first t == byte.comma) ≡ true → is_leaf leaf.Address (drop 1 (drop 1 t)) ≡ true
 third_address t ok c = address_next row.COMMA_DEVICE_3 row.COMMA_DEVICE_4 third_row t ok c
 
-pub third_rest : (t : Text) → maybe_part (start.Code byte.comma) row.COMMA_DEVICE_3 t ≡ true → (first t == byte.comma) ≡ true → maybe_part (start.Code byte.comma) row.COMMA_DEVICE_4 (drop 3 (drop 1 (drop 1 t))) ≡ true
+pub third_rest : (t : Text) → maybe_phrase (start.Code byte.comma) row.COMMA_DEVICE_3 t ≡ true → (first t == byte.comma) ≡ true → maybe_phrase (start.Code byte.comma) row.COMMA_DEVICE_4 (drop 3 (drop 1 (drop 1 t))) ≡ true
 third_rest t ok c = rest_next row.COMMA_DEVICE_3 row.COMMA_DEVICE_4 third_row t ok c
 
-pub third_is : (t : Text) → maybe_part (start.Code byte.comma) row.COMMA_DEVICE_3 t ≡ true → (first t == byte.comma) ≡ true
+pub third_is : (t : Text) → maybe_phrase (start.Code byte.comma) row.COMMA_DEVICE_3 t ≡ true → (first t == byte.comma) ≡ true
     → more_devices (maybe_tree (start.Code byte.comma) row.COMMA_DEVICE_3 t) ≡ leaf_bytes leaf.Address (drop 1 (drop 1 t)) ∷ more_devices (maybe_tree (start.Code byte.comma) row.COMMA_DEVICE_4 (drop 3 (drop 1 (drop 1 t))))
 third_is t ok c = more_next row.COMMA_DEVICE_3 row.COMMA_DEVICE_4 third_row t ok c
 
@@ -116,16 +116,16 @@ fourth_row : row_items row.COMMA_DEVICE_4 ≡ last_items
 unfolding row_items
 fourth_row = refl
 
-fourth_here : (t : Text) → Follows row.COMMA_DEVICE_4 t → (first t == byte.comma) ≡ true → is_part row.COMMA_DEVICE_4 t ≡ true
+fourth_here : (t : Text) → Follows row.COMMA_DEVICE_4 t → (first t == byte.comma) ≡ true → is_phrase row.COMMA_DEVICE_4 t ≡ true
 fourth_here t ok c = begun_part (start.Code byte.comma) row.COMMA_DEVICE_4 t ok (comma_starts t true c)
 
-fourth_device : (t : Text) → Follows row.COMMA_DEVICE_4 t → (first t == byte.comma) ≡ true → is_part row.DEVICE (drop 1 t) ≡ true
+fourth_device : (t : Text) → Follows row.COMMA_DEVICE_4 t → (first t == byte.comma) ≡ true → is_phrase row.DEVICE (drop 1 t) ≡ true
 fourth_device t ok c = (stands_of row.COMMA_DEVICE_4 last_items t fourth_row (fourth_here t ok c)).0.1.0
 
-pub fourth_address : (t : Text) → maybe_part (start.Code byte.comma) row.COMMA_DEVICE_4 t ≡ true → (first t == byte.comma) ≡ true → is_leaf leaf.Address (drop 1 (drop 1 t)) ≡ true
+pub fourth_address : (t : Text) → maybe_phrase (start.Code byte.comma) row.COMMA_DEVICE_4 t ≡ true → (first t == byte.comma) ≡ true → is_leaf leaf.Address (drop 1 (drop 1 t)) ≡ true
 fourth_address t ok c = address_here (drop 1 t) (fourth_device t ok c)
 
-pub fourth_is : (t : Text) → maybe_part (start.Code byte.comma) row.COMMA_DEVICE_4 t ≡ true → (first t == byte.comma) ≡ true
+pub fourth_is : (t : Text) → maybe_phrase (start.Code byte.comma) row.COMMA_DEVICE_4 t ≡ true → (first t == byte.comma) ≡ true
     → more_devices (maybe_tree (start.Code byte.comma) row.COMMA_DEVICE_4 t) ≡ leaf_bytes leaf.Address (drop 1 (drop 1 t)) ∷ []
 fourth_is t ok c =
     ap more_devices (begun_tree (start.Code byte.comma) row.COMMA_DEVICE_4 t (comma_starts t true c))
@@ -140,25 +140,25 @@ list_row : row_items row.DEVICES ≡ list_items
 unfolding row_items
 list_row = refl
 
-first_device : (t : Text) → is_part row.DEVICES t ≡ true → is_part row.DEVICE t ≡ true
+first_device : (t : Text) → is_phrase row.DEVICES t ≡ true → is_phrase row.DEVICE t ≡ true
 first_device t ok = (stands_of row.DEVICES list_items t list_row ok).0.0
 
-pub first_address : (t : Text) → is_part row.DEVICES t ≡ true → is_leaf leaf.Address (drop 1 t) ≡ true
+pub first_address : (t : Text) → is_phrase row.DEVICES t ≡ true → is_leaf leaf.Address (drop 1 t) ≡ true
 first_address t ok = address_here t (first_device t ok)
 
-pub first_rest : (t : Text) → is_part row.DEVICES t ≡ true → maybe_part (start.Code byte.comma) row.COMMA_DEVICE_2 (drop 3 (drop 1 t)) ≡ true
+pub first_rest : (t : Text) → is_phrase row.DEVICES t ≡ true → maybe_phrase (start.Code byte.comma) row.COMMA_DEVICE_2 (drop 3 (drop 1 t)) ≡ true
 first_rest t ok =
     subst (λ (u : Text). Follows row.COMMA_DEVICE_2 u) (after_device t (first_device t ok))
-    (maybe_stands (start.Code byte.comma) row.COMMA_DEVICE_2 (after_part row.DEVICE t) (stands_of row.DEVICES list_items t list_row ok).0.1)
+    (maybe_stands (start.Code byte.comma) row.COMMA_DEVICE_2 (after_phrase row.DEVICE t) (stands_of row.DEVICES list_items t list_row ok).0.1)
 
-list_tree : (t : Text) → is_part row.DEVICES t ≡ true → tree_at row.DEVICES t ≡ In 2 (tree_at row.DEVICE t) (followed_by row.COMMA_DEVICE_2 (after_part row.DEVICE t))
+list_tree : (t : Text) → is_phrase row.DEVICES t ≡ true → tree_at row.DEVICES t ≡ In 2 (tree_at row.DEVICE t) (followed_by row.COMMA_DEVICE_2 (after_phrase row.DEVICE t))
 unfolding maybe_tree
 list_tree t ok = (stands_of row.DEVICES list_items t list_row ok).1
 
-pub first_is : (t : Text) → is_part row.DEVICES t ≡ true → devices_in (tree_at row.DEVICES t) ≡ leaf_bytes leaf.Address (drop 1 t) ∷ more_devices (maybe_tree (start.Code byte.comma) row.COMMA_DEVICE_2 (drop 3 (drop 1 t)))
+pub first_is : (t : Text) → is_phrase row.DEVICES t ≡ true → devices_in (tree_at row.DEVICES t) ≡ leaf_bytes leaf.Address (drop 1 t) ∷ more_devices (maybe_tree (start.Code byte.comma) row.COMMA_DEVICE_2 (drop 3 (drop 1 t)))
 first_is t ok =
     ap devices_in (list_tree t ok)
-    ∙ ap (λ (x : List ℕ). x ∷ more_devices (followed_by row.COMMA_DEVICE_2 (after_part row.DEVICE t))) (address_is t (first_device t ok))
+    ∙ ap (λ (x : List ℕ). x ∷ more_devices (followed_by row.COMMA_DEVICE_2 (after_phrase row.DEVICE t))) (address_is t (first_device t ok))
     ∙ ap (λ (u : Text). leaf_bytes leaf.Address (drop 1 t) ∷ more_devices (followed_by row.COMMA_DEVICE_2 u)) (after_device t (first_device t ok))
 
 -- a list that grew by a device and those after it, or by none

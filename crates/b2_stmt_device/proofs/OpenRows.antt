@@ -15,7 +15,7 @@ use Rattle.b2_atom.specs.declared.forms.Leaf.TheVariants as leaf
 use Rattle.b2_atom.specs.declared.forms.Item.{Item}
 use Rattle.b2_atom.specs.declared.forms.Item.TheVariants.{Word, Sign, Typed, Part, Maybe}
 use Rattle.b2_rows.specs.Leaves.{is_leaf}
-use Rattle.b2_rows.specs.Rows.{is_part, tree_at, after_part, When}
+use Rattle.b2_rows.specs.Rows.{is_phrase, tree_at, after_phrase, When}
 use Rattle.b2_rows.specs.Values.{line_of}
 use Rattle.b2_rows.proofs.RowsRead.{stands_of}
 use Rattle.b2_stmt_device.specs.Lists.{devices_in}
@@ -51,40 +51,40 @@ abbrev Alone : Text → Type 0
 Alone t = starts Atoms start.Line (drop 1 t) ≡ false
 
 -- where a line is named
-line_part : (t : Text) → is_part row.OPEN t ≡ true → Named t → is_part row.LINE_AND_COMMA (drop 1 t) ≡ true
+line_part : (t : Text) → is_phrase row.OPEN t ≡ true → Named t → is_phrase row.LINE_AND_COMMA (drop 1 t) ≡ true
 line_part t ok is = (taken (starts Atoms start.Line (drop 1 t)) _ _ is (stands_of row.OPEN open_items t open_row ok).0.1).0
 
-pub line_here : (t : Text) → is_part row.OPEN t ≡ true → starts Atoms start.Line (drop 1 t) ≡ true → is_leaf leaf.LineNumber (drop 1 t) ≡ true
+pub line_here : (t : Text) → is_phrase row.OPEN t ≡ true → starts Atoms start.Line (drop 1 t) ≡ true → is_leaf leaf.LineNumber (drop 1 t) ≡ true
 line_here t ok is = (stands_of row.LINE_AND_COMMA line_items (drop 1 t) line_row (line_part t ok is)).0.0
 
-past_line : (t : Text) → is_part row.OPEN t ≡ true → Named t → after_part row.LINE_AND_COMMA (drop 1 t) ≡ drop 1 (drop 3 (drop 1 t))
+past_line : (t : Text) → is_phrase row.OPEN t ≡ true → Named t → after_phrase row.LINE_AND_COMMA (drop 1 t) ≡ drop 1 (drop 3 (drop 1 t))
 past_line t ok is = (stands_of row.LINE_AND_COMMA line_items (drop 1 t) line_row (line_part t ok is)).2
 
 abbrev branches : Text → Bool → Trees
-branches t b = if b then In 1 (tree_at row.LINE_AND_COMMA (drop 1 t)) (In 2 (tree_at row.DEVICES (after_part row.LINE_AND_COMMA (drop 1 t))) Done) else In 0 Done (In 2 (tree_at row.DEVICES (drop 1 t)) Done)
+branches t b = if b then In 1 (tree_at row.LINE_AND_COMMA (drop 1 t)) (In 2 (tree_at row.DEVICES (after_phrase row.LINE_AND_COMMA (drop 1 t))) Done) else In 0 Done (In 2 (tree_at row.DEVICES (drop 1 t)) Done)
 
-open_tree : (t : Text) (b : Bool) → is_part row.OPEN t ≡ true → starts Atoms start.Line (drop 1 t) ≡ b → tree_at row.OPEN t ≡ Put (Coded word.DOLLAR_OPEN) (branches t b)
+open_tree : (t : Text) (b : Bool) → is_phrase row.OPEN t ≡ true → starts Atoms start.Line (drop 1 t) ≡ b → tree_at row.OPEN t ≡ Put (Coded word.DOLLAR_OPEN) (branches t b)
 open_tree t b ok is = (stands_of row.OPEN open_items t open_row ok).1 ∙ ap (λ (x : Bool). Put (Coded word.DOLLAR_OPEN) (branches t x)) is
 
-pub line_is : (t : Text) → is_part row.OPEN t ≡ true → starts Atoms start.Line (drop 1 t) ≡ true → line_if_busy (tree_at row.OPEN t) ≡ Some (line_of (get_or (drop 1 t) 1 0) (get_or (drop 1 t) 2 0))
+pub line_is : (t : Text) → is_phrase row.OPEN t ≡ true → starts Atoms start.Line (drop 1 t) ≡ true → line_if_busy (tree_at row.OPEN t) ≡ Some (line_of (get_or (drop 1 t) 1 0) (get_or (drop 1 t) 2 0))
 line_is t ok is =
     ap line_if_busy (open_tree t true ok is)
-    ∙ ap (λ (a : Trees). line_if_busy (Put (Coded word.DOLLAR_OPEN) (In 1 a (In 2 (tree_at row.DEVICES (after_part row.LINE_AND_COMMA (drop 1 t))) Done)))) (stands_of row.LINE_AND_COMMA line_items (drop 1 t) line_row (line_part t ok is)).1
+    ∙ ap (λ (a : Trees). line_if_busy (Put (Coded word.DOLLAR_OPEN) (In 1 a (In 2 (tree_at row.DEVICES (after_phrase row.LINE_AND_COMMA (drop 1 t))) Done)))) (stands_of row.LINE_AND_COMMA line_items (drop 1 t) line_row (line_part t ok is)).1
 
-pub no_line : (t : Text) → is_part row.OPEN t ≡ true → starts Atoms start.Line (drop 1 t) ≡ false → line_if_busy (tree_at row.OPEN t) ≡ None
+pub no_line : (t : Text) → is_phrase row.OPEN t ≡ true → starts Atoms start.Line (drop 1 t) ≡ false → line_if_busy (tree_at row.OPEN t) ≡ None
 no_line t ok is = ap line_if_busy (open_tree t false ok is)
 
-pub devices_after : (t : Text) → is_part row.OPEN t ≡ true → starts Atoms start.Line (drop 1 t) ≡ true → is_part row.DEVICES (drop 1 (drop 3 (drop 1 t))) ≡ true
+pub devices_after : (t : Text) → is_phrase row.OPEN t ≡ true → starts Atoms start.Line (drop 1 t) ≡ true → is_phrase row.DEVICES (drop 1 (drop 3 (drop 1 t))) ≡ true
 devices_after t ok is =
-    subst (λ (u : Text). is_part row.DEVICES u ≡ true) (past_line t ok is)
+    subst (λ (u : Text). is_phrase row.DEVICES u ≡ true) (past_line t ok is)
     (taken (starts Atoms start.Line (drop 1 t)) _ _ is (stands_of row.OPEN open_items t open_row ok).0.1).1.0
 
-pub after_is : (t : Text) → is_part row.OPEN t ≡ true → starts Atoms start.Line (drop 1 t) ≡ true → devices_to_take (tree_at row.OPEN t) ≡ devices_in (tree_at row.DEVICES (drop 1 (drop 3 (drop 1 t))))
+pub after_is : (t : Text) → is_phrase row.OPEN t ≡ true → starts Atoms start.Line (drop 1 t) ≡ true → devices_to_take (tree_at row.OPEN t) ≡ devices_in (tree_at row.DEVICES (drop 1 (drop 3 (drop 1 t))))
 after_is t ok is = ap devices_to_take (open_tree t true ok is) ∙ ap (λ (u : Text). devices_in (tree_at row.DEVICES u)) (past_line t ok is)
 
 -- and where none is
-pub devices_alone : (t : Text) → is_part row.OPEN t ≡ true → starts Atoms start.Line (drop 1 t) ≡ false → is_part row.DEVICES (drop 1 t) ≡ true
+pub devices_alone : (t : Text) → is_phrase row.OPEN t ≡ true → starts Atoms start.Line (drop 1 t) ≡ false → is_phrase row.DEVICES (drop 1 t) ≡ true
 devices_alone t ok is = (other (starts Atoms start.Line (drop 1 t)) _ _ is (stands_of row.OPEN open_items t open_row ok).0.1).0
 
-pub alone_is : (t : Text) → is_part row.OPEN t ≡ true → starts Atoms start.Line (drop 1 t) ≡ false → devices_to_take (tree_at row.OPEN t) ≡ devices_in (tree_at row.DEVICES (drop 1 t))
+pub alone_is : (t : Text) → is_phrase row.OPEN t ≡ true → starts Atoms start.Line (drop 1 t) ≡ false → devices_to_take (tree_at row.OPEN t) ≡ devices_in (tree_at row.DEVICES (drop 1 t))
 alone_is t ok is = ap devices_to_take (open_tree t false ok is)

@@ -16,12 +16,12 @@ use Rattle.b2_access.specs.declared.planned.Planned.{Planned}
 use Rattle.b2_access.specs.declared.planned.Planned.TheVariants as planned
 use Rattle.b2_access.specs.declared.private.Private.{Private}
 use Rattle.b2_access.proofs.Choice.{either}
-use Rattle.b2_access.proofs.Courses.{each_course}
+use Rattle.b2_access.proofs.Dispatch.{each_dispatch}
 use Rattle.b2_drive.specs.Asking.{asks_or_fails}
 use Rattle.b2_drive.proofs.Asked.{Fits}
 use Rattle.b2_stmt_device.specs.Freeing.{asks_to_free, devices_to_free, frees_held, plans_to_free}
 use Rattle.b2_stmt_device.specs.Held.{are_listed, those_listed}
-use Rattle.b2_stmt_device.specs.Plan.{course_of, does, is_refused, planned_of, works}
+use Rattle.b2_stmt_device.specs.Plan.{dispatch_of, does, is_refused, planned_of, works}
 use Rattle.b2_stmt_device.specs.Selecting.{device_selected, selected}
 use Rattle.b2_stmt_device.specs.Taking.{asks_to_take, devices_to_take}
 
@@ -84,7 +84,7 @@ module _ (devices : List Device) (me : Private) (F : Planned → Type 0) (next :
   Each : Working → Type 0
   Each k = F (planned_by k)
 
-  each_statement : (u : Statement) → Each (course_of devices u me)
+  each_statement : (u : Statement) → Each (dispatch_of devices u me)
   unfolding Each
   each_statement u = either Each (u.row == row.SELECT_PRINT) _ _ (each_selected (device_selected devices me.part u.tree)) (each_asked u)
 
@@ -93,4 +93,4 @@ pub each_planned : (devices : List Device) (me : Private) (s : SeenLent) (F : Pl
     → ((a : Access) → Fits devices me.part a → F (planned.Ask a)) → F (planned_by (works devices me s))
 unfolding Each
 each_planned devices me s F next ready failed asks =
-    each_course is_refused stops (does devices me s) me s (λ (k : Working). F (planned_by k)) ready (failed S26_PROGRAM_ONLY) (λ p is u. each_statement devices me F next failed asks u)
+    each_dispatch is_refused stops (does devices me s) me s (λ (k : Working). F (planned_by k)) ready (failed S26_PROGRAM_ONLY) (λ p is u. each_statement devices me F next failed asks u)

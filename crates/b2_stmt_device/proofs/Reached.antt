@@ -9,7 +9,7 @@ use Rattle.b2_access.specs.Working.{Ends, PlansEachReach, Working, as_planned, e
 use Rattle.b2_access.specs.declared.devices.Device.{Device}
 use Rattle.b2_access.specs.declared.private.Private.{Private}
 use Rattle.b2_access.proofs.Choice.{either}
-use Rattle.b2_access.proofs.Courses.{each_course}
+use Rattle.b2_access.proofs.Dispatch.{each_dispatch}
 use Rattle.b2_stmt_device.specs.Plan.{does, is_refused, works}
 use Rattle.b2_stmt_device.specs.Selecting.{device_selected, selected}
 
@@ -25,5 +25,5 @@ selected_stays (Err code) me g = stay g
 pub plans_reach : (devices : List Device) → PlansEachReach (works devices)
 plans_reach devices me s =
     let F : Working → Type 0 = λ k. MayBecome s.globals (globals_after (told_of_globals k) s.globals) in
-    each_course is_refused stops (does devices me s) me s F (stay s.globals) (stay s.globals) (λ p is u.
+    each_dispatch is_refused stops (does devices me s) me s F (stay s.globals) (stay s.globals) (λ p is u.
     either F (u.row == row.SELECT_PRINT) _ _ (selected_stays (device_selected devices me.part u.tree) me s.globals) (stay s.globals))

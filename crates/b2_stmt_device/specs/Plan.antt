@@ -2,7 +2,7 @@
 use Rattle.std.specs.Prelude.{ℕ, ◌==◌, ◌||◌, Bool, false, List, if◌then◌else◌}
 use Rattle.b2_base.specs.declared.codes.TheConstants.{S27_LEFT_OUT}
 use Rattle.b2_atom.specs.declared.rows.TheConstants as row
-use Rattle.b2_access.specs.Courses.{Here, course}
+use Rattle.b2_access.specs.Dispatch.{Here, dispatch}
 use Rattle.b2_access.specs.Lending.{SeenLent}
 use Rattle.b2_access.specs.Placed.{Statement}
 use Rattle.b2_access.specs.Planning.{Finishing, Planning}
@@ -33,17 +33,17 @@ planned_of devices u me =
     else (if u.row == row.CLOSE then plans_to_free devices me (devices_to_free u.tree)
     else planned.Done (outcome.Failed S27_LEFT_OUT))
 
-abbrev pub course_of : List Device → Statement → Private → Working
-course_of devices u me =
+abbrev pub dispatch_of : List Device → Statement → Private → Working
+dispatch_of devices u me =
     if u.row == row.SELECT_PRINT then Ends (selected (device_selected devices me.part u.tree) me)
     else Plans (planned_of devices u me)
 
 abbrev pub does : List Device → Private → SeenLent → Statement → Here → Working
-does devices me s u h = course_of devices u me
+does devices me s u h = dispatch_of devices u me
 
 -- what the statement at a partition's place plans, over the devices that there are
 abbrev pub works : List Device → Private → SeenLent → Working
-works devices me s = course is_refused stops (does devices me s) me.place me s
+works devices me s = dispatch is_refused stops (does devices me s) me.place me s
 
 abbrev pub plan : List Device → Private → SeenLent → Planning
 plan devices me s = plans_by (works devices) me s
@@ -61,7 +61,7 @@ repeats o = outcome.Repeat
 -- how the statement at a partition's place finishes: what is held then is by the access and its answer alone, and where the step goes on
 -- by the statement too
 abbrev pub ends : Access → Answer → Private → SeenLent → WorkedIn (Wider HeldDevices)
-ends x a me s = record { work = record { work = work_of me; more = held_after x a me.held }; outcome = course is_refused repeats (goes x a s) me.place me s }
+ends x a me s = record { work = record { work = work_of me; more = held_after x a me.held }; outcome = dispatch is_refused repeats (goes x a s) me.place me s }
 
 abbrev pub finish : Access → Answer → Private → SeenLent → Finishing
 finish x a me s = finishes_in on_devices ends x a me s

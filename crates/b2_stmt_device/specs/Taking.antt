@@ -6,7 +6,7 @@ use Rattle.b2_atom.specs.Tree.Trees.{Put, In}
 use Rattle.b2_flow.specs.declared.frame.Place.{Place}
 use Rattle.b2_rows.specs.LineNumbers.{line_in}
 use Rattle.b2_text.specs.Program.{Lines}
-use Rattle.b2_access.specs.Going.{to_line}
+use Rattle.b2_access.specs.Jumps.{to_line}
 use Rattle.b2_access.specs.Views.{TakingCame, DevicesTaken, DeviceBusy, TakingLater}
 use Rattle.b2_access.specs.declared.accesses.Access.{Access}
 use Rattle.b2_access.specs.declared.accesses.Access.TheVariants as access

@@ -3,7 +3,7 @@ ghost use Rattle.std.specs.Prelude.{◌≡◌, true};
 ghost use Rattle.b2_access.specs.Answering.{can_answer};
 ghost use Rattle.b2_access.specs.Views.{devices_freed};
 ghost use Rattle.b2_atom.specs.declared.rows.TheConstants as row;
-ghost use Rattle.b2_rows.specs.Rows.{is_part, tree_at};
+ghost use Rattle.b2_rows.specs.Rows.{is_phrase, tree_at};
 ghost use Rattle.b2_stmt_device.specs.Freeing as spec;
 
 use crate::held::{are_listed, those_listed};
@@ -18,7 +18,7 @@ use b2_rows::is_at;
 /// The devices that are named, None where none is.
 #[tactic(auto, using(crate::proofs::CloseRows::devices_here, crate::proofs::CloseRows::named_is, crate::proofs::CloseRows::none_named))]
 fn devices_to_free(unit: &[u8]) -> Option<AddrList>
-    requires part { is_part row.CLOSE unit.now ≡ true }
+    requires phrase { is_phrase row.CLOSE unit.now ≡ true }
     ensures { result ≡ spec.devices_to_free (tree_at row.CLOSE unit.now) }
 {
     let text = rest_after(unit, 1);
@@ -52,7 +52,7 @@ fn free_held(held: AddrList) -> Planned
 
 /// What the statement plans.
 pub(crate) fn plan_to_free(devices: &DeviceTable, me: &Private, unit: &[u8]) -> Planned
-    requires part { is_part row.CLOSE unit.now ≡ true }
+    requires phrase { is_phrase row.CLOSE unit.now ≡ true }
     ensures { result ≡ spec.plans_to_free devices.now me.now (spec.devices_to_free (tree_at row.CLOSE unit.now)) }
 {
     match devices_to_free(unit) {

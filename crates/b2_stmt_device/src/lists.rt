@@ -3,8 +3,8 @@ ghost use Rattle.std.specs.Prelude.{◌≡◌, ◌≤◌, ◌++◌, true, drop, 
 ghost use Rattle.b2_base.specs.Byte as byte;
 ghost use Rattle.b2_atom.specs.declared.forms.Start.TheVariants as start;
 ghost use Rattle.b2_atom.specs.declared.rows.TheConstants as row;
-ghost use Rattle.b2_rows.specs.Optional.{maybe_part, maybe_tree};
-ghost use Rattle.b2_rows.specs.Rows.{is_part, tree_at};
+ghost use Rattle.b2_rows.specs.Optional.{maybe_phrase, maybe_tree};
+ghost use Rattle.b2_rows.specs.Rows.{is_phrase, tree_at};
 ghost use Rattle.b2_stmt_device.specs.Lists as spec;
 
 use b2_base::AddrList;
@@ -21,7 +21,7 @@ fn past_device(text: &[u8]) -> &[u8]
 /// Adds the fourth device, where one is written.
 #[tactic(auto, using(crate::proofs::ListRows::fourth_address, crate::proofs::ListRows::fourth_is))]
 fn add_fourth(list: &mut AddrList, text: &[u8])
-    requires part { maybe_part (start.Code byte.comma) row.COMMA_DEVICE_4 text.now ≡ true }
+    requires phrase { maybe_phrase (start.Code byte.comma) row.COMMA_DEVICE_4 text.now ≡ true }
     requires room { length list.old ≤ 11 }
     ensures { list.new ≡ list.old ++ spec.more_devices (maybe_tree (start.Code byte.comma) row.COMMA_DEVICE_4 text.now) }
 {
@@ -33,7 +33,7 @@ fn add_fourth(list: &mut AddrList, text: &[u8])
 /// Adds the third device, where one is written, and the one after it.
 #[tactic(auto, using(crate::proofs::ListRows::third_address))]
 fn add_third(list: &mut AddrList, text: &[u8])
-    requires part { maybe_part (start.Code byte.comma) row.COMMA_DEVICE_3 text.now ≡ true }
+    requires phrase { maybe_phrase (start.Code byte.comma) row.COMMA_DEVICE_3 text.now ≡ true }
     requires room { length list.old ≤ 10 }
     ensures { list.new ≡ list.old ++ spec.more_devices (maybe_tree (start.Code byte.comma) row.COMMA_DEVICE_3 text.now) }
 {
@@ -47,7 +47,7 @@ fn add_third(list: &mut AddrList, text: &[u8])
 /// Adds the second device, where one is written, and those after it.
 #[tactic(auto, using(crate::proofs::ListRows::second_address))]
 fn add_second(list: &mut AddrList, text: &[u8])
-    requires part { maybe_part (start.Code byte.comma) row.COMMA_DEVICE_2 text.now ≡ true }
+    requires phrase { maybe_phrase (start.Code byte.comma) row.COMMA_DEVICE_2 text.now ≡ true }
     requires room { length list.old ≤ 9 }
     ensures { list.new ≡ list.old ++ spec.more_devices (maybe_tree (start.Code byte.comma) row.COMMA_DEVICE_2 text.now) }
 {
@@ -61,7 +61,7 @@ fn add_second(list: &mut AddrList, text: &[u8])
 /// The devices that are written at a text.
 #[tactic(auto, using(crate::proofs::ListRows::first_address, crate::proofs::ListRows::first_is))]
 pub(crate) fn devices_at(text: &[u8]) -> AddrList
-    requires part { is_part row.DEVICES text.now ≡ true }
+    requires phrase { is_phrase row.DEVICES text.now ≡ true }
     ensures { result ≡ spec.devices_in (tree_at row.DEVICES text.now) }
 {
     let mut list = AddrList::new();

@@ -2,7 +2,7 @@
 ghost use Rattle.std.specs.Prelude.{◌≡◌, true};
 ghost use Rattle.b2_access.specs.Working.{ended};
 ghost use Rattle.b2_atom.specs.declared.rows.TheConstants as row;
-ghost use Rattle.b2_rows.specs.Rows.{is_part, tree_at};
+ghost use Rattle.b2_rows.specs.Rows.{is_phrase, tree_at};
 ghost use Rattle.b2_stmt_device.specs.Selecting as spec;
 
 use b2_access::{DeviceTable, Outcome, Private};
@@ -21,7 +21,7 @@ fn shows_at(devices: &DeviceTable, who: Part, a: Addr) -> bool
 /// The device that is written, where PRINT may show there; else P48.
 #[tactic(auto, using(crate::proofs::SelectRows::address_here, crate::proofs::SelectRows::selected_is))]
 pub(crate) fn device_selected(devices: &DeviceTable, who: Part, unit: &[u8]) -> Result<Addr, Code>
-    requires part { is_part row.SELECT_PRINT unit.now ≡ true }
+    requires phrase { is_phrase row.SELECT_PRINT unit.now ≡ true }
     ensures { result ≡ spec.device_selected devices.now who (tree_at row.SELECT_PRINT unit.now) }
 {
     let a = address_at(rest_after(rest_after(unit, 1), 1));

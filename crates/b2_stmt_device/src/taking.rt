@@ -3,7 +3,7 @@ ghost use Rattle.std.specs.Prelude.{◌≡◌, true};
 ghost use Rattle.b2_access.specs.Answering.{can_answer};
 ghost use Rattle.b2_access.specs.Views.{taking_came};
 ghost use Rattle.b2_atom.specs.declared.rows.TheConstants as row;
-ghost use Rattle.b2_rows.specs.Rows.{is_part, tree_at};
+ghost use Rattle.b2_rows.specs.Rows.{is_phrase, tree_at};
 ghost use Rattle.b2_stmt_device.specs.Taking as spec;
 
 use crate::held::are_listed;
@@ -19,7 +19,7 @@ use b2_text::Text;
 /// The line that is named before the devices, where one is.
 #[tactic(auto, using(crate::proofs::OpenRows::line_here, crate::proofs::OpenRows::line_is, crate::proofs::OpenRows::no_line))]
 pub(crate) fn line_if_busy(unit: &[u8]) -> Option<u16>
-    requires part { is_part row.OPEN unit.now ≡ true }
+    requires phrase { is_phrase row.OPEN unit.now ≡ true }
     ensures { result ≡ spec.line_if_busy (tree_at row.OPEN unit.now) }
 {
     let text = rest_after(unit, 1);
@@ -33,7 +33,7 @@ pub(crate) fn line_if_busy(unit: &[u8]) -> Option<u16>
 /// The devices that are to be taken.
 #[tactic(auto, using(crate::proofs::OpenRows::devices_after, crate::proofs::OpenRows::after_is, crate::proofs::OpenRows::devices_alone, crate::proofs::OpenRows::alone_is))]
 fn devices_to_take(unit: &[u8]) -> AddrList
-    requires part { is_part row.OPEN unit.now ≡ true }
+    requires phrase { is_phrase row.OPEN unit.now ≡ true }
     ensures { result ≡ spec.devices_to_take (tree_at row.OPEN unit.now) }
 {
     let text = rest_after(unit, 1);
@@ -46,7 +46,7 @@ fn devices_to_take(unit: &[u8]) -> AddrList
 
 /// What is asked for, or P48.
 pub(crate) fn ask_to_take(devices: &DeviceTable, who: Part, unit: &[u8]) -> Result<Access, Code>
-    requires part { is_part row.OPEN unit.now ≡ true }
+    requires phrase { is_phrase row.OPEN unit.now ≡ true }
     ensures { result ≡ spec.asks_to_take devices.now who (tree_at row.OPEN unit.now) }
 {
     let addrs = devices_to_take(unit);

@@ -10,7 +10,7 @@ use Rattle.b2_access.specs.declared.accesses.Access.{Access}
 use Rattle.b2_access.specs.declared.accesses.Answer.{Answer}
 use Rattle.b2_access.specs.declared.devices.Device.{Device}
 use Rattle.b2_access.specs.declared.private.Private.{Private}
-use Rattle.b2_access.proofs.Courses.{each_course}
+use Rattle.b2_access.proofs.Dispatch.{each_dispatch}
 use Rattle.b2_access.proofs.Homes.{next_or_fails}
 use Rattle.b2_drive.specs.Asking.{change_ends}
 use Rattle.b2_drive.proofs.Asked.{marks_no_home}
@@ -41,7 +41,7 @@ module _ (among : ℕ → Bool) where
   place_in : (x : Access) (a : Answer) (me : Private) (s : SeenLent) → Leads (ends x a me s)
   unfolding Leads
   place_in x a me s =
-      each_course is_refused (repeats me) (finishes x a me s) me s Leads tt tt
+      each_dispatch is_refused (repeats me) (finishes x a me s) me s Leads tt tt
       (λ p is u. each_ended Leads x a me s (λ t. limits_in (limits_told x a) t me s) (change_in (change_came x a)) (listing_in (listing_told x a) me) tt u)
 
 pub plans_within : (devices : List Device) → PlansEachWithin (works devices)

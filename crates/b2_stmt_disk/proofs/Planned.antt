@@ -26,7 +26,7 @@ use Rattle.b2_access.specs.declared.planned.Planned.{Planned}
 use Rattle.b2_access.specs.declared.planned.Planned.TheVariants as planned
 use Rattle.b2_access.specs.declared.private.Private.{Private}
 use Rattle.b2_access.proofs.Choice.{either}
-use Rattle.b2_access.proofs.Courses.{each_course}
+use Rattle.b2_access.proofs.Dispatch.{each_dispatch}
 use Rattle.b2_drive.specs.Asking.{asks_or_fails, change_ends}
 use Rattle.b2_drive.specs.Drives.{DrivesSeen, drive_used, drives_of, platter_meant, platter_used, selects}
 use Rattle.b2_drive.specs.FileNames.{name_given}
@@ -35,7 +35,7 @@ use Rattle.b2_stmt_disk.specs.Selecting.{selected}
 use Rattle.b2_stmt_disk.specs.Limits.{asks_limits, limits_end, named_file}
 use Rattle.b2_stmt_disk.specs.Listing.{asks_to_list, listing_ends}
 use Rattle.b2_stmt_disk.specs.Moving.{asks_to_move, device_from, file_moved, moves, moves_apart}
-use Rattle.b2_stmt_disk.specs.Plan.{asked_of, course_of, does, ended_of, is_refused, works}
+use Rattle.b2_stmt_disk.specs.Plan.{asked_of, dispatch_of, does, ended_of, is_refused, works}
 use Rattle.b2_stmt_disk.specs.Scratching.{asks_to_format, asks_to_scratch, sectors_given}
 
 -- platters that differ
@@ -124,7 +124,7 @@ module _ (devices : List Device) (me : Private) (s : SeenLent) (F : Planned → 
   each_selected (Ok addr) = next
   each_selected (Err code) = failed code
 
-  each_statement : (u : Statement) → Each (course_of devices u me s)
+  each_statement : (u : Statement) → Each (dispatch_of devices u me s)
   unfolding Each
   each_statement u =
       either Each (u.row == row.SELECT_DISK) _ _ (each_selected (selects (drives_of devices me) u.tree))
@@ -132,7 +132,7 @@ module _ (devices : List Device) (me : Private) (s : SeenLent) (F : Planned → 
 
   pub each_planned : F (planned_of (works devices me s))
   unfolding Each
-  each_planned = each_course is_refused stops (does devices me s) me s Each ready (failed S26_PROGRAM_ONLY) (λ p is u. each_statement u)
+  each_planned = each_dispatch is_refused stops (does devices me s) me s Each ready (failed S26_PROGRAM_ONLY) (λ p is u. each_statement u)
 
 -- and of how a statement finishes
 pub each_ended : (F : Worked → Type 0) (x : Access) (a : Answer) (me : Private) (s : SeenLent) → ((t : Trees) → F (limits_end (limits_told x a) t me s)) → F (leaves me (change_ends (change_came x a)))

@@ -18,7 +18,7 @@ use Rattle.b2_access.specs.Working.{EachReaches, Ends, PlansEachReach, Worked, W
 use Rattle.b2_access.specs.declared.devices.Device.{Device}
 use Rattle.b2_access.specs.declared.private.Private.{Private}
 use Rattle.b2_access.proofs.Choice.{either}
-use Rattle.b2_access.proofs.Courses.{each_course}
+use Rattle.b2_access.proofs.Dispatch.{each_dispatch}
 use Rattle.b2_drive.specs.Drives.{drives_of, selects}
 use Rattle.b2_stmt_disk.specs.Limits.{after_name, gives_each, gives_file, gives_limits, gives_operands, is_absent, limits_end, numbers_of, receivers_in, whole_number}
 use Rattle.b2_stmt_disk.specs.Listing.{listing_ends}
@@ -80,10 +80,10 @@ limits_tell (Some n) t me s = limits_reach n t (work_in (setting_of me) s.home m
 pub plans_reach : (devices : List Device) → PlansEachReach (works devices)
 plans_reach devices me s =
     let F : Working → Type 0 = λ k. MayBecome s.globals (globals_after (told_of_globals k) s.globals) in
-    each_course is_refused stops (does devices me s) me s F (stay s.globals) (stay s.globals) (λ p is u.
+    each_dispatch is_refused stops (does devices me s) me s F (stay s.globals) (stay s.globals) (λ p is u.
     either F (u.row == row.SELECT_DISK) _ _ (selected_stays (selects (drives_of devices me) u.tree) me s.globals) (stay s.globals))
 
 pub finishes_reach : EachReaches plain ends
 finishes_reach x a me s =
-    each_course is_refused (repeats me) (finishes x a me s) me s (Tells s.globals) (stay s.globals) (stay s.globals) (λ p is u.
+    each_dispatch is_refused (repeats me) (finishes x a me s) me s (Tells s.globals) (stay s.globals) (stay s.globals) (λ p is u.
     each_ended (Tells s.globals) x a me s (λ t. limits_tell (limits_told x a) t me s) (stay s.globals) (listing_stays (listing_told x a) me s.globals) (stay s.globals) u)

@@ -8,7 +8,7 @@ use Rattle.b2_atom.specs.declared.words.TheConstants as word
 use Rattle.b2_atom.specs.declared.rows.TheConstants as row
 use Rattle.b2_atom.specs.declared.forms.Item.{Item}
 use Rattle.b2_atom.specs.declared.forms.Item.TheVariants.{Word, Sign, Part}
-use Rattle.b2_rows.specs.Rows.{is_part, tree_at, after_part}
+use Rattle.b2_rows.specs.Rows.{is_phrase, tree_at, after_phrase}
 use Rattle.b2_rows.proofs.RowsRead.{stands_of}
 use Rattle.b2_expr.specs.Answers.{◌>>=◌}
 use Rattle.b2_expr.specs.Scope.{Context}
@@ -25,15 +25,15 @@ scratch_row : row_items row.SCRATCH ≡ scratch_items
 unfolding row_items
 scratch_row = refl
 
-pub scratch_drive : (t : Text) → is_part row.SCRATCH t ≡ true → is_part row.DRIVE_COMMA (drop 1 t) ≡ true
+pub scratch_drive : (t : Text) → is_phrase row.SCRATCH t ≡ true → is_phrase row.DRIVE_COMMA (drop 1 t) ≡ true
 scratch_drive t ok = (stands_of row.SCRATCH scratch_items t scratch_row ok).0.1.0
 
-pub scratch_name : (t : Text) → is_part row.SCRATCH t ≡ true → is_part row.ALPHA (after_part row.DRIVE_COMMA (drop 1 t)) ≡ true
+pub scratch_name : (t : Text) → is_phrase row.SCRATCH t ≡ true → is_phrase row.ALPHA (after_phrase row.DRIVE_COMMA (drop 1 t)) ≡ true
 scratch_name t ok = (stands_of row.SCRATCH scratch_items t scratch_row ok).0.1.1.0
 
-pub scratch_is : (d : DrivesSeen) (e : Context) (t : Text) → is_part row.SCRATCH t ≡ true
+pub scratch_is : (d : DrivesSeen) (e : Context) (t : Text) → is_phrase row.SCRATCH t ≡ true
     → asks_to_scratch d e (tree_at row.SCRATCH t)
-    ≡ (drive_used d (tree_at row.DRIVE_COMMA (drop 1 t)) >>= (λ addr. name_given e (tree_at row.ALPHA (after_part row.DRIVE_COMMA (drop 1 t))) >>= (λ name. Ok (access.Scratch addr name))))
+    ≡ (drive_used d (tree_at row.DRIVE_COMMA (drop 1 t)) >>= (λ addr. name_given e (tree_at row.ALPHA (after_phrase row.DRIVE_COMMA (drop 1 t))) >>= (λ name. Ok (access.Scratch addr name))))
 scratch_is d e t ok = ap (asks_to_scratch d e) (stands_of row.SCRATCH scratch_items t scratch_row ok).1
 
 -- SCRATCH DISK
@@ -47,21 +47,21 @@ unfolding row_items
 format_row = refl
 
 abbrev pub index_text : Text → Text
-index_text t = drop 1 (drop 1 (after_part row.DRIVE_COMMA (drop 1 (drop 1 t))))
+index_text t = drop 1 (drop 1 (after_phrase row.DRIVE_COMMA (drop 1 (drop 1 t))))
 
 abbrev pub last_text : Text → Text
-last_text t = drop 1 (drop 1 (drop 1 (after_part row.SUM (index_text t))))
+last_text t = drop 1 (drop 1 (drop 1 (after_phrase row.SUM (index_text t))))
 
-pub format_drive : (t : Text) → is_part row.SCRATCH_DISK t ≡ true → is_part row.DRIVE_COMMA (drop 1 (drop 1 t)) ≡ true
+pub format_drive : (t : Text) → is_phrase row.SCRATCH_DISK t ≡ true → is_phrase row.DRIVE_COMMA (drop 1 (drop 1 t)) ≡ true
 format_drive t ok = (stands_of row.SCRATCH_DISK format_items t format_row ok).0.1.1.0
 
-pub format_index : (t : Text) → is_part row.SCRATCH_DISK t ≡ true → is_part row.SUM (index_text t) ≡ true
+pub format_index : (t : Text) → is_phrase row.SCRATCH_DISK t ≡ true → is_phrase row.SUM (index_text t) ≡ true
 format_index t ok = (stands_of row.SCRATCH_DISK format_items t format_row ok).0.1.1.1.1.1.0
 
-pub format_last : (t : Text) → is_part row.SCRATCH_DISK t ≡ true → is_part row.SUM (last_text t) ≡ true
+pub format_last : (t : Text) → is_phrase row.SCRATCH_DISK t ≡ true → is_phrase row.SUM (last_text t) ≡ true
 format_last t ok = (stands_of row.SCRATCH_DISK format_items t format_row ok).0.1.1.1.1.1.1.1.1.1.0
 
-pub format_is : (d : DrivesSeen) (e : Context) (t : Text) → is_part row.SCRATCH_DISK t ≡ true
+pub format_is : (d : DrivesSeen) (e : Context) (t : Text) → is_phrase row.SCRATCH_DISK t ≡ true
     → asks_to_format d e (tree_at row.SCRATCH_DISK t)
     ≡ (drive_used d (tree_at row.DRIVE_COMMA (drop 1 (drop 1 t))) >>= (λ addr. sectors_given e (tree_at row.SUM (index_text t)) >>= (λ i. sectors_given e (tree_at row.SUM (last_text t)) >>= (λ l. Ok (access.Format addr i l)))))
 format_is d e t ok = ap (asks_to_format d e) (stands_of row.SCRATCH_DISK format_items t format_row ok).1

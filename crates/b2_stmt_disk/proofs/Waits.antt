@@ -8,7 +8,7 @@ use Rattle.b2_access.specs.Working.{Worked, work_of}
 use Rattle.b2_access.specs.declared.accesses.Access.{Access}
 use Rattle.b2_access.specs.declared.accesses.Answer.{Answer}
 use Rattle.b2_access.specs.declared.private.Private.{Private}
-use Rattle.b2_access.proofs.Courses.{each_course}
+use Rattle.b2_access.proofs.Dispatch.{each_dispatch}
 use Rattle.b2_access.proofs.Delays.{limits_delayed, listing_delayed}
 use Rattle.b2_stmt_disk.specs.Limits.{limits_end}
 use Rattle.b2_stmt_disk.specs.Listing.{listing_ends}
@@ -26,4 +26,4 @@ after_statement u x a me s h =
 pub after_place : (x : Access) (a : Answer) (me : Private) (s : SeenLent) → delays a ≡ true → (ends x a me s).work ≡ work_of me
 after_place x a me s h =
     let F : Worked → Type 0 = λ w. w.work ≡ work_of me in
-    each_course is_refused (repeats me) (finishes x a me s) me s F refl refl (λ p is u. after_statement u x a me s h)
+    each_dispatch is_refused (repeats me) (finishes x a me s) me s F refl refl (λ p is u. after_statement u x a me s h)

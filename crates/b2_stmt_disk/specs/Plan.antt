@@ -6,7 +6,7 @@ use Rattle.b2_atom.specs.declared.rows.TheConstants as row
 use Rattle.b2_expr.specs.Scope.{Context}
 use Rattle.b2_expr.specs.Value.{context_of}
 use Rattle.b2_expr.specs.Workspace.{work_in}
-use Rattle.b2_access.specs.Courses.{Here, course}
+use Rattle.b2_access.specs.Dispatch.{Here, dispatch}
 use Rattle.b2_access.specs.Lending.{SeenLent}
 use Rattle.b2_access.specs.Partition.{setting_of}
 use Rattle.b2_access.specs.Placed.{Statement}
@@ -42,27 +42,27 @@ asked_of d e r t =
     else Err S27_LEFT_OUT))))
 
 -- SELECT DISK ends at once; the others ask for an access
-abbrev pub course_by : (List ℕ → Bool) → Statement → Private → SeenLent → Working
-course_by listed u me s =
+abbrev pub dispatch_by : (List ℕ → Bool) → Statement → Private → SeenLent → Working
+dispatch_by listed u me s =
     if u.row == row.SELECT_DISK then Ends (selected (selects (drives_by listed me) u.tree) me)
     else Plans (asks_or_fails (asked_of (drives_by listed me) (context_of (work_in (setting_of me) s.home me.vars s.globals)) u.row u.tree))
 
 abbrev pub does_by : (List ℕ → Bool) → Private → SeenLent → Statement → Here → Working
-does_by listed me s u h = course_by listed u me s
+does_by listed me s u h = dispatch_by listed u me s
 
 -- what the statement at a partition's place plans, by the platters that are listed for it
 abbrev pub works_by : (List ℕ → Bool) → Private → SeenLent → Working
-works_by listed me s = course is_refused stops (does_by listed me s) me.place me s
+works_by listed me s = dispatch is_refused stops (does_by listed me s) me.place me s
 
 abbrev pub plan_by : (List ℕ → Bool) → Private → SeenLent → Planning
 plan_by listed me s = plans_by (works_by listed) me s
 
 -- and so over the devices that there are
-abbrev pub course_of : List Device → Statement → Private → SeenLent → Working
-course_of devices u me s = course_by (platters_for me.part devices) u me s
+abbrev pub dispatch_of : List Device → Statement → Private → SeenLent → Working
+dispatch_of devices u me s = dispatch_by (platters_for me.part devices) u me s
 
 abbrev pub does : List Device → Private → SeenLent → Statement → Here → Working
-does devices me s u h = course_of devices u me s
+does devices me s u h = dispatch_of devices u me s
 
 abbrev pub works : List Device → Private → SeenLent → Working
 works devices me s = works_by (platters_for me.part devices) me s
@@ -87,7 +87,7 @@ repeats me o = leaves me outcome.Repeat
 
 -- how the statement at a partition's place finishes
 abbrev pub ends : Access → Answer → Private → SeenLent → Worked
-ends x a me s = course is_refused (repeats me) (finishes x a me s) me.place me s
+ends x a me s = dispatch is_refused (repeats me) (finishes x a me s) me.place me s
 
 abbrev pub finish : Access → Answer → Private → SeenLent → Finishing
 finish x a me s = finishes_by ends x a me s

@@ -3,7 +3,7 @@ ghost use Rattle.std.specs.Prelude.{◌≡◌, true, length, option_map, IfOk};
 ghost use Rattle.b2_access.specs.Answering.{can_answer};
 ghost use Rattle.b2_access.specs.Views.{limits_told};
 ghost use Rattle.b2_atom.specs.declared.rows.TheConstants as row;
-ghost use Rattle.b2_rows.specs.Rows.{is_part, tree_at};
+ghost use Rattle.b2_rows.specs.Rows.{is_phrase, tree_at};
 ghost use Rattle.b2_expr.specs.Scope.{surroundings};
 ghost use Rattle.b2_expr.specs.Value.{in_statement};
 ghost use Rattle.b2_expr.specs.Workspace.{SameReferences, workspace};
@@ -33,7 +33,7 @@ pub struct Told {
 /// What LIMITS asks for: its drive first, and then the name of the file, where one is written.
 #[tactic(auto, using(crate::proofs::LimitsRows::limits_drive, crate::proofs::LimitsRows::file_here, crate::proofs::LimitsRows::file_name_here, crate::proofs::LimitsRows::asks_is, crate::proofs::LimitsRows::named_of_file, crate::proofs::LimitsRows::named_of_disk))]
 pub fn ask_limits(d: &Drives<'_>, e: &Env<'_>, unit: &[u8]) -> Result<Access, Code>
-    requires part { is_part row.LIMITS unit.now ≡ true }
+    requires phrase { is_phrase row.LIMITS unit.now ≡ true }
     ensures { result ≡ spec.asks_limits (drives_seen d.now) (in_statement (surroundings e.now)) (tree_at row.LIMITS unit.now) }
 {
     let text = rest_after(unit, 1);
@@ -103,7 +103,7 @@ fn is_absent(told: Told) -> bool
 /// Gives the limits of a file to the receivers after its name; D82 where it isn't there, and no receiver takes its kind.
 #[tactic(auto, using(crate::proofs::LimitsRows::file_name_here))]
 fn give_file(work: &mut Workspace<'_>, told: Told, text: &[u8]) -> Result<Option<Code>, NoMemory>
-    requires part { is_part row.FILE_LIMITS text.now ≡ true }
+    requires phrase { is_phrase row.FILE_LIMITS text.now ≡ true }
     ensures worked { IfOk result (λ code. record { work = workspace work.new; code = code } ≡ spec.gives_file (spec.numbers_told told) (spec.receivers_in (spec.after_name (tree_at row.FILE_LIMITS text.now))) (workspace work.old)) }
     ensures same_references { SameReferences work.old work.new }
 {
@@ -120,7 +120,7 @@ fn give_file(work: &mut Workspace<'_>, told: Told, text: &[u8]) -> Result<Option
 
 /// Gives the limits of a catalogue to three receivers.
 fn give_disk(work: &mut Workspace<'_>, told: Told, text: &[u8]) -> Result<Option<Code>, NoMemory>
-    requires part { is_part row.DISK_LIMITS text.now ≡ true }
+    requires phrase { is_phrase row.DISK_LIMITS text.now ≡ true }
     ensures worked { IfOk result (λ code. record { work = workspace work.new; code = code } ≡ spec.gives_each (spec.numbers_of (spec.numbers_told told)) (spec.receivers_in (tree_at row.DISK_LIMITS text.now)) (workspace work.old)) }
     ensures same_references { SameReferences work.old work.new }
 {
@@ -134,7 +134,7 @@ pub fn give_limits(
     told: Told,
     unit: &[u8],
 ) -> Result<Option<Code>, NoMemory>
-    requires part { is_part row.LIMITS unit.now ≡ true }
+    requires phrase { is_phrase row.LIMITS unit.now ≡ true }
     ensures worked { IfOk result (λ code. record { work = workspace work.new; code = code } ≡ spec.gives_limits (spec.numbers_told told) (tree_at row.LIMITS unit.now) (workspace work.old)) }
     ensures same_references { SameReferences work.old work.new }
 {

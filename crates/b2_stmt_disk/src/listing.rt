@@ -3,7 +3,7 @@ ghost use Rattle.std.specs.Prelude.{◌≡◌, true, IfOk};
 ghost use Rattle.b2_access.specs.Answering.{can_answer};
 ghost use Rattle.b2_access.specs.Views.{listing_told};
 ghost use Rattle.b2_atom.specs.declared.rows.TheConstants as row;
-ghost use Rattle.b2_rows.specs.Rows.{is_part, tree_at};
+ghost use Rattle.b2_rows.specs.Rows.{is_phrase, tree_at};
 ghost use Rattle.b2_drive.specs.Drives.{drives_seen};
 ghost use Rattle.b2_stmt_disk.specs.Listing as spec;
 
@@ -16,7 +16,7 @@ use std::alloc::Global;
 /// What LIST DC asks for.
 #[tactic(auto, using(crate::proofs::ListRows::list_drive, crate::proofs::ListRows::list_is))]
 pub fn ask_to_list(d: &Drives<'_>, unit: &[u8]) -> Result<Access, Code>
-    requires part { is_part row.LIST_DISK unit.now ≡ true }
+    requires phrase { is_phrase row.LIST_DISK unit.now ≡ true }
     ensures { result ≡ spec.asks_to_list (drives_seen d.now) (tree_at row.LIST_DISK unit.now) }
 {
     match last_drive(d, rest_after(rest_after(unit, 1), 1)) {

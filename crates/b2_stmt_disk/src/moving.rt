@@ -1,7 +1,7 @@
 // MOVE: what it asks for.
 ghost use Rattle.std.specs.Prelude.{◌≡◌, true};
 ghost use Rattle.b2_atom.specs.declared.rows.TheConstants as row;
-ghost use Rattle.b2_rows.specs.Rows.{after_part, is_part, tree_at};
+ghost use Rattle.b2_rows.specs.Rows.{after_phrase, is_phrase, tree_at};
 ghost use Rattle.b2_expr.specs.Scope.{surroundings};
 ghost use Rattle.b2_expr.specs.Value.{in_statement};
 ghost use Rattle.b2_drive.specs.Drives.{drives_seen};
@@ -31,7 +31,7 @@ fn after_drive_from(text: &[u8]) -> &[u8]
 /// The platter from which files are moved.
 #[tactic(auto, using(crate::proofs::MoveRows::moved_address))]
 fn drive_from(d: &Drives<'_>, text: &[u8]) -> Result<Addr, Code>
-    requires part { is_part row.MOVED text.now ≡ true }
+    requires phrase { is_phrase row.MOVED text.now ≡ true }
     ensures { result ≡ spec.drive_from (drives_seen d.now) (tree_at row.MOVED text.now) }
 {
     used_at(d, text)
@@ -40,7 +40,7 @@ fn drive_from(d: &Drives<'_>, text: &[u8]) -> Result<Addr, Code>
 /// The name of the file that is moved, where one is written.
 #[tactic(auto, using(crate::proofs::MoveRows::name_here, crate::proofs::MoveRows::file_is, crate::proofs::MoveRows::no_file))]
 fn file_moved(e: &Env<'_>, text: &[u8]) -> Result<Option<Name8>, Code>
-    requires part { is_part row.MOVED text.now ≡ true }
+    requires phrase { is_phrase row.MOVED text.now ≡ true }
     ensures { result ≡ spec.file_moved (in_statement (surroundings e.now)) (tree_at row.MOVED text.now) }
 {
     let after = after_drive_from(text);
@@ -56,8 +56,8 @@ fn file_moved(e: &Env<'_>, text: &[u8]) -> Result<Option<Name8>, Code>
 /// What stands after what is moved.
 #[tactic(auto, using(crate::proofs::MoveRows::name_here, crate::proofs::MoveRows::after_file, crate::proofs::MoveRows::after_none))]
 fn past_moved(text: &[u8]) -> &[u8]
-    requires part { is_part row.MOVED text.now ≡ true }
-    ensures { result.now ≡ after_part row.MOVED text.now }
+    requires phrase { is_phrase row.MOVED text.now ≡ true }
+    ensures { result.now ≡ after_phrase row.MOVED text.now }
 {
     let after = after_drive_from(text);
     if !is_at(b',', after) {
@@ -82,7 +82,7 @@ fn move_apart(from: Addr, name: Option<Name8>, to: Addr) -> Result<Access, Code>
 /// What MOVE asks for: the drive and the name of what is moved first, and then the other drive.
 #[tactic(auto, using(crate::proofs::MoveRows::moved_here, crate::proofs::MoveRows::other_drive, crate::proofs::MoveRows::move_is))]
 pub fn ask_to_move(d: &Drives<'_>, e: &Env<'_>, unit: &[u8]) -> Result<Access, Code>
-    requires part { is_part row.MOVE unit.now ≡ true }
+    requires phrase { is_phrase row.MOVE unit.now ≡ true }
     ensures { result ≡ spec.asks_to_move (drives_seen d.now) (in_statement (surroundings e.now)) (tree_at row.MOVE unit.now) }
 {
     let text = rest_after(unit, 1);

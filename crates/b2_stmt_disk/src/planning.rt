@@ -48,7 +48,7 @@ fn is_refused(row: u16, program: bool) -> bool
 }
 
 /// What a statement asks for, or the first code from the left.
-fn ask(d: &Drives<'_>, e: &Env<'_>, unit: &RowUnit<'_>) -> Result<Access, Code>
+fn ask_on_disks(d: &Drives<'_>, e: &Env<'_>, unit: &RowUnit<'_>) -> Result<Access, Code>
     requires read { IsRow unit.now.row unit.now.bytes.now (tree_at unit.now.row unit.now.bytes.now) }
     ensures { result ≡ spec.asked_of (drives_seen d.now) (in_statement (surroundings e.now)) unit.now.row (tree_at unit.now.row unit.now.bytes.now) }
 {
@@ -104,7 +104,7 @@ pub fn plan(
         home: lent.home,
     };
     let e = surroundings_of(&work);
-    Ok(asks_or_fails(ask(&d, &e, &unit)))
+    Ok(asks_or_fails(ask_on_disks(&d, &e, &unit)))
 }
 
 /// How the statement at the place of a partition finishes, by the access that it asked for and its answer, which is one that the

@@ -1,7 +1,7 @@
 // SCRATCH and SCRATCH DISK: what they ask for.
 ghost use Rattle.std.specs.Prelude.{◌≡◌, true};
 ghost use Rattle.b2_atom.specs.declared.rows.TheConstants as row;
-ghost use Rattle.b2_rows.specs.Rows.{is_part, tree_at};
+ghost use Rattle.b2_rows.specs.Rows.{is_phrase, tree_at};
 ghost use Rattle.b2_expr.specs.Scope.{surroundings};
 ghost use Rattle.b2_expr.specs.Value.{in_statement};
 ghost use Rattle.b2_drive.specs.Drives.{drives_seen};
@@ -18,7 +18,7 @@ use b2_expr::{Env, fixed, number, past_sum};
 /// What SCRATCH asks for: its drive first, and then the name of the file.
 #[tactic(auto, using(crate::proofs::ScratchRows::scratch_drive, crate::proofs::ScratchRows::scratch_name, crate::proofs::ScratchRows::scratch_is))]
 pub fn ask_to_scratch(d: &Drives<'_>, e: &Env<'_>, unit: &[u8]) -> Result<Access, Code>
-    requires part { is_part row.SCRATCH unit.now ≡ true }
+    requires phrase { is_phrase row.SCRATCH unit.now ≡ true }
     ensures { result ≡ spec.asks_to_scratch (drives_seen d.now) (in_statement (surroundings e.now)) (tree_at row.SCRATCH unit.now) }
 {
     let text = rest_after(unit, 1);
@@ -44,7 +44,7 @@ fn sectors(n: Option<i64>) -> Result<u32, Code>
 
 /// The number of sectors at a text.
 fn sectors_at(e: &Env<'_>, text: &[u8]) -> Result<u32, Code>
-    requires part { is_part row.SUM text.now ≡ true }
+    requires phrase { is_phrase row.SUM text.now ≡ true }
     ensures { result ≡ spec.sectors_given (in_statement (surroundings e.now)) (tree_at row.SUM text.now) }
 {
     match number(&mut Cursor::over(text), e) {
@@ -56,7 +56,7 @@ fn sectors_at(e: &Env<'_>, text: &[u8]) -> Result<u32, Code>
 /// What SCRATCH DISK asks for: its drive, the sectors of the index, and the last sector of the catalogue.
 #[tactic(auto, using(crate::proofs::ScratchRows::format_drive, crate::proofs::ScratchRows::format_index, crate::proofs::ScratchRows::format_last, crate::proofs::ScratchRows::format_is))]
 pub fn ask_to_format(d: &Drives<'_>, e: &Env<'_>, unit: &[u8]) -> Result<Access, Code>
-    requires part { is_part row.SCRATCH_DISK unit.now ≡ true }
+    requires phrase { is_phrase row.SCRATCH_DISK unit.now ≡ true }
     ensures { result ≡ spec.asks_to_format (drives_seen d.now) (in_statement (surroundings e.now)) (tree_at row.SCRATCH_DISK unit.now) }
 {
     let text = rest_after(rest_after(unit, 1), 1);

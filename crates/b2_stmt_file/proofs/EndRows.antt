@@ -11,11 +11,11 @@ use Rattle.b2_atom.specs.declared.forms.Item.{Item}
 use Rattle.b2_atom.specs.declared.forms.Item.TheVariants.{Word, Typed}
 use Rattle.b2_rows.specs.Following.{after_false, tree_units}
 use Rattle.b2_rows.specs.Leaves.{is_leaf}
-use Rattle.b2_rows.specs.Rows.{is_part, tree_at}
+use Rattle.b2_rows.specs.Rows.{is_phrase, tree_at}
 use Rattle.b2_rows.specs.Values.{line_of}
 use Rattle.b2_rows.specs.declared.following.Goal.TheVariants as goal
 use Rattle.b2_rows.proofs.RowsRead.{stands_of}
-use Rattle.b2_access.specs.Courses.{units_on}
+use Rattle.b2_access.specs.Dispatch.{units_on}
 use Rattle.b2_stmt_file.specs.Ending.{end_goal}
 
 abbrev end_items : List Item
@@ -28,13 +28,13 @@ end_row = refl
 abbrev pub line_text : Text → Text
 line_text t = drop 1 (drop 1 (drop 1 t))
 
-pub end_line : (t : Text) → is_part row.IF_END t ≡ true → is_leaf leaf.LineNumber (line_text t) ≡ true
+pub end_line : (t : Text) → is_phrase row.IF_END t ≡ true → is_leaf leaf.LineNumber (line_text t) ≡ true
 end_line t ok = (stands_of row.IF_END end_items t end_row ok).0.1.1.1.0
 
-pub end_true : (k : ℕ) (us : List TreeUnit) (t : Text) → is_part row.IF_END t ≡ true → end_goal true k us (tree_at row.IF_END t) ≡ goal.Line (line_of (get_or (line_text t) 1 0) (get_or (line_text t) 2 0))
+pub end_true : (k : ℕ) (us : List TreeUnit) (t : Text) → is_phrase row.IF_END t ≡ true → end_goal true k us (tree_at row.IF_END t) ≡ goal.Line (line_of (get_or (line_text t) 1 0) (get_or (line_text t) 2 0))
 end_true k us t ok = ap (end_goal true k us) (stands_of row.IF_END end_items t end_row ok).1
 
-pub end_false : (k : ℕ) (us : List TreeUnit) (t : Text) → is_part row.IF_END t ≡ true → end_goal false k us (tree_at row.IF_END t) ≡ after_false k us
+pub end_false : (k : ℕ) (us : List TreeUnit) (t : Text) → is_phrase row.IF_END t ≡ true → end_goal false k us (tree_at row.IF_END t) ≡ after_false k us
 end_false k us t ok = ap (end_goal false k us) (stands_of row.IF_END end_items t end_row ok).1
 
 -- the units of a line that is there, and of none

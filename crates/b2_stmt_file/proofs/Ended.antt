@@ -3,7 +3,7 @@ use Rattle.std.proofs.Common.{◌≡◌, ◌∙◌, ◌==◌, Bool, true, false,
 use Rattle.b2_flow.specs.declared.frame.Place.{Place}
 use Rattle.b2_atom.specs.declared.rows.TheConstants as row
 use Rattle.b2_vars.specs.Globals.{Globals}
-use Rattle.b2_access.specs.Courses.{course, course_at, here}
+use Rattle.b2_access.specs.Dispatch.{dispatch, dispatch_at, here}
 use Rattle.b2_access.specs.Lending.{SeenLent}
 use Rattle.b2_access.specs.Placed.{Statement, statement_placed}
 use Rattle.b2_access.specs.Planning.{Planning}
@@ -22,11 +22,11 @@ module _ (devices : List Device) (me : Private) (s : SeenLent) (p : Place) (is :
   there : Option Statement
   there = statement_placed p me.immediate s.home.lines
 
-  at_place : works devices me s ≡ course_at is_refused stops (does devices me s) there (here p me s)
+  at_place : works devices me s ≡ dispatch_at is_refused stops (does devices me s) there (here p me s)
   unfolding there
-  at_place = ap (λ (o : Option Place). course is_refused stops (does devices me s) o me s) is
+  at_place = ap (λ (o : Option Place). dispatch is_refused stops (does devices me s) o me s) is
 
-  ends_by : (o : Outcome) (x : Option Statement) → Some o ≡ ended_there me.at_end x (here p me s) s.home.lines → course_at is_refused stops (does devices me s) x (here p me s) ≡ stops o
+  ends_by : (o : Outcome) (x : Option Statement) → Some o ≡ ended_there me.at_end x (here p me s) s.home.lines → dispatch_at is_refused stops (does devices me s) x (here p me s) ≡ stops o
   ends_by o None e = absurd (none_some o (sym e))
   ends_by o (Some u) e = by (u.row == row.IF_END) e
     where
@@ -34,7 +34,7 @@ module _ (devices : List Device) (me : Private) (s : SeenLent) (p : Place) (is :
       by true e = let same : o ≡ if_end me.at_end (here p me s) s.home.lines u.tree = cc in ap stops (sym same)
       by false e = absurd (none_some o (sym e))
 
-  asks_by : (x : Option Statement) → None ≡ ended_there me.at_end x (here p me s) s.home.lines → course_at is_refused stops (does devices me s) x (here p me s) ≡ asking devices me s x
+  asks_by : (x : Option Statement) → None ≡ ended_there me.at_end x (here p me s) s.home.lines → dispatch_at is_refused stops (does devices me s) x (here p me s) ≡ asking devices me s x
   asks_by None e = refl
   asks_by (Some u) e = by (u.row == row.IF_END) e
     where

@@ -12,15 +12,15 @@ use Rattle.b2_access.specs.declared.accesses.Access.{Access}
 use Rattle.b2_access.specs.declared.accesses.Answer.{Answer}
 use Rattle.b2_access.specs.declared.devices.Device.{Device}
 use Rattle.b2_access.specs.declared.private.Private.{Private}
-use Rattle.b2_access.proofs.Courses.{each_course}
+use Rattle.b2_access.proofs.Dispatch.{each_dispatch}
 use Rattle.b2_access.proofs.Homes.{goes_in, goes_or_in}
 use Rattle.b2_access.proofs.OwnDevices.{at_disk_marks_none}
-use Rattle.b2_stmt_file.specs.Coming.{by_loading, by_opening, by_place, outcome_of}
+use Rattle.b2_stmt_file.specs.FileAnswers.{by_loading, by_opening, by_place, outcome_of}
 use Rattle.b2_stmt_file.specs.Loading.{loading_ends}
 use Rattle.b2_stmt_file.specs.Plan.{ends, finishes, is_refused, repeats, works}
 use Rattle.b2_stmt_file.specs.Saving as save
-use Rattle.b2_stmt_file.specs.declared.coming.Came.{Came}
-use Rattle.b2_stmt_file.specs.declared.coming.Came.TheVariants as came
+use Rattle.b2_stmt_file.specs.declared.file_answers.Came.{Came}
+use Rattle.b2_stmt_file.specs.declared.file_answers.Came.TheVariants as came
 use Rattle.b2_stmt_file.proofs.Planned.{each_ended, each_planned}
 
 module _ (among : ℕ → Bool) where
@@ -41,7 +41,7 @@ module _ (among : ℕ → Bool) where
   place_in : (x : Access) (a : Answer) (me : Private) (s : SeenLent) → Leads (ends x a me s)
   unfolding Leads
   place_in x a me s =
-      each_course is_refused (repeats me) (finishes x a me s) me s Leads tt tt
+      each_dispatch is_refused (repeats me) (finishes x a me s) me s Leads tt tt
       (λ p is u. each_ended Leads x a me s (λ t. came_in (save.came_of x a t)) (λ t. load_in x a t me s) (λ t. came_in (by_place (place_came x a))) tt u)
 
 pub plans_within : (devices : List Device) → PlansEachWithin (works devices)

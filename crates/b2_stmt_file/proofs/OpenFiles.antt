@@ -18,16 +18,16 @@ use Rattle.b2_access.specs.declared.accesses.Answer.TheVariants as answer
 use Rattle.b2_access.specs.declared.devices.Device.{Device}
 use Rattle.b2_access.specs.declared.private.Private.{Private}
 use Rattle.b2_access.proofs.Choice.{either}
-use Rattle.b2_access.proofs.Courses.{each_course}
+use Rattle.b2_access.proofs.Dispatch.{each_dispatch}
 use Rattle.b2_access.proofs.OpenFiles.{plans_keep_open}
 use Rattle.b2_access.proofs.Working.{plans_keep_files}
-use Rattle.b2_stmt_file.specs.Coming.{by_loading, by_opening, by_place, file_ends, slots_after}
+use Rattle.b2_stmt_file.specs.FileAnswers.{by_loading, by_opening, by_place, file_ends, slots_after}
 use Rattle.b2_stmt_file.specs.Loading.{loading_ends}
 use Rattle.b2_stmt_file.specs.Opening.{slot_opened}
 use Rattle.b2_stmt_file.specs.Plan.{ended_of, ends, finish, finishes, is_refused, plan, repeats, works}
 use Rattle.b2_stmt_file.specs.Saving as save
-use Rattle.b2_stmt_file.specs.declared.coming.Came.{Came}
-use Rattle.b2_stmt_file.specs.declared.coming.Came.TheVariants as came
+use Rattle.b2_stmt_file.specs.declared.file_answers.Came.{Came}
+use Rattle.b2_stmt_file.specs.declared.file_answers.Came.TheVariants as came
 use Rattle.b2_stmt_file.proofs.Planned.{each_ended}
 
 module _ (devices : List Device) (who : ℕ) where
@@ -95,7 +95,7 @@ module _ (devices : List Device) (x : Access) (a : Answer) (me : Private) (s : S
   unfolding Leaves
   after_place =
       let F : FileWorked → Type 0 = λ w. AreOpenFor devices me.part w.work.more in
-      each_course is_refused (repeats me) (finishes x a me s) me s F open_now open_now (λ p is u. statement_open u)
+      each_dispatch is_refused (repeats me) (finishes x a me s) me s F open_now open_now (λ p is u. statement_open u)
 
 pub plans_keep_open_files : PlansKeepOpenFiles plan
 plans_keep_open_files = plans_keep_open plan (λ devices. plans_keep_files (works devices))

@@ -13,8 +13,8 @@ use Rattle.b2_atom.specs.declared.rows.TheConstants as row
 use Rattle.b2_atom.specs.declared.forms.Start.TheVariants as start
 use Rattle.b2_atom.specs.declared.forms.Item.{Item}
 use Rattle.b2_atom.specs.declared.forms.Item.TheVariants.{Word, Sign, Part, Maybe, Either, Nest}
-use Rattle.b2_rows.specs.Optional.{after_maybe, maybe_part}
-use Rattle.b2_rows.specs.Rows.{is_part, tree_at, after_part, Stands, When}
+use Rattle.b2_rows.specs.Optional.{after_maybe, maybe_phrase}
+use Rattle.b2_rows.specs.Rows.{is_phrase, tree_at, after_phrase, Stands, When}
 use Rattle.b2_rows.proofs.RowsRead.{stands_of}
 use Rattle.b2_expr.specs.Answers.{◌>>=◌}
 use Rattle.b2_expr.specs.Scope.{Context}
@@ -38,13 +38,13 @@ scratched_row : row_items row.SCRATCHED_FILE ≡ scratched_items
 unfolding row_items
 scratched_row = refl
 
-pub scratched_name : (t : Text) → is_part row.SCRATCHED_FILE t ≡ true → is_part row.ALPHA (drop 1 t) ≡ true
+pub scratched_name : (t : Text) → is_phrase row.SCRATCHED_FILE t ≡ true → is_phrase row.ALPHA (drop 1 t) ≡ true
 scratched_name t ok = (stands_of row.SCRATCHED_FILE scratched_items t scratched_row ok).0.1.0
 
-pub scratched_rest : (t : Text) → is_part row.SCRATCHED_FILE t ≡ true → after_part row.SCRATCHED_FILE t ≡ drop 1 (after_part row.ALPHA (drop 1 t))
+pub scratched_rest : (t : Text) → is_phrase row.SCRATCHED_FILE t ≡ true → after_phrase row.SCRATCHED_FILE t ≡ drop 1 (after_phrase row.ALPHA (drop 1 t))
 scratched_rest t ok = (stands_of row.SCRATCHED_FILE scratched_items t scratched_row ok).2
 
-pub reuses_is : (e : Context) (addr : List ℕ) (t : Text) (name : Trees) → is_part row.SCRATCHED_FILE t ≡ true
+pub reuses_is : (e : Context) (addr : List ℕ) (t : Text) (name : Trees) → is_phrase row.SCRATCHED_FILE t ≡ true
     → reuses e addr (tree_at row.SCRATCHED_FILE t) name
     ≡ (name_given e (tree_at row.ALPHA (drop 1 t)) >>= (λ o. name_given e name >>= (λ x. Ok (access.DataNew addr (Some o) 0 x))))
 reuses_is e addr t name ok = ap (λ (u : Trees). reuses e addr u name) (stands_of row.SCRATCHED_FILE scratched_items t scratched_row ok).1
@@ -61,36 +61,36 @@ unfolding row_items
 new_row = refl
 
 abbrev pub drive_rest : Text → Text
-drive_rest t = after_part row.DRIVE_COMMA (drop 1 t)
+drive_rest t = after_phrase row.DRIVE_COMMA (drop 1 t)
 
 abbrev pub file_text : Text → Text
 file_text t = after_maybe number_sign row.SLOT (drive_rest t)
 
-pub new_drive : (t : Text) → is_part row.NEW_FILE t ≡ true → is_part row.DRIVE_COMMA (drop 1 t) ≡ true
+pub new_drive : (t : Text) → is_phrase row.NEW_FILE t ≡ true → is_phrase row.DRIVE_COMMA (drop 1 t) ≡ true
 new_drive t ok = (stands_of row.NEW_FILE new_items t new_row ok).0.1.0
 
-pub new_slot : (t : Text) → is_part row.NEW_FILE t ≡ true → maybe_part number_sign row.SLOT (drive_rest t) ≡ true
+pub new_slot : (t : Text) → is_phrase row.NEW_FILE t ≡ true → maybe_phrase number_sign row.SLOT (drive_rest t) ≡ true
 new_slot t ok = slot_stands file_items (drive_rest t) (stands_of row.NEW_FILE new_items t new_row ok).0.1.1
 
-file_stands : (t : Text) → is_part row.NEW_FILE t ≡ true → Stands file_items (file_text t)
+file_stands : (t : Text) → is_phrase row.NEW_FILE t ≡ true → Stands file_items (file_text t)
 file_stands t ok = stands_after file_items (drive_rest t) (stands_of row.NEW_FILE new_items t new_row ok).0.1.1
 
-pub scratched_here : (t : Text) → is_part row.NEW_FILE t ≡ true → starts Atoms start.AlphaInside (file_text t) ≡ true → is_part row.SCRATCHED_FILE (file_text t) ≡ true
+pub scratched_here : (t : Text) → is_phrase row.NEW_FILE t ≡ true → starts Atoms start.AlphaInside (file_text t) ≡ true → is_phrase row.SCRATCHED_FILE (file_text t) ≡ true
 scratched_here t ok is = (taken (starts Atoms start.AlphaInside (file_text t)) _ _ is (file_stands t ok)).0
 
-pub scratched_then : (t : Text) → is_part row.NEW_FILE t ≡ true → starts Atoms start.AlphaInside (file_text t) ≡ true
-    → is_part row.ALPHA (drop 1 (after_part row.SCRATCHED_FILE (file_text t))) ≡ true
+pub scratched_then : (t : Text) → is_phrase row.NEW_FILE t ≡ true → starts Atoms start.AlphaInside (file_text t) ≡ true
+    → is_phrase row.ALPHA (drop 1 (after_phrase row.SCRATCHED_FILE (file_text t))) ≡ true
 scratched_then t ok is = (taken (starts Atoms start.AlphaInside (file_text t)) _ _ is (file_stands t ok)).1.1.0
 
-pub sectors_here : (t : Text) → is_part row.NEW_FILE t ≡ true → starts Atoms start.AlphaInside (file_text t) ≡ false → is_part row.SUM (file_text t) ≡ true
+pub sectors_here : (t : Text) → is_phrase row.NEW_FILE t ≡ true → starts Atoms start.AlphaInside (file_text t) ≡ false → is_phrase row.SUM (file_text t) ≡ true
 sectors_here t ok is = (other (starts Atoms start.AlphaInside (file_text t)) _ _ is (file_stands t ok)).0
 
-pub sectors_then : (t : Text) → is_part row.NEW_FILE t ≡ true → starts Atoms start.AlphaInside (file_text t) ≡ false
-    → is_part row.ALPHA (drop 1 (after_part row.SUM (file_text t))) ≡ true
+pub sectors_then : (t : Text) → is_phrase row.NEW_FILE t ≡ true → starts Atoms start.AlphaInside (file_text t) ≡ false
+    → is_phrase row.ALPHA (drop 1 (after_phrase row.SUM (file_text t))) ≡ true
 sectors_then t ok is = (other (starts Atoms start.AlphaInside (file_text t)) _ _ is (file_stands t ok)).1.1.0
 
 abbrev named : ℕ → Text → Trees
-named n u = Put (Coded byte.comma) (In 2 (tree_at row.ALPHA (drop 1 (after_part n u))) Done)
+named n u = Put (Coded byte.comma) (In 2 (tree_at row.ALPHA (drop 1 (after_phrase n u))) Done)
 
 abbrev file_by : Text → Bool → Trees
 file_by u b = if b then In 1 (tree_at row.SCRATCHED_FILE u) (named row.SCRATCHED_FILE u) else In 0 (tree_at row.SUM u) (named row.SUM u)
@@ -98,7 +98,7 @@ file_by u b = if b then In 1 (tree_at row.SCRATCHED_FILE u) (named row.SCRATCHED
 abbrev pub file_tree : Text → Trees
 file_tree t = file_by (file_text t) (starts Atoms start.AlphaInside (file_text t))
 
-pub new_is : (d : DrivesSeen) (e : Context) (t : Text) → is_part row.NEW_FILE t ≡ true
+pub new_is : (d : DrivesSeen) (e : Context) (t : Text) → is_phrase row.NEW_FILE t ≡ true
     → asks_for_new d e (tree_at row.NEW_FILE t) ≡ (drive_used d (tree_at row.DRIVE_COMMA (drop 1 t)) >>= (λ addr. new_file e addr (file_tree t)))
 new_is d e t ok =
     ap (asks_for_new d e) (stands_of row.NEW_FILE new_items t new_row ok).1
@@ -106,14 +106,14 @@ new_is d e t ok =
     (λ (s r : Trees). drive_used d (tree_at row.DRIVE_COMMA (drop 1 t)) >>= (λ addr. new_file e addr r)) (λ n s r. refl) file_items (drive_rest t)
 
 pub new_reuses : (e : Context) (addr : List ℕ) (t : Text) → starts Atoms start.AlphaInside (file_text t) ≡ true
-    → new_file e addr (file_tree t) ≡ reuses e addr (tree_at row.SCRATCHED_FILE (file_text t)) (tree_at row.ALPHA (drop 1 (after_part row.SCRATCHED_FILE (file_text t))))
+    → new_file e addr (file_tree t) ≡ reuses e addr (tree_at row.SCRATCHED_FILE (file_text t)) (tree_at row.ALPHA (drop 1 (after_phrase row.SCRATCHED_FILE (file_text t))))
 new_reuses e addr t is = ap (λ (b : Bool). new_file e addr (file_by (file_text t) b)) is
 
 pub new_makes : (e : Context) (addr : List ℕ) (t : Text) → starts Atoms start.AlphaInside (file_text t) ≡ false
-    → new_file e addr (file_tree t) ≡ makes e addr (tree_at row.SUM (file_text t)) (tree_at row.ALPHA (drop 1 (after_part row.SUM (file_text t))))
+    → new_file e addr (file_tree t) ≡ makes e addr (tree_at row.SUM (file_text t)) (tree_at row.ALPHA (drop 1 (after_phrase row.SUM (file_text t))))
 new_makes e addr t is = ap (λ (b : Bool). new_file e addr (file_by (file_text t) b)) is
 
-pub new_opened : (t : Text) → is_part row.NEW_FILE t ≡ true → slot_opened (tree_at row.NEW_FILE t) ≡ slot_in (slot_tree (drive_rest t))
+pub new_opened : (t : Text) → is_phrase row.NEW_FILE t ≡ true → slot_opened (tree_at row.NEW_FILE t) ≡ slot_in (slot_tree (drive_rest t))
 new_opened t ok =
     ap slot_opened (stands_of row.NEW_FILE new_items t new_row ok).1
     ∙ with_slot (λ (r : Trees). slot_opened (Put (Coded word.OPEN) (In 2 (tree_at row.DRIVE_COMMA (drop 1 t)) r))) (λ (s r : Trees). slot_in s) (λ n s r. refl) file_items (drive_rest t)
@@ -126,16 +126,16 @@ old_row : row_items row.OLD_FILE ≡ old_items
 unfolding row_items
 old_row = refl
 
-pub old_drive : (t : Text) → is_part row.OLD_FILE t ≡ true → is_part row.DRIVE_COMMA (drop 1 t) ≡ true
+pub old_drive : (t : Text) → is_phrase row.OLD_FILE t ≡ true → is_phrase row.DRIVE_COMMA (drop 1 t) ≡ true
 old_drive t ok = (stands_of row.OLD_FILE old_items t old_row ok).0.1.0
 
-pub old_slot : (t : Text) → is_part row.OLD_FILE t ≡ true → maybe_part number_sign row.SLOT (drive_rest t) ≡ true
+pub old_slot : (t : Text) → is_phrase row.OLD_FILE t ≡ true → maybe_phrase number_sign row.SLOT (drive_rest t) ≡ true
 old_slot t ok = slot_stands (Part row.ALPHA ∷ []) (drive_rest t) (stands_of row.OLD_FILE old_items t old_row ok).0.1.1
 
-pub old_name : (t : Text) → is_part row.OLD_FILE t ≡ true → is_part row.ALPHA (file_text t) ≡ true
+pub old_name : (t : Text) → is_phrase row.OLD_FILE t ≡ true → is_phrase row.ALPHA (file_text t) ≡ true
 old_name t ok = (stands_after (Part row.ALPHA ∷ []) (drive_rest t) (stands_of row.OLD_FILE old_items t old_row ok).0.1.1).0
 
-pub old_is : (d : DrivesSeen) (e : Context) (t : Text) → is_part row.OLD_FILE t ≡ true
+pub old_is : (d : DrivesSeen) (e : Context) (t : Text) → is_phrase row.OLD_FILE t ≡ true
     → asks_for_old d e (tree_at row.OLD_FILE t)
     ≡ (drive_used d (tree_at row.DRIVE_COMMA (drop 1 t)) >>= (λ addr. name_given e (tree_at row.ALPHA (file_text t)) >>= (λ x. Ok (access.DataOpen addr x))))
 old_is d e t ok =
@@ -143,7 +143,7 @@ old_is d e t ok =
     ∙ with_slot (λ (r : Trees). asks_for_old d e (Put (Coded word.OPEN) (In 2 (tree_at row.DRIVE_COMMA (drop 1 t)) r)))
     (λ (s r : Trees). drive_used d (tree_at row.DRIVE_COMMA (drop 1 t)) >>= (λ addr. old_file e addr r)) (λ n s r. refl) (Part row.ALPHA ∷ []) (drive_rest t)
 
-pub old_opened : (t : Text) → is_part row.OLD_FILE t ≡ true → slot_opened (tree_at row.OLD_FILE t) ≡ slot_in (slot_tree (drive_rest t))
+pub old_opened : (t : Text) → is_phrase row.OLD_FILE t ≡ true → slot_opened (tree_at row.OLD_FILE t) ≡ slot_in (slot_tree (drive_rest t))
 old_opened t ok =
     ap slot_opened (stands_of row.OLD_FILE old_items t old_row ok).1
     ∙ with_slot (λ (r : Trees). slot_opened (Put (Coded word.OPEN) (In 2 (tree_at row.DRIVE_COMMA (drop 1 t)) r))) (λ (s r : Trees). slot_in s) (λ n s r. refl) (Part row.ALPHA ∷ []) (drive_rest t)

@@ -19,8 +19,8 @@ use Rattle.b2_expr.specs.declared.operators.Level.TheVariants as level
 use Rattle.b2_access.specs.Devices.{is_platter_for}
 use Rattle.b2_flow.specs.declared.frame.Place.{Place}
 use Rattle.b2_rows.specs.declared.following.Goal.{Goal}
-use Rattle.b2_access.specs.Courses.{here}
-use Rattle.b2_access.specs.Going.{to_goal}
+use Rattle.b2_access.specs.Dispatch.{here}
+use Rattle.b2_access.specs.Jumps.{to_goal}
 use Rattle.b2_access.specs.Lending.{SeenLent}
 use Rattle.b2_access.specs.OwnDevices.{IsAtDisk}
 use Rattle.b2_access.specs.Partition.{setting_of}
@@ -37,18 +37,18 @@ use Rattle.b2_access.specs.declared.planned.Planned.{Planned}
 use Rattle.b2_access.specs.declared.planned.Planned.TheVariants as planned
 use Rattle.b2_access.specs.declared.private.Private.{Private}
 use Rattle.b2_access.proofs.Choice.{either}
-use Rattle.b2_access.proofs.Courses.{each_course}
+use Rattle.b2_access.proofs.Dispatch.{each_dispatch}
 use Rattle.b2_drive.specs.Asking.{asks_or_fails}
 use Rattle.b2_drive.specs.Drives.{DrivesSeen, drive_used, drives_of, platter_used}
 use Rattle.b2_drive.specs.FileNames.{name_given}
 use Rattle.b2_drive.proofs.Asked as asked
-use Rattle.b2_stmt_file.specs.Coming.{by_place, file_ends}
+use Rattle.b2_stmt_file.specs.FileAnswers.{by_place, file_ends}
 use Rattle.b2_stmt_file.specs.Counts.{count_from, count_given}
 use Rattle.b2_stmt_file.specs.LoadedValues.{all_kinds}
 use Rattle.b2_stmt_file.specs.Ending.{end_goal}
 use Rattle.b2_stmt_file.specs.Loading.{asks_to_load, loading_ends, loads_in}
 use Rattle.b2_stmt_file.specs.Opening.{asks_for_new, asks_for_old, makes, new_file, old_file, reuses}
-use Rattle.b2_stmt_file.specs.Plan.{asked_of, course_of, does, ended_of, is_refused, works}
+use Rattle.b2_stmt_file.specs.Plan.{asked_of, dispatch_of, does, ended_of, is_refused, works}
 use Rattle.b2_stmt_file.specs.Saving.{asks_to_save, saved, saves_in, saving_ends}
 use Rattle.b2_stmt_file.specs.Skipping.{asks_to_skip, back, forward, slot_skipped}
 use Rattle.b2_stmt_file.specs.Slots.{file_held, file_listed, file_used, slot_in}
@@ -223,7 +223,7 @@ module _ (devices : List Device) (me : Private) (s : SeenLent) (F : Planned → 
   Each : Working → Type 0
   Each k = F (planned_of k)
 
-  each_statement : (p : Place) → me.place ≡ Some p → (u : Statement) → Each (course_of devices u (here p me s) me s)
+  each_statement : (p : Place) → me.place ≡ Some p → (u : Statement) → Each (dispatch_of devices u (here p me s) me s)
   unfolding Each
   each_statement p is u =
       either Each (u.row == row.IF_END) _ _ (leads p (end_goal me.at_end p.unit (here p me s).units u.tree) is)
@@ -231,7 +231,7 @@ module _ (devices : List Device) (me : Private) (s : SeenLent) (F : Planned → 
 
   pub each_saving_planned : F (planned_of (works devices me s))
   unfolding Each
-  each_saving_planned = each_course is_refused stops (does devices me s) me s Each ready (failed S26_PROGRAM_ONLY) (λ p is u. each_statement p is u)
+  each_saving_planned = each_dispatch is_refused stops (does devices me s) me s Each ready (failed S26_PROGRAM_ONLY) (λ p is u. each_statement p is u)
 
 -- whatever is saved
 pub each_planned : (devices : List Device) (me : Private) (s : SeenLent) (F : Planned → Type 0) → F (planned.Done outcome.Ready)

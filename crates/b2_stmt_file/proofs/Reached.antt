@@ -28,14 +28,14 @@ use Rattle.b2_access.specs.declared.accesses.Answer.{Answer}
 use Rattle.b2_access.specs.declared.devices.Device.{Device}
 use Rattle.b2_access.specs.declared.private.Private.{Private}
 use Rattle.b2_access.proofs.Choice.{either}
-use Rattle.b2_access.proofs.Courses.{each_course}
-use Rattle.b2_stmt_file.specs.Coming.{by_loading, values_in}
+use Rattle.b2_access.proofs.Dispatch.{each_dispatch}
+use Rattle.b2_stmt_file.specs.FileAnswers.{by_loading, values_in}
 use Rattle.b2_stmt_file.specs.Elements.{array_variables, receiver_of}
 use Rattle.b2_stmt_file.specs.LoadedValues.{Taken, each_takes, elements_take, item_located, item_takes, none_taken, shaped_takes, taken_by, takes_at, takes_next, takes_to, takes_value, then_takes, unless_ended}
 use Rattle.b2_stmt_file.specs.Loading.{globals_told, items_loaded, load_ends, loading_ends, takes_by}
 use Rattle.b2_stmt_file.specs.Plan.{does, ends, finishes, is_refused, repeats, works}
-use Rattle.b2_stmt_file.specs.declared.coming.Came.{Came}
-use Rattle.b2_stmt_file.specs.declared.coming.Came.TheVariants as came
+use Rattle.b2_stmt_file.specs.declared.file_answers.Came.{Came}
+use Rattle.b2_stmt_file.specs.declared.file_answers.Came.TheVariants as came
 use Rattle.b2_stmt_file.specs.declared.loaded_values.Item.{Item}
 use Rattle.b2_stmt_file.specs.declared.loaded_values.Item.TheVariants as item
 use Rattle.b2_stmt_file.proofs.Planned.{each_ended}
@@ -108,9 +108,9 @@ loading_tells x a (Put word (Put dc (In k operands end))) me s =
 pub plans_reach : (devices : List Device) → PlansEachReach (works devices)
 plans_reach devices me s =
     let F : Working → Type 0 = λ k. MayBecome s.globals (globals_after (told_of_globals k) s.globals) in
-    each_course is_refused stops (does devices me s) me s F (stay s.globals) (stay s.globals) (λ p is u. either F (u.row == row.IF_END) _ _ (stay s.globals) (stay s.globals))
+    each_dispatch is_refused stops (does devices me s) me s F (stay s.globals) (stay s.globals) (λ p is u. either F (u.row == row.IF_END) _ _ (stay s.globals) (stay s.globals))
 
 pub finishes_reach : EachReaches on_files ends
 finishes_reach x a me s =
-    each_course is_refused (repeats me) (finishes x a me s) me s (Tells s.globals) (stay s.globals) (stay s.globals) (λ p is u.
+    each_dispatch is_refused (repeats me) (finishes x a me s) me s (Tells s.globals) (stay s.globals) (stay s.globals) (λ p is u.
     each_ended (Tells s.globals) x a me s (λ t. stay s.globals) (λ t. loading_tells x a t me s) (λ t. stay s.globals) (stay s.globals) u)

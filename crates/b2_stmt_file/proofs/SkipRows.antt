@@ -16,8 +16,8 @@ use Rattle.b2_atom.specs.declared.forms.Start.{Start}
 use Rattle.b2_atom.specs.declared.forms.Start.TheVariants as start
 use Rattle.b2_atom.specs.declared.forms.Item.{Item}
 use Rattle.b2_atom.specs.declared.forms.Item.TheVariants.{Word, Maybe, Either}
-use Rattle.b2_rows.specs.Optional.{after_maybe, maybe_part}
-use Rattle.b2_rows.specs.Rows.{is_part, tree_at, When}
+use Rattle.b2_rows.specs.Optional.{after_maybe, maybe_phrase}
+use Rattle.b2_rows.specs.Rows.{is_phrase, tree_at, When}
 use Rattle.b2_rows.proofs.RowsRead.{stands_of}
 use Rattle.b2_expr.specs.Answers.{◌>>=◌}
 use Rattle.b2_expr.specs.Scope.{Context}
@@ -54,15 +54,15 @@ end_starts t b is = is
 abbrev pub skip_operand : Text → Trees
 skip_operand t = branches row.END (operand_text t) (starts Atoms (start.Code word.END) (operand_text t))
 
-pub skip_slot : (t : Text) → is_part row.DSKIP t ≡ true → maybe_part number_sign row.SLOT (drop 1 t) ≡ true
+pub skip_slot : (t : Text) → is_phrase row.DSKIP t ≡ true → maybe_phrase number_sign row.SLOT (drop 1 t) ≡ true
 skip_slot t ok = slot_stands (Either (start.Code word.END) row.END row.SUM ∷ []) (drop 1 t) (stands_of row.DSKIP skip_items t skip_row ok).0.1
 
-pub skip_count : (t : Text) → is_part row.DSKIP t ≡ true → (first (operand_text t) == word.END) ≡ false → is_part row.SUM (operand_text t) ≡ true
+pub skip_count : (t : Text) → is_phrase row.DSKIP t ≡ true → (first (operand_text t) == word.END) ≡ false → is_phrase row.SUM (operand_text t) ≡ true
 skip_count t ok is =
     (other (starts Atoms (start.Code word.END) (operand_text t)) _ _ (end_starts (operand_text t) false is)
     (stands_after (Either (start.Code word.END) row.END row.SUM ∷ []) (drop 1 t) (stands_of row.DSKIP skip_items t skip_row ok).0.1)).0
 
-pub skip_is : (d : DrivesSeen) (slots : List (Option Slot)) (e : Context) (t : Text) → is_part row.DSKIP t ≡ true
+pub skip_is : (d : DrivesSeen) (slots : List (Option Slot)) (e : Context) (t : Text) → is_phrase row.DSKIP t ≡ true
     → asks_to_skip forward d slots e (tree_at row.DSKIP t)
     ≡ (file_used d slots (slot_in (slot_tree (drop 1 t))) >>= (λ file. forward e (skip_operand t) >>= (λ w. Ok (access.Skip file w))))
 skip_is d slots e t ok =
@@ -77,7 +77,7 @@ pub skip_over : (e : Context) (t : Text) → (first (operand_text t) == word.END
     → forward e (skip_operand t) ≡ (count_given 1 e (tree_at row.SUM (operand_text t)) >>= (λ n. Ok (by.Forward n)))
 skip_over e t is = ap (λ (b : Bool). forward e (branches row.END (operand_text t) b)) (end_starts (operand_text t) false is)
 
-pub skip_skipped : (t : Text) → is_part row.DSKIP t ≡ true → slot_skipped (tree_at row.DSKIP t) ≡ slot_in (slot_tree (drop 1 t))
+pub skip_skipped : (t : Text) → is_phrase row.DSKIP t ≡ true → slot_skipped (tree_at row.DSKIP t) ≡ slot_in (slot_tree (drop 1 t))
 skip_skipped t ok =
     ap slot_skipped (stands_of row.DSKIP skip_items t skip_row ok).1
     ∙ with_slot (λ (r : Trees). slot_skipped (Put (Coded word.DSKIP) r)) (λ (s r : Trees). slot_in s) (λ n s r. refl) (Either (start.Code word.END) row.END row.SUM ∷ []) (drop 1 t)
@@ -96,14 +96,14 @@ back_row = refl
 abbrev pub back_operand : Text → Trees
 back_operand t = branches row.BEG (operand_text t) (starts Atoms letters (operand_text t))
 
-pub back_slot : (t : Text) → is_part row.DBACKSPACE t ≡ true → maybe_part number_sign row.SLOT (drop 1 t) ≡ true
+pub back_slot : (t : Text) → is_phrase row.DBACKSPACE t ≡ true → maybe_phrase number_sign row.SLOT (drop 1 t) ≡ true
 back_slot t ok = slot_stands (Either letters row.BEG row.SUM ∷ []) (drop 1 t) (stands_of row.DBACKSPACE back_items t back_row ok).0.1
 
-pub back_count : (t : Text) → is_part row.DBACKSPACE t ≡ true → starts Atoms letters (operand_text t) ≡ false → is_part row.SUM (operand_text t) ≡ true
+pub back_count : (t : Text) → is_phrase row.DBACKSPACE t ≡ true → starts Atoms letters (operand_text t) ≡ false → is_phrase row.SUM (operand_text t) ≡ true
 back_count t ok is =
     (other (starts Atoms letters (operand_text t)) _ _ is (stands_after (Either letters row.BEG row.SUM ∷ []) (drop 1 t) (stands_of row.DBACKSPACE back_items t back_row ok).0.1)).0
 
-pub back_is : (d : DrivesSeen) (slots : List (Option Slot)) (e : Context) (t : Text) → is_part row.DBACKSPACE t ≡ true
+pub back_is : (d : DrivesSeen) (slots : List (Option Slot)) (e : Context) (t : Text) → is_phrase row.DBACKSPACE t ≡ true
     → asks_to_skip back d slots e (tree_at row.DBACKSPACE t)
     ≡ (file_used d slots (slot_in (slot_tree (drop 1 t))) >>= (λ file. back e (back_operand t) >>= (λ w. Ok (access.Skip file w))))
 back_is d slots e t ok =
@@ -118,7 +118,7 @@ pub back_over : (e : Context) (t : Text) → starts Atoms letters (operand_text 
     → back e (back_operand t) ≡ (count_given 1 e (tree_at row.SUM (operand_text t)) >>= (λ n. Ok (by.Back n)))
 back_over e t is = ap (λ (b : Bool). back e (branches row.BEG (operand_text t) b)) is
 
-pub back_skipped : (t : Text) → is_part row.DBACKSPACE t ≡ true → slot_skipped (tree_at row.DBACKSPACE t) ≡ slot_in (slot_tree (drop 1 t))
+pub back_skipped : (t : Text) → is_phrase row.DBACKSPACE t ≡ true → slot_skipped (tree_at row.DBACKSPACE t) ≡ slot_in (slot_tree (drop 1 t))
 back_skipped t ok =
     ap slot_skipped (stands_of row.DBACKSPACE back_items t back_row ok).1
     ∙ with_slot (λ (r : Trees). slot_skipped (Put (Coded word.DBACKSPACE) r)) (λ (s r : Trees). slot_in s) (λ n s r. refl) (Either letters row.BEG row.SUM ∷ []) (drop 1 t)

@@ -12,15 +12,15 @@ use Rattle.b2_access.specs.declared.accesses.Access.{Access}
 use Rattle.b2_access.specs.declared.accesses.Answer.{Answer}
 use Rattle.b2_access.specs.declared.private.Private.{Private}
 use Rattle.b2_access.proofs.Choice.{either}
-use Rattle.b2_access.proofs.Courses.{each_course}
+use Rattle.b2_access.proofs.Dispatch.{each_dispatch}
 use Rattle.b2_access.proofs.Delays.{loading_delayed, opening_delayed, place_delayed}
-use Rattle.b2_stmt_file.specs.Coming.{by_loading, by_opening, by_place, file_ends, values_in}
+use Rattle.b2_stmt_file.specs.FileAnswers.{by_loading, by_opening, by_place, file_ends, values_in}
 use Rattle.b2_stmt_file.specs.Loading.{load_ends, loading_ends}
 use Rattle.b2_stmt_file.specs.Opening.{slot_opened}
 use Rattle.b2_stmt_file.specs.Plan.{ended_of, ends, finishes, is_refused, repeats}
 use Rattle.b2_stmt_file.specs.Saving as save
-use Rattle.b2_stmt_file.specs.declared.coming.Came.{Came}
-use Rattle.b2_stmt_file.specs.declared.coming.Came.TheVariants as came
+use Rattle.b2_stmt_file.specs.declared.file_answers.Came.{Came}
+use Rattle.b2_stmt_file.specs.declared.file_answers.Came.TheVariants as came
 use Rattle.b2_stmt_file.proofs.Planned.{each_ended}
 
 -- it is asked for again
@@ -66,4 +66,4 @@ after_statement u x a me s h =
 pub after_place : (x : Access) (a : Answer) (me : Private) (s : SeenLent) → delays a ≡ true → (ends x a me s).work ≡ on_files.unchanged me
 after_place x a me s h =
     let F : FileWorked → Type 0 = λ w. w.work ≡ on_files.unchanged me in
-    each_course is_refused (repeats me) (finishes x a me s) me s F refl refl (λ p is u. after_statement u x a me s h)
+    each_dispatch is_refused (repeats me) (finishes x a me s) me s F refl refl (λ p is u. after_statement u x a me s h)

@@ -8,8 +8,8 @@ use Rattle.b2_rows.specs.LineNumbers.{line_in}
 use Rattle.b2_rows.specs.declared.following.Goal.{Goal}
 use Rattle.b2_rows.specs.declared.following.Goal.TheVariants as goal
 use Rattle.b2_text.specs.Program.{Lines}
-use Rattle.b2_access.specs.Courses.{Here}
-use Rattle.b2_access.specs.Going.{to_goal}
+use Rattle.b2_access.specs.Dispatch.{Here}
+use Rattle.b2_access.specs.Jumps.{to_goal}
 use Rattle.b2_access.specs.declared.planned.Outcome.{Outcome}
 
 abbrev pub end_goal : Bool → ℕ → List TreeUnit → Trees → Goal

@@ -4,7 +4,7 @@ pub mod Counts
 pub mod Elements
 pub mod SavedValues
 pub mod LoadedValues
-pub mod Coming
+pub mod FileAnswers
 pub mod Opening
 pub mod Skipping
 pub mod Saving

@@ -10,7 +10,7 @@ use Rattle.b2_atom.specs.Tree.{also}
 use Rattle.b2_atom.specs.Words.{Text}
 use Rattle.b2_atom.specs.declared.rows.TheConstants as row
 use Rattle.b2_rows.specs.CommaLists.{commas, further_listed}
-use Rattle.b2_rows.specs.Rows.{after_part, list_at, tree_at}
+use Rattle.b2_rows.specs.Rows.{after_phrase, list_at, tree_at}
 use Rattle.b2_vars.specs.declared.name.Var.{Var}
 use Rattle.b2_vars.specs.declared.shape.Shape.{Shape}
 use Rattle.b2_vars.specs.Shapes.{cells}
@@ -135,4 +135,4 @@ abbrev pub other_items : Text → List Trees
 other_items t = further_listed (also (list_at commas row.COMMA_LOADED t) Done)
 
 abbrev pub items_at : Text → List Trees
-items_at t = tree_at row.LOADED t ∷ other_items (after_part row.LOADED t)
+items_at t = tree_at row.LOADED t ∷ other_items (after_phrase row.LOADED t)

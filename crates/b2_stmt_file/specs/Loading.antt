@@ -22,12 +22,12 @@ use Rattle.b2_access.specs.declared.accesses.Answer.{Answer}
 use Rattle.b2_access.specs.declared.planned.Outcome.TheVariants as outcome
 use Rattle.b2_access.specs.declared.private.Private.{Private}
 use Rattle.b2_drive.specs.Drives.{DrivesSeen}
-use Rattle.b2_stmt_file.specs.Coming.{by_loading, by_opening, end_after, file_ends, outcome_of, slots_after, values_in}
+use Rattle.b2_stmt_file.specs.FileAnswers.{by_loading, by_opening, end_after, file_ends, outcome_of, slots_after, values_in}
 use Rattle.b2_stmt_file.specs.LoadedValues.{all_kinds, all_take}
 use Rattle.b2_stmt_file.specs.Opening.{asks_for_old, slot_opened}
 use Rattle.b2_stmt_file.specs.Slots.{file_used, slot_in}
-use Rattle.b2_stmt_file.specs.declared.coming.Came.{Came}
-use Rattle.b2_stmt_file.specs.declared.coming.Came.TheVariants as came
+use Rattle.b2_stmt_file.specs.declared.file_answers.Came.{Came}
+use Rattle.b2_stmt_file.specs.declared.file_answers.Came.TheVariants as came
 
 -- what stands after the two words
 abbrev pub operands_text : Text → Text

@@ -8,7 +8,7 @@ use Rattle.b2_expr.specs.Scope.{Context}
 use Rattle.b2_expr.specs.Value.{context_of}
 use Rattle.b2_expr.specs.Workspace.{work_in}
 use Rattle.b2_text.specs.Program.{Lines}
-use Rattle.b2_access.specs.Courses.{Here, course}
+use Rattle.b2_access.specs.Dispatch.{Here, dispatch}
 use Rattle.b2_access.specs.Lending.{SeenLent}
 use Rattle.b2_access.specs.Partition.{setting_of}
 use Rattle.b2_access.specs.Placed.{Statement}
@@ -23,7 +23,7 @@ use Rattle.b2_access.specs.declared.planned.Outcome.TheVariants as outcome
 use Rattle.b2_access.specs.declared.private.Private.{Private}
 use Rattle.b2_drive.specs.Asking.{asks_or_fails}
 use Rattle.b2_drive.specs.Drives.{DrivesSeen, drives_by, platters_for}
-use Rattle.b2_stmt_file.specs.Coming.{by_place, file_ends}
+use Rattle.b2_stmt_file.specs.FileAnswers.{by_place, file_ends}
 use Rattle.b2_stmt_file.specs.Ending.{if_end}
 use Rattle.b2_stmt_file.specs.Loading.{asks_to_load, loading_ends}
 use Rattle.b2_stmt_file.specs.Saving.{asks_to_save, saving_ends}
@@ -54,11 +54,11 @@ asking devices me s None = stops outcome.Ready
 asking devices me s (Some u) = asks_for devices u me s
 
 -- IF END ends at once; the others ask for an access
-abbrev pub course_by : (List ℕ → Bool) → Statement → Here → Private → SeenLent → Working
-course_by listed u h me s = if u.row == row.IF_END then stops (if_end me.at_end h s.home.lines u.tree) else asks_by listed u me s
+abbrev pub dispatch_by : (List ℕ → Bool) → Statement → Here → Private → SeenLent → Working
+dispatch_by listed u h me s = if u.row == row.IF_END then stops (if_end me.at_end h s.home.lines u.tree) else asks_by listed u me s
 
-abbrev pub course_of : List Device → Statement → Here → Private → SeenLent → Working
-course_of devices u h me s = course_by (platters_for me.part devices) u h me s
+abbrev pub dispatch_of : List Device → Statement → Here → Private → SeenLent → Working
+dispatch_of devices u h me s = dispatch_by (platters_for me.part devices) u h me s
 
 -- how IF END ends where it stands
 abbrev pub ended_there : Bool → Option Statement → Here → Lines → Option Outcome
@@ -66,18 +66,18 @@ ended_there at_end None h lines = None
 ended_there at_end (Some u) h lines = if u.row == row.IF_END then Some (if_end at_end h lines u.tree) else None
 
 abbrev pub does_by : (List ℕ → Bool) → Private → SeenLent → Statement → Here → Working
-does_by listed me s u h = course_by listed u h me s
+does_by listed me s u h = dispatch_by listed u h me s
 
 -- what the statement at a partition's place plans, by the platters that are listed for it
 abbrev pub works_by : (List ℕ → Bool) → Private → SeenLent → Working
-works_by listed me s = course is_refused stops (does_by listed me s) me.place me s
+works_by listed me s = dispatch is_refused stops (does_by listed me s) me.place me s
 
 abbrev pub plan_by : (List ℕ → Bool) → Private → SeenLent → Planning
 plan_by listed me s = plans_by (works_by listed) me s
 
 -- and so over the devices that there are
 abbrev pub does : List Device → Private → SeenLent → Statement → Here → Working
-does devices me s u h = course_of devices u h me s
+does devices me s u h = dispatch_of devices u h me s
 
 abbrev pub works : List Device → Private → SeenLent → Working
 works devices me s = works_by (platters_for me.part devices) me s
@@ -102,7 +102,7 @@ repeats me o = leaves_in on_files me outcome.Repeat
 
 -- how the statement at a partition's place finishes
 abbrev pub ends : Access → Answer → Private → SeenLent → FileWorked
-ends x a me s = course is_refused (repeats me) (finishes x a me s) me.place me s
+ends x a me s = dispatch is_refused (repeats me) (finishes x a me s) me.place me s
 
 abbrev pub finish : Access → Answer → Private → SeenLent → Finishing
 finish x a me s = finishes_in on_files ends x a me s

@@ -11,7 +11,7 @@ use Rattle.b2_atom.specs.Tree.Trees.{Done, In}
 use Rattle.b2_atom.specs.Words.{Text}
 use Rattle.b2_atom.specs.declared.rows.TheConstants as row
 use Rattle.b2_rows.specs.CommaLists.{commas, further_listed}
-use Rattle.b2_rows.specs.Rows.{after_part, list_at, tree_at}
+use Rattle.b2_rows.specs.Rows.{after_phrase, list_at, tree_at}
 use Rattle.b2_expr.specs.Answers.{◌>>=◌}
 use Rattle.b2_expr.specs.Scope.{Context}
 use Rattle.b2_expr.specs.Value.{text, value}
@@ -48,7 +48,7 @@ abbrev pub other_items : Text → List Trees
 other_items t = further_listed (also (list_at commas row.COMMA_SAVED t) Done)
 
 abbrev pub items_at : Text → List Trees
-items_at t = tree_at row.SAVED t ∷ other_items (after_part row.SAVED t)
+items_at t = tree_at row.SAVED t ∷ other_items (after_phrase row.SAVED t)
 
 -- values before others, or the code in the place of those
 abbrev pub values_before : {A : Type 0} → List A → Result (List A) ℕ → Result (List A) ℕ

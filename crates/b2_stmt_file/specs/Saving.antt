@@ -21,12 +21,12 @@ use Rattle.b2_access.specs.declared.accesses.Access.TheVariants as access
 use Rattle.b2_access.specs.declared.accesses.Answer.{Answer}
 use Rattle.b2_access.specs.declared.private.Private.{Private}
 use Rattle.b2_drive.specs.Drives.{DrivesSeen}
-use Rattle.b2_stmt_file.specs.Coming.{by_opening, by_place, file_ends}
+use Rattle.b2_stmt_file.specs.FileAnswers.{by_opening, by_place, file_ends}
 use Rattle.b2_stmt_file.specs.Opening.{asks_for_new, slot_opened}
 use Rattle.b2_stmt_file.specs.SavedValues.{all_saved}
 use Rattle.b2_stmt_file.specs.Slots.{file_used, slot_in}
-use Rattle.b2_stmt_file.specs.declared.coming.Came.{Came}
-use Rattle.b2_stmt_file.specs.declared.coming.Came.TheVariants as came
+use Rattle.b2_stmt_file.specs.declared.file_answers.Came.{Came}
+use Rattle.b2_stmt_file.specs.declared.file_answers.Came.TheVariants as came
 
 -- the end mark, or a record
 abbrev pub saved : Context → Slot → Trees → Result Access ℕ

@@ -2,8 +2,8 @@
 ghost use Rattle.std.specs.Prelude.{◌≡◌, true};
 ghost use Rattle.b2_atom.specs.declared.rows.TheConstants as row;
 ghost use Rattle.b2_rows.specs.Following.{after_false, tree_units};
-ghost use Rattle.b2_rows.specs.Rows.{is_part, tree_at};
-ghost use Rattle.b2_access.specs.Courses.{units_on};
+ghost use Rattle.b2_rows.specs.Rows.{is_phrase, tree_at};
+ghost use Rattle.b2_access.specs.Dispatch.{units_on};
 ghost use Rattle.b2_access.specs.Placed.{line_named};
 ghost use Rattle.b2_access.specs.Places.{IsUnit};
 ghost use Rattle.b2_stmt_file.specs.Ending as spec;
@@ -47,7 +47,7 @@ fn end_goal(
     at_end: bool,
     unit: &[u8],
 ) -> Goal
-    requires part { is_part row.IF_END unit.now ≡ true }
+    requires phrase { is_phrase row.IF_END unit.now ≡ true }
     ensures goal { result ≡ spec.end_goal at_end k (units_on (line_named immediate.now home.now.lines n)) (tree_at row.IF_END unit.now) }
     ensures unit { IsUnit result }
 {
@@ -66,7 +66,7 @@ pub fn if_end(
     at_end: bool,
     unit: &[u8],
 ) -> Outcome
-    requires part { is_part row.IF_END unit.now ≡ true }
+    requires phrase { is_phrase row.IF_END unit.now ≡ true }
     ensures { result ≡ spec.if_end at_end (record { place = place.now; units = units_on (line_named immediate.now home.now.lines place.now.line) }) home.now.lines (tree_at row.IF_END unit.now) }
 {
     let goal = end_goal(immediate, home, place.line, place.unit, at_end, unit);

@@ -13,9 +13,9 @@
 #![tactic(auto)]
 
 mod asking;
-mod coming;
 mod elements;
 mod ending;
+mod file_answers;
 pub mod laws;
 mod loaded_values;
 mod loading;

@@ -2,7 +2,7 @@
 ghost use Rattle.std.specs.Prelude.{◌≡◌, ◌<◌, true, replicate, IfOk, MatchResult, Ok, Err};
 ghost use Rattle.b2_atom.specs.declared.rows.TheConstants as row;
 ghost use Rattle.b2_rows.specs.CommaLists.{commas};
-ghost use Rattle.b2_rows.specs.Rows.{after_part, is_list, is_part, tree_at};
+ghost use Rattle.b2_rows.specs.Rows.{after_phrase, is_list, is_phrase, tree_at};
 ghost use Rattle.b2_vars.specs.Shapes.{cells};
 ghost use Rattle.b2_expr.specs.Scope.{surroundings};
 ghost use Rattle.b2_expr.specs.Value.{in_statement};
@@ -55,8 +55,8 @@ fn put_kinds(kind: Kind, n: usize, into: &mut Vec<Kind>) -> Result<(), Fault>
 
 /// Puts the kinds of the elements of the whole array at a text after others, and gives what stands after it.
 fn put_array<'a>(e: &Env<'_>, text: &'a [u8], into: &mut Vec<Kind>) -> Result<&'a [u8], Fault>
-    requires part { is_part row.WHOLE_ARRAY text.now ≡ true }
-    ensures { PutsItem (spec.array_kinds (surroundings e.now) (tree_at row.WHOLE_ARRAY text.now)) (after_part row.WHOLE_ARRAY text.now) into.old.items into.new.items result }
+    requires phrase { is_phrase row.WHOLE_ARRAY text.now ≡ true }
+    ensures { PutsItem (spec.array_kinds (surroundings e.now) (tree_at row.WHOLE_ARRAY text.now)) (after_phrase row.WHOLE_ARRAY text.now) into.old.items into.new.items result }
 {
     let mut c = Cursor::over(text);
     let array = match whole_array(&mut c, e) {
@@ -80,7 +80,7 @@ fn put_array<'a>(e: &Env<'_>, text: &'a [u8], into: &mut Vec<Kind>) -> Result<&'
 /// The kind of the receiver at a text.
 #[tactic(auto, using(crate::proofs::LoadedRows::alpha_kind, crate::proofs::LoadedRows::number_kind))]
 fn kind_at(text: &[u8]) -> Kind
-    requires part { is_part row.RECEIVER text.now ≡ true }
+    requires phrase { is_phrase row.RECEIVER text.now ≡ true }
     ensures { result ≡ spec.receiver_kind (tree_at row.RECEIVER text.now) }
 {
     if is_alpha_at(text) {
@@ -92,8 +92,8 @@ fn kind_at(text: &[u8]) -> Kind
 
 /// Puts the kind of the receiver at a text after others, and gives what stands after it.
 fn put_receiver<'a>(text: &'a [u8], into: &mut Vec<Kind>) -> Result<&'a [u8], Fault>
-    requires part { is_part row.RECEIVER text.now ≡ true }
-    ensures { PutsItem (spec.one_kind (tree_at row.RECEIVER text.now)) (after_part row.RECEIVER text.now) into.old.items into.new.items result }
+    requires phrase { is_phrase row.RECEIVER text.now ≡ true }
+    ensures { PutsItem (spec.one_kind (tree_at row.RECEIVER text.now)) (after_phrase row.RECEIVER text.now) into.old.items into.new.items result }
 {
     match into.push(kind_at(text)) {
         Ok(()) => Ok(past_any_receiver(text)),
@@ -104,8 +104,8 @@ fn put_receiver<'a>(text: &'a [u8], into: &mut Vec<Kind>) -> Result<&'a [u8], Fa
 /// Puts the kinds of the item at a text after others, and gives what stands after it.
 #[tactic(auto, using(crate::proofs::LoadedRows::array_here, crate::proofs::LoadedRows::array_kinds_are, crate::proofs::LoadedRows::array_rest, crate::proofs::LoadedRows::receiver_here, crate::proofs::LoadedRows::receiver_kind_is, crate::proofs::LoadedRows::receiver_rest))]
 fn put_item<'a>(e: &Env<'_>, text: &'a [u8], into: &mut Vec<Kind>) -> Result<&'a [u8], Fault>
-    requires part { is_part row.LOADED text.now ≡ true }
-    ensures { PutsItem (spec.item_kinds (surroundings e.now) (tree_at row.LOADED text.now)) (after_part row.LOADED text.now) into.old.items into.new.items result }
+    requires phrase { is_phrase row.LOADED text.now ≡ true }
+    ensures { PutsItem (spec.item_kinds (surroundings e.now) (tree_at row.LOADED text.now)) (after_phrase row.LOADED text.now) into.old.items into.new.items result }
 {
     if is_array_at(text) {
         put_array(e, text, into)
@@ -117,8 +117,8 @@ fn put_item<'a>(e: &Env<'_>, text: &'a [u8], into: &mut Vec<Kind>) -> Result<&'a
 /// The kinds of the receivers at a text, from left to right, or the first code.
 #[tactic(auto, using(crate::proofs::LoadedRows::other_part, crate::proofs::LoadedRows::other_list, crate::proofs::LoadedRows::loaded_shorter, crate::proofs::LoadedRows::one_put, crate::proofs::LoadedRows::last_put, crate::proofs::LoadedRows::refused))]
 pub fn kinds_at(alloc: Global, e: &Env<'_>, text: &[u8]) -> Result<KindList, Fault>
-    requires part { is_part row.LOADED text.now ≡ true }
-    requires list { is_list commas row.COMMA_LOADED (after_part row.LOADED text.now) ≡ true }
+    requires phrase { is_phrase row.LOADED text.now ≡ true }
+    requires list { is_list commas row.COMMA_LOADED (after_phrase row.LOADED text.now) ≡ true }
     ensures { GivesValues (spec.all_kinds (surroundings e.now) (spec.items_at text.now)) result }
 {
     let mut kinds = Vec::new(alloc);
@@ -207,9 +207,9 @@ fn take_elements(
 
 /// What takes values at a text, among the variables as they are, and what stands after it.
 #[tactic(auto, using(crate::proofs::LoadedRows::array_here, crate::proofs::LoadedRows::array_located, crate::proofs::LoadedRows::array_rest, crate::proofs::LoadedRows::receiver_here, crate::proofs::LoadedRows::receiver_located, crate::proofs::LoadedRows::receiver_rest))]
-fn item_at<'a>(e: &Env<'_>, text: &'a [u8]) -> Result<(Item, &'a [u8]), Code>
-    requires part { is_part row.LOADED text.now ≡ true }
-    ensures place { MatchResult result (λ p. (spec.item_located (in_statement (surroundings e.now)) (tree_at row.LOADED text.now) ≡ Ok p.0) × (p.1.now ≡ after_part row.LOADED text.now)) (λ code. spec.item_located (in_statement (surroundings e.now)) (tree_at row.LOADED text.now) ≡ Err code) }
+fn load_item_at<'a>(e: &Env<'_>, text: &'a [u8]) -> Result<(Item, &'a [u8]), Code>
+    requires phrase { is_phrase row.LOADED text.now ≡ true }
+    ensures place { MatchResult result (λ p. (spec.item_located (in_statement (surroundings e.now)) (tree_at row.LOADED text.now) ≡ Ok p.0) × (p.1.now ≡ after_phrase row.LOADED text.now)) (λ code. spec.item_located (in_statement (surroundings e.now)) (tree_at row.LOADED text.now) ≡ Err code) }
     ensures name { IfOk result (λ p. IsItem p.0) }
 {
     let mut c = Cursor::over(text);
@@ -249,15 +249,15 @@ pub fn take_values(
     values: &[Value],
     text: &[u8],
 ) -> Result<Option<Code>, NoMemory>
-    requires part { is_part row.LOADED text.now ≡ true }
-    requires list { is_list commas row.COMMA_LOADED (after_part row.LOADED text.now) ≡ true }
+    requires phrase { is_phrase row.LOADED text.now ≡ true }
+    requires list { is_list commas row.COMMA_LOADED (after_phrase row.LOADED text.now) ≡ true }
     ensures worked { IfOk result (λ code. record { work = workspace work.new; code = code } ≡ spec.all_take values.now (spec.items_at text.now) (workspace work.old)) }
     ensures same_references { SameReferences work.old work.new }
 {
     let mut next = 0usize;
     let mut left = text;
     loop {
-        let (item, rest) = match item_at(&surroundings_of(work), left) {
+        let (item, rest) = match load_item_at(&surroundings_of(work), left) {
             Ok(found) => found,
             Err(code) => return Ok(Some(code)),
         };

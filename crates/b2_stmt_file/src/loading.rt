@@ -1,7 +1,7 @@
 // DATALOAD DC: what it asks for, and how it finishes.
 ghost use Rattle.std.specs.Prelude.{◌≡◌, ◌≤◌, true, IfOk};
 ghost use Rattle.b2_atom.specs.declared.rows.TheConstants as row;
-ghost use Rattle.b2_rows.specs.Rows.{is_part, tree_at};
+ghost use Rattle.b2_rows.specs.Rows.{is_phrase, tree_at};
 ghost use Rattle.b2_expr.specs.Scope.{surroundings};
 ghost use Rattle.b2_expr.specs.Value.{in_statement};
 ghost use Rattle.b2_expr.specs.Workspace.{SameReferences, workspace};
@@ -10,7 +10,7 @@ ghost use Rattle.b2_stmt_file.specs.Asking.{GivesAccess};
 ghost use Rattle.b2_stmt_file.specs.Loading as spec;
 
 use crate::asking::or_fault;
-use crate::coming::Came;
+use crate::file_answers::Came;
 use crate::loaded_values::{kinds_at, take_values};
 use crate::opening::ask_for_old;
 use crate::slots::{file_used, past_slot, slot_written};
@@ -33,7 +33,7 @@ fn ask_for_values(
     e: &Env<'_>,
     text: &[u8],
 ) -> Result<Access, Fault>
-    requires part { is_part row.LOADED_VALUES text.now ≡ true }
+    requires phrase { is_phrase row.LOADED_VALUES text.now ≡ true }
     ensures { GivesAccess (spec.loads_in (drives_seen d.now) slots.now (in_statement (surroundings e.now)) (tree_at row.LOADED_VALUES text.now)) result }
 {
     match file_used(d, slots, slot_written(text)) {
@@ -61,7 +61,7 @@ pub fn ask_to_load(
     e: &Env<'_>,
     unit: &[u8],
 ) -> Result<Access, Fault>
-    requires part { is_part row.DATALOAD unit.now ≡ true }
+    requires phrase { is_phrase row.DATALOAD unit.now ≡ true }
     ensures { GivesAccess (spec.asks_to_load (drives_seen d.now) slots.now (in_statement (surroundings e.now)) (tree_at row.DATALOAD unit.now)) result }
 {
     let text = past_words(unit);
@@ -75,7 +75,7 @@ pub fn ask_to_load(
 /// The slot from which values are loaded.
 #[tactic(auto, using(crate::proofs::LoadRows::loaded_slot, crate::proofs::LoadRows::slot_loaded_is))]
 pub fn slot_of_load(text: &[u8]) -> u8
-    requires part { is_part row.LOADED_VALUES text.now ≡ true }
+    requires phrase { is_phrase row.LOADED_VALUES text.now ≡ true }
     ensures value { result ≡ spec.slot_loaded (tree_at row.LOADED_VALUES text.now) }
     ensures small { result ≤ 15 }
 {
@@ -90,7 +90,7 @@ pub fn take_loaded(
     values: &[Value],
     text: &[u8],
 ) -> Result<Option<Code>, NoMemory>
-    requires part { is_part row.LOADED_VALUES text.now ≡ true }
+    requires phrase { is_phrase row.LOADED_VALUES text.now ≡ true }
     ensures worked { IfOk result (λ code. record { work = workspace work.new; code = code } ≡ spec.takes_by came.now values.now (spec.items_loaded (tree_at row.LOADED_VALUES text.now)) (workspace work.old)) }
     ensures same_references { SameReferences work.old work.new }
 {

@@ -4,7 +4,7 @@ ghost use Rattle.b2_atom.specs.Grammar.{starts};
 ghost use Rattle.b2_atom.specs.declared.rows.TheConstants as row;
 ghost use Rattle.b2_atom.specs.declared.words.Origin.TheVariants.{Atoms};
 ghost use Rattle.b2_atom.specs.declared.forms.Start.TheVariants as start;
-ghost use Rattle.b2_rows.specs.Rows.{after_part, is_part, tree_at};
+ghost use Rattle.b2_rows.specs.Rows.{after_phrase, is_phrase, tree_at};
 ghost use Rattle.b2_expr.specs.Scope.{surroundings};
 ghost use Rattle.b2_expr.specs.Value.{in_statement};
 ghost use Rattle.b2_drive.specs.Drives.{drives_seen};
@@ -28,10 +28,10 @@ fn is_alpha_inside(text: &[u8]) -> bool
 
 /// The access by which a scratched file's sectors are used again, under a name.
 #[tactic(auto, using(crate::proofs::OpenRows::scratched_name, crate::proofs::OpenRows::scratched_rest, crate::proofs::OpenRows::reuses_is))]
-fn reuse(e: &Env<'_>, addr: Addr, text: &[u8]) -> Result<Access, Code>
-    requires part { is_part row.SCRATCHED_FILE text.now ≡ true }
-    requires name { is_part row.ALPHA (drop 1 (after_part row.SCRATCHED_FILE text.now)) ≡ true }
-    ensures { result ≡ spec.reuses (in_statement (surroundings e.now)) addr (tree_at row.SCRATCHED_FILE text.now) (tree_at row.ALPHA (drop 1 (after_part row.SCRATCHED_FILE text.now))) }
+fn ask_to_reuse(e: &Env<'_>, addr: Addr, text: &[u8]) -> Result<Access, Code>
+    requires phrase { is_phrase row.SCRATCHED_FILE text.now ≡ true }
+    requires name { is_phrase row.ALPHA (drop 1 (after_phrase row.SCRATCHED_FILE text.now)) ≡ true }
+    ensures { result ≡ spec.reuses (in_statement (surroundings e.now)) addr (tree_at row.SCRATCHED_FILE text.now) (tree_at row.ALPHA (drop 1 (after_phrase row.SCRATCHED_FILE text.now))) }
 {
     let inside = rest_after(text, 1);
     let old = match name_at(e, inside) {
@@ -51,10 +51,10 @@ fn reuse(e: &Env<'_>, addr: Addr, text: &[u8]) -> Result<Access, Code>
 }
 
 /// The access by which a file of a number of sectors is made, under a name.
-fn make(e: &Env<'_>, addr: Addr, text: &[u8]) -> Result<Access, Code>
-    requires part { is_part row.SUM text.now ≡ true }
-    requires name { is_part row.ALPHA (drop 1 (after_part row.SUM text.now)) ≡ true }
-    ensures { result ≡ spec.makes (in_statement (surroundings e.now)) addr (tree_at row.SUM text.now) (tree_at row.ALPHA (drop 1 (after_part row.SUM text.now))) }
+fn ask_to_make(e: &Env<'_>, addr: Addr, text: &[u8]) -> Result<Access, Code>
+    requires phrase { is_phrase row.SUM text.now ≡ true }
+    requires name { is_phrase row.ALPHA (drop 1 (after_phrase row.SUM text.now)) ≡ true }
+    ensures { result ≡ spec.makes (in_statement (surroundings e.now)) addr (tree_at row.SUM text.now) (tree_at row.ALPHA (drop 1 (after_phrase row.SUM text.now))) }
 {
     let sectors = match count_at(2, e, text) {
         Ok(sectors) => sectors,
@@ -74,7 +74,7 @@ fn make(e: &Env<'_>, addr: Addr, text: &[u8]) -> Result<Access, Code>
 /// What DATASAVE DC OPEN asks for: its drive first, then the sectors or the scratched file, and then the name.
 #[tactic(auto, using(crate::proofs::OpenRows::new_drive, crate::proofs::OpenRows::new_slot, crate::proofs::OpenRows::scratched_here, crate::proofs::OpenRows::scratched_then, crate::proofs::OpenRows::sectors_here, crate::proofs::OpenRows::sectors_then, crate::proofs::OpenRows::new_is, crate::proofs::OpenRows::new_reuses, crate::proofs::OpenRows::new_makes))]
 pub fn ask_for_new(d: &Drives<'_>, e: &Env<'_>, text: &[u8]) -> Result<Access, Code>
-    requires part { is_part row.NEW_FILE text.now ≡ true }
+    requires phrase { is_phrase row.NEW_FILE text.now ≡ true }
     ensures { result ≡ spec.asks_for_new (drives_seen d.now) (in_statement (surroundings e.now)) (tree_at row.NEW_FILE text.now) }
 {
     let operands = rest_after(text, 1);
@@ -84,16 +84,16 @@ pub fn ask_for_new(d: &Drives<'_>, e: &Env<'_>, text: &[u8]) -> Result<Access, C
     };
     let file = past_slot(past_drive(operands));
     if is_alpha_inside(file) {
-        reuse(e, addr, file)
+        ask_to_reuse(e, addr, file)
     } else {
-        make(e, addr, file)
+        ask_to_make(e, addr, file)
     }
 }
 
 /// What DATALOAD DC OPEN asks for: its drive first, and then the name.
 #[tactic(auto, using(crate::proofs::OpenRows::old_drive, crate::proofs::OpenRows::old_slot, crate::proofs::OpenRows::old_name, crate::proofs::OpenRows::old_is))]
 pub fn ask_for_old(d: &Drives<'_>, e: &Env<'_>, text: &[u8]) -> Result<Access, Code>
-    requires part { is_part row.OLD_FILE text.now ≡ true }
+    requires phrase { is_phrase row.OLD_FILE text.now ≡ true }
     ensures { result ≡ spec.asks_for_old (drives_seen d.now) (in_statement (surroundings e.now)) (tree_at row.OLD_FILE text.now) }
 {
     let operands = rest_after(text, 1);
@@ -110,7 +110,7 @@ pub fn ask_for_old(d: &Drives<'_>, e: &Env<'_>, text: &[u8]) -> Result<Access, C
 /// The slot that holds a new file once it is open.
 #[tactic(auto, using(crate::proofs::OpenRows::new_drive, crate::proofs::OpenRows::new_slot, crate::proofs::OpenRows::new_opened))]
 pub fn slot_of_new(text: &[u8]) -> u8
-    requires part { is_part row.NEW_FILE text.now ≡ true }
+    requires phrase { is_phrase row.NEW_FILE text.now ≡ true }
     ensures value { result ≡ spec.slot_opened (tree_at row.NEW_FILE text.now) }
     ensures small { result ≤ 15 }
 {
@@ -120,7 +120,7 @@ pub fn slot_of_new(text: &[u8]) -> u8
 /// The slot that holds a file that is there once it is open.
 #[tactic(auto, using(crate::proofs::OpenRows::old_drive, crate::proofs::OpenRows::old_slot, crate::proofs::OpenRows::old_opened))]
 pub fn slot_of_old(text: &[u8]) -> u8
-    requires part { is_part row.OLD_FILE text.now ≡ true }
+    requires phrase { is_phrase row.OLD_FILE text.now ≡ true }
     ensures value { result ≡ spec.slot_opened (tree_at row.OLD_FILE text.now) }
     ensures small { result ≤ 15 }
 {

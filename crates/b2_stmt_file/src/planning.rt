@@ -4,7 +4,7 @@ ghost use Rattle.b2_access.specs.Answering.{can_answer};
 ghost use Rattle.b2_access.specs.Lending.{globals_lent, seen_lent};
 ghost use Rattle.b2_rows.specs.Laws.{IsRow};
 ghost use Rattle.b2_rows.specs.Rows.{tree_at};
-ghost use Rattle.b2_access.specs.Courses.{units_on};
+ghost use Rattle.b2_access.specs.Dispatch.{units_on};
 ghost use Rattle.b2_access.specs.Placed.{line_named, statement_placed};
 ghost use Rattle.b2_access.specs.Working.{planned_of};
 ghost use Rattle.b2_expr.specs.Scope.{surroundings};
@@ -14,11 +14,11 @@ ghost use Rattle.b2_stmt_file.specs.Asking.{GivesAccess};
 ghost use Rattle.b2_stmt_file.specs.Plan as spec;
 
 use crate::asking::or_fault;
-use crate::coming::{
+use crate::ending::if_end;
+use crate::file_answers::{
     came_of_loading, came_of_moving, came_of_opening, end_after, keep_file, outcome_of,
     values_loaded,
 };
-use crate::ending::if_end;
 use crate::loading::{ask_to_load, past_words, slot_of_load, take_loaded};
 use crate::opening::slot_of_old;
 use crate::saving::{ask_to_save, came_of_save, slot_of_save};
@@ -49,7 +49,7 @@ pub fn is_built(row: u16) -> bool
 }
 
 /// What a statement asks for, or the first code from the left.
-fn ask(
+fn ask_on_files(
     alloc: Global,
     d: &Drives<'_>,
     slots: &[Option<Slot>; 16],
@@ -117,7 +117,7 @@ fn plan_access(
         home: lent.home,
     };
     let e = surroundings_of(&work);
-    match ask(alloc, &d, &me.slots, &e, unit.row, unit.bytes) {
+    match ask_on_files(alloc, &d, &me.slots, &e, unit.row, unit.bytes) {
         Ok(access) => Ok(Planned::Ask(access)),
         Err(fault) => Ok(Planned::Done(failing(fault)?)),
     }

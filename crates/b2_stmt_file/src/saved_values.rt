@@ -2,7 +2,7 @@
 ghost use Rattle.std.specs.Prelude.{◌≡◌, true};
 ghost use Rattle.b2_atom.specs.declared.rows.TheConstants as row;
 ghost use Rattle.b2_rows.specs.CommaLists.{all_listed, commas};
-ghost use Rattle.b2_rows.specs.Rows.{after_part, is_list, is_part, tree_at};
+ghost use Rattle.b2_rows.specs.Rows.{after_phrase, is_list, is_phrase, tree_at};
 ghost use Rattle.b2_expr.specs.Scope.{surroundings};
 ghost use Rattle.b2_expr.specs.Value.{in_statement};
 ghost use Rattle.b2_stmt_file.specs.SavedValues as spec;
@@ -19,9 +19,13 @@ use b2_rows::{is_alpha_at, is_array_at, is_at};
 use std::alloc::Global;
 
 /// Puts the bytes of the expression at a text after other values, and gives what stands after it.
-fn put_bytes<'a>(e: &Env<'_>, text: &'a [u8], into: &mut Vec<Value>) -> Result<&'a [u8], Fault>
-    requires part { is_part row.ALPHA text.now ≡ true }
-    ensures { PutsItem (spec.alpha_saved (in_statement (surroundings e.now)) (tree_at row.ALPHA text.now)) (after_part row.ALPHA text.now) into.old.items into.new.items result }
+fn put_saved_bytes<'a>(
+    e: &Env<'_>,
+    text: &'a [u8],
+    into: &mut Vec<Value>,
+) -> Result<&'a [u8], Fault>
+    requires phrase { is_phrase row.ALPHA text.now ≡ true }
+    ensures { PutsItem (spec.alpha_saved (in_statement (surroundings e.now)) (tree_at row.ALPHA text.now)) (after_phrase row.ALPHA text.now) into.old.items into.new.items result }
 {
     let mut c = Cursor::over(text);
     let mut bytes = Bytes::new();
@@ -35,9 +39,13 @@ fn put_bytes<'a>(e: &Env<'_>, text: &'a [u8], into: &mut Vec<Value>) -> Result<&
 }
 
 /// Puts the number of the expression at a text after other values, and gives what stands after it.
-fn put_number<'a>(e: &Env<'_>, text: &'a [u8], into: &mut Vec<Value>) -> Result<&'a [u8], Fault>
-    requires part { is_part row.SUM text.now ≡ true }
-    ensures { PutsItem (spec.number_saved (in_statement (surroundings e.now)) (tree_at row.SUM text.now)) (after_part row.SUM text.now) into.old.items into.new.items result }
+fn put_saved_number<'a>(
+    e: &Env<'_>,
+    text: &'a [u8],
+    into: &mut Vec<Value>,
+) -> Result<&'a [u8], Fault>
+    requires phrase { is_phrase row.SUM text.now ≡ true }
+    ensures { PutsItem (spec.number_saved (in_statement (surroundings e.now)) (tree_at row.SUM text.now)) (after_phrase row.SUM text.now) into.old.items into.new.items result }
 {
     let mut c = Cursor::over(text);
     match number(&mut c, e) {
@@ -52,20 +60,20 @@ fn put_number<'a>(e: &Env<'_>, text: &'a [u8], into: &mut Vec<Value>) -> Result<
 /// Puts the value of the expression at a text after other values, and gives what stands after it.
 #[tactic(auto, using(crate::proofs::SavedItems::alpha_here, crate::proofs::SavedItems::alpha_is, crate::proofs::SavedItems::alpha_rest, crate::proofs::SavedItems::number_here, crate::proofs::SavedItems::number_is, crate::proofs::SavedItems::number_rest))]
 fn put_operand<'a>(e: &Env<'_>, text: &'a [u8], into: &mut Vec<Value>) -> Result<&'a [u8], Fault>
-    requires part { is_part row.OPERAND_OF_ANY_KIND text.now ≡ true }
-    ensures { PutsItem (spec.operand_saved (in_statement (surroundings e.now)) (tree_at row.OPERAND_OF_ANY_KIND text.now)) (after_part row.OPERAND_OF_ANY_KIND text.now) into.old.items into.new.items result }
+    requires phrase { is_phrase row.OPERAND_OF_ANY_KIND text.now ≡ true }
+    ensures { PutsItem (spec.operand_saved (in_statement (surroundings e.now)) (tree_at row.OPERAND_OF_ANY_KIND text.now)) (after_phrase row.OPERAND_OF_ANY_KIND text.now) into.old.items into.new.items result }
 {
     if is_alpha_at(text) {
-        put_bytes(e, text, into)
+        put_saved_bytes(e, text, into)
     } else {
-        put_number(e, text, into)
+        put_saved_number(e, text, into)
     }
 }
 
 /// Puts the elements of the whole array at a text after other values, and gives what stands after it.
 fn put_array<'a>(e: &Env<'_>, text: &'a [u8], into: &mut Vec<Value>) -> Result<&'a [u8], Fault>
-    requires part { is_part row.WHOLE_ARRAY text.now ≡ true }
-    ensures { PutsItem (spec.array_saved (in_statement (surroundings e.now)) (tree_at row.WHOLE_ARRAY text.now)) (after_part row.WHOLE_ARRAY text.now) into.old.items into.new.items result }
+    requires phrase { is_phrase row.WHOLE_ARRAY text.now ≡ true }
+    ensures { PutsItem (spec.array_saved (in_statement (surroundings e.now)) (tree_at row.WHOLE_ARRAY text.now)) (after_phrase row.WHOLE_ARRAY text.now) into.old.items into.new.items result }
 {
     let mut c = Cursor::over(text);
     let array = match whole_array(&mut c, e) {
@@ -85,8 +93,8 @@ fn put_array<'a>(e: &Env<'_>, text: &'a [u8], into: &mut Vec<Value>) -> Result<&
 /// Puts the values of the item at a text after other values, and gives what stands after it.
 #[tactic(auto, using(crate::proofs::SavedItems::array_here, crate::proofs::SavedItems::array_is, crate::proofs::SavedItems::array_rest, crate::proofs::SavedItems::operand_here, crate::proofs::SavedItems::operand_is, crate::proofs::SavedItems::operand_rest))]
 fn put_item<'a>(e: &Env<'_>, text: &'a [u8], into: &mut Vec<Value>) -> Result<&'a [u8], Fault>
-    requires part { is_part row.SAVED text.now ≡ true }
-    ensures { PutsItem (spec.item_saved (in_statement (surroundings e.now)) (tree_at row.SAVED text.now)) (after_part row.SAVED text.now) into.old.items into.new.items result }
+    requires phrase { is_phrase row.SAVED text.now ≡ true }
+    ensures { PutsItem (spec.item_saved (in_statement (surroundings e.now)) (tree_at row.SAVED text.now)) (after_phrase row.SAVED text.now) into.old.items into.new.items result }
 {
     if is_array_at(text) {
         put_array(e, text, into)
@@ -98,8 +106,8 @@ fn put_item<'a>(e: &Env<'_>, text: &'a [u8], into: &mut Vec<Value>) -> Result<&'
 /// The values of the items at a text, from left to right, or the first code.
 #[tactic(auto, using(crate::proofs::SavedItems::other_part, crate::proofs::SavedItems::other_list, crate::proofs::SavedItems::saved_shorter, crate::proofs::SavedItems::one_put, crate::proofs::SavedItems::last_put, crate::proofs::SavedItems::refused))]
 fn all_values(alloc: Global, e: &Env<'_>, text: &[u8]) -> Result<ValueList, Fault>
-    requires part { is_part row.SAVED text.now ≡ true }
-    requires list { is_list commas row.COMMA_SAVED (after_part row.SAVED text.now) ≡ true }
+    requires phrase { is_phrase row.SAVED text.now ≡ true }
+    requires list { is_list commas row.COMMA_SAVED (after_phrase row.SAVED text.now) ≡ true }
     ensures { GivesValues (spec.all_saved (in_statement (surroundings e.now)) (spec.items_at text.now)) result }
 {
     let mut values = Vec::new(alloc);
@@ -119,7 +127,7 @@ fn all_values(alloc: Global, e: &Env<'_>, text: &[u8]) -> Result<ValueList, Faul
 /// The values of a record that is saved.
 #[tactic(auto, using(crate::proofs::SavedItems::first_item, crate::proofs::SavedItems::item_list, crate::proofs::SavedItems::list_is))]
 pub fn saved_values(alloc: Global, e: &Env<'_>, text: &[u8]) -> Result<ValueList, Fault>
-    requires part { is_part row.SAVED_LIST text.now ≡ true }
+    requires phrase { is_phrase row.SAVED_LIST text.now ≡ true }
     ensures { GivesValues (spec.all_saved (in_statement (surroundings e.now)) (all_listed (tree_at row.SAVED_LIST text.now))) result }
 {
     all_values(alloc, e, text)

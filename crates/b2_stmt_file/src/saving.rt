@@ -4,7 +4,7 @@ ghost use Rattle.b2_base.specs.Lexical.{first};
 ghost use Rattle.b2_atom.specs.declared.words.TheConstants as word;
 ghost use Rattle.b2_access.specs.Answering.{can_answer};
 ghost use Rattle.b2_atom.specs.declared.rows.TheConstants as row;
-ghost use Rattle.b2_rows.specs.Rows.{is_part, tree_at};
+ghost use Rattle.b2_rows.specs.Rows.{is_phrase, tree_at};
 ghost use Rattle.b2_expr.specs.Scope.{surroundings};
 ghost use Rattle.b2_expr.specs.Value.{in_statement};
 ghost use Rattle.b2_drive.specs.Drives.{drives_seen};
@@ -12,7 +12,7 @@ ghost use Rattle.b2_stmt_file.specs.Asking.{GivesAccess};
 ghost use Rattle.b2_stmt_file.specs.Saving as spec;
 
 use crate::asking::or_fault;
-use crate::coming::{Came, came_of_moving, came_of_opening};
+use crate::file_answers::{Came, came_of_moving, came_of_opening};
 use crate::opening::{ask_for_new, slot_of_new};
 use crate::saved_values::saved_values;
 use crate::slots::{file_used, past_slot, slot_written};
@@ -27,7 +27,7 @@ use std::alloc::Global;
 
 /// What the end mark or a record asks for, at the place in a file.
 fn ask_for_file(alloc: Global, e: &Env<'_>, slot: Slot, text: &[u8]) -> Result<Access, Fault>
-    requires list { (first text.now == word.END) ≡ false → is_part row.SAVED_LIST text.now ≡ true }
+    requires list { (first text.now == word.END) ≡ false → is_phrase row.SAVED_LIST text.now ≡ true }
     ensures { GivesAccess (spec.saved (in_statement (surroundings e.now)) slot (spec.what_at text.now)) result }
 {
     if is_at(END, text) {
@@ -48,7 +48,7 @@ fn ask_in_file(
     e: &Env<'_>,
     text: &[u8],
 ) -> Result<Access, Fault>
-    requires part { is_part row.SAVED_VALUES text.now ≡ true }
+    requires phrase { is_phrase row.SAVED_VALUES text.now ≡ true }
     ensures { GivesAccess (spec.saves_in (drives_seen d.now) slots.now (in_statement (surroundings e.now)) (tree_at row.SAVED_VALUES text.now)) result }
 {
     match file_used(d, slots, slot_written(text)) {
@@ -66,7 +66,7 @@ pub fn ask_to_save(
     e: &Env<'_>,
     unit: &[u8],
 ) -> Result<Access, Fault>
-    requires part { is_part row.DATASAVE unit.now ≡ true }
+    requires phrase { is_phrase row.DATASAVE unit.now ≡ true }
     ensures { GivesAccess (spec.asks_to_save (drives_seen d.now) slots.now (in_statement (surroundings e.now)) (tree_at row.DATASAVE unit.now)) result }
 {
     let text = rest_after(rest_after(unit, 1), 1);
@@ -80,7 +80,7 @@ pub fn ask_to_save(
 /// The slot of DATASAVE DC.
 #[tactic(auto, using(crate::proofs::SaveRows::new_here, crate::proofs::SaveRows::saved_here, crate::proofs::SaveRows::saved_slot, crate::proofs::SaveRows::slot_new, crate::proofs::SaveRows::slot_saved_is))]
 pub fn slot_of_save(unit: &[u8]) -> u8
-    requires part { is_part row.DATASAVE unit.now ≡ true }
+    requires phrase { is_phrase row.DATASAVE unit.now ≡ true }
     ensures value { result ≡ spec.slot_of (tree_at row.DATASAVE unit.now) }
     ensures small { result ≤ 15 }
 {
@@ -95,7 +95,7 @@ pub fn slot_of_save(unit: &[u8]) -> u8
 /// What came of DATASAVE DC.
 #[tactic(auto, using(crate::proofs::SaveRows::came_new, crate::proofs::SaveRows::came_saved))]
 pub fn came_of_save(access: &Access, answer: &Answer, unit: &[u8]) -> Came
-    requires part { is_part row.DATASAVE unit.now ≡ true }
+    requires phrase { is_phrase row.DATASAVE unit.now ≡ true }
     requires possible { can_answer access.now answer.now ≡ true }
     ensures { result ≡ spec.came_of access.now answer.now (tree_at row.DATASAVE unit.now) }
 {

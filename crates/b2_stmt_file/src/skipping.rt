@@ -5,7 +5,7 @@ ghost use Rattle.b2_atom.specs.Grammar.{starts};
 ghost use Rattle.b2_atom.specs.declared.rows.TheConstants as row;
 ghost use Rattle.b2_atom.specs.declared.words.Origin.TheVariants.{Atoms};
 ghost use Rattle.b2_atom.specs.declared.forms.Start.TheVariants as start;
-ghost use Rattle.b2_rows.specs.Rows.{is_part, tree_at};
+ghost use Rattle.b2_rows.specs.Rows.{is_phrase, tree_at};
 ghost use Rattle.b2_expr.specs.Scope.{surroundings};
 ghost use Rattle.b2_expr.specs.Value.{in_statement};
 ghost use Rattle.b2_drive.specs.Drives.{drives_seen};
@@ -37,7 +37,7 @@ pub fn ask_to_skip(
     e: &Env<'_>,
     unit: &[u8],
 ) -> Result<Access, Code>
-    requires part { is_part row.DSKIP unit.now ≡ true }
+    requires phrase { is_phrase row.DSKIP unit.now ≡ true }
     ensures { result ≡ spec.asks_to_skip spec.forward (drives_seen d.now) slots.now (in_statement (surroundings e.now)) (tree_at row.DSKIP unit.now) }
 {
     let text = rest_after(unit, 1);
@@ -66,7 +66,7 @@ pub fn ask_to_go_back(
     e: &Env<'_>,
     unit: &[u8],
 ) -> Result<Access, Code>
-    requires part { is_part row.DBACKSPACE unit.now ≡ true }
+    requires phrase { is_phrase row.DBACKSPACE unit.now ≡ true }
     ensures { result ≡ spec.asks_to_skip spec.back (drives_seen d.now) slots.now (in_statement (surroundings e.now)) (tree_at row.DBACKSPACE unit.now) }
 {
     let text = rest_after(unit, 1);
@@ -93,7 +93,7 @@ pub fn ask_to_go_back(
 /// The slot of DSKIP.
 #[tactic(auto, using(crate::proofs::SkipRows::skip_slot, crate::proofs::SkipRows::skip_skipped))]
 pub fn slot_of_skip(unit: &[u8]) -> u8
-    requires part { is_part row.DSKIP unit.now ≡ true }
+    requires phrase { is_phrase row.DSKIP unit.now ≡ true }
     ensures value { result ≡ spec.slot_skipped (tree_at row.DSKIP unit.now) }
     ensures small { result ≤ 15 }
 {
@@ -103,7 +103,7 @@ pub fn slot_of_skip(unit: &[u8]) -> u8
 /// The slot of DBACKSPACE.
 #[tactic(auto, using(crate::proofs::SkipRows::back_slot, crate::proofs::SkipRows::back_skipped))]
 pub fn slot_of_back(unit: &[u8]) -> u8
-    requires part { is_part row.DBACKSPACE unit.now ≡ true }
+    requires phrase { is_phrase row.DBACKSPACE unit.now ≡ true }
     ensures value { result ≡ spec.slot_skipped (tree_at row.DBACKSPACE unit.now) }
     ensures small { result ≤ 15 }
 {

@@ -1,8 +1,8 @@
 // The slots of a partition, and the counts of statements on them.
 ghost use Rattle.std.specs.Prelude.{◌≡◌, ◌≤◌, true, get_or, None};
 ghost use Rattle.b2_atom.specs.declared.rows.TheConstants as row;
-ghost use Rattle.b2_rows.specs.Optional.{after_maybe, maybe_part};
-ghost use Rattle.b2_rows.specs.Rows.{is_part, tree_at};
+ghost use Rattle.b2_rows.specs.Optional.{after_maybe, maybe_phrase};
+ghost use Rattle.b2_rows.specs.Rows.{is_phrase, tree_at};
 ghost use Rattle.b2_expr.specs.Scope.{surroundings};
 ghost use Rattle.b2_expr.specs.Value.{in_statement};
 ghost use Rattle.b2_drive.specs.Drives.{drives_seen};
@@ -21,7 +21,7 @@ use b2_rows::{is_at, slot_at};
 /// The number of the slot that is written at a text, 0 where none is.
 #[tactic(auto, using(crate::proofs::SlotRows::written_here, crate::proofs::SlotRows::written_is, crate::proofs::SlotRows::none_is))]
 pub fn slot_written(text: &[u8]) -> u8
-    requires part { maybe_part number_sign row.SLOT text.now ≡ true }
+    requires phrase { maybe_phrase number_sign row.SLOT text.now ≡ true }
     ensures value { result ≡ spec.slot_in (spec.slot_tree text.now) }
     ensures small { result ≤ 15 }
 {
@@ -31,7 +31,7 @@ pub fn slot_written(text: &[u8]) -> u8
 /// What stands after the slot that is written at a text, if one is.
 #[tactic(auto, using(crate::proofs::SlotRows::written_rest, crate::proofs::SlotRows::none_rest))]
 pub fn past_slot(text: &[u8]) -> &[u8]
-    requires part { maybe_part number_sign row.SLOT text.now ≡ true }
+    requires phrase { maybe_phrase number_sign row.SLOT text.now ≡ true }
     ensures { result.now ≡ after_maybe number_sign row.SLOT text.now }
 {
     if is_at(b'#', text) {
@@ -87,7 +87,7 @@ fn count_from(least: u32, n: Option<i64>) -> Result<u32, Code>
 
 /// The count at a text.
 pub fn count_at(least: u32, e: &Env<'_>, text: &[u8]) -> Result<u32, Code>
-    requires part { is_part row.SUM text.now ≡ true }
+    requires phrase { is_phrase row.SUM text.now ≡ true }
     ensures { result ≡ count.count_given least (in_statement (surroundings e.now)) (tree_at row.SUM text.now) }
 {
     match number(&mut Cursor::over(text), e) {

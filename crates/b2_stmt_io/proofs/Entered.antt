@@ -5,7 +5,7 @@ use Rattle.b2_text.specs.Program.{Lines}
 use Rattle.b2_vars.specs.Assigned.{Changed}
 use Rattle.b2_vars.specs.Tables.{VarsState}
 use Rattle.b2_access.specs.Lending.{SeenLent}
-use Rattle.b2_access.specs.Marks.{typed_by_mark}
+use Rattle.b2_access.specs.KeyLiterals.{typed_by_mark}
 use Rattle.b2_access.specs.Planning.{finished}
 use Rattle.b2_access.specs.Showing.{shown_or_printed, shown_or_printed_where}
 use Rattle.b2_access.specs.Views.{LineCame, PromptShown, LineEntered, LineLeft, LineLater, column_printed, column_shown}

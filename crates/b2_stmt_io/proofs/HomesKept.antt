@@ -8,7 +8,7 @@ use Rattle.b2_vars.specs.Tables.{VarsState}
 use Rattle.b2_vars.specs.Assigned.{Changed}
 use Rattle.b2_access.specs.Homes.{OutcomeIn, PlaceIn, PlannedIn}
 use Rattle.b2_access.specs.Lending.{SeenLent}
-use Rattle.b2_access.specs.Marks.{typed_by_mark}
+use Rattle.b2_access.specs.KeyLiterals.{typed_by_mark}
 use Rattle.b2_access.specs.Placed.{Statement}
 use Rattle.b2_access.specs.Places.{line_start}
 use Rattle.b2_access.specs.Views.{KeyCame, ByteTyped, KeyPressed, NoKey, KeyLater, LineCame, PromptShown, LineEntered, LineLeft, LineLater, column_printed, column_shown, key_came, line_came}
@@ -20,7 +20,7 @@ use Rattle.b2_access.specs.declared.devices.Device.{Device}
 use Rattle.b2_access.specs.declared.planned.Outcome.{Outcome}
 use Rattle.b2_access.specs.declared.private.Private.{Private}
 use Rattle.b2_access.proofs.Choice.{either}
-use Rattle.b2_access.proofs.Courses.{each_course}
+use Rattle.b2_access.proofs.Dispatch.{each_dispatch}
 use Rattle.b2_access.proofs.Homes.{goes_or_in, lined, marks_none, next_or_fails}
 use Rattle.b2_access.proofs.OwnTerminal.{at_terminal_marks_none}
 use Rattle.b2_access.proofs.Shown.{shown_or_printed_leads}
@@ -83,7 +83,7 @@ module _ (among : ℕ → Bool) where
   place_in : (x : Access) (a : Answer) (me : Private) (s : SeenLent) → PlaceIn among me.place → Leads (ends x a me s)
   unfolding Leads
   place_in x a me s k =
-      each_course is_refused (repeats me) (finishes x a me s) me s Leads tt tt (λ p is u. statement_in u p x a me s (subst (λ (o : Option Place). PlaceIn among o) is k))
+      each_dispatch is_refused (repeats me) (finishes x a me s) me s Leads tt tt (λ p is u. statement_in u p x a me s (subst (λ (o : Option Place). PlaceIn among o) is k))
 
 pub plans_within : (devices : List Device) → PlansEachWithin (works devices)
 plans_within devices among me s k =

@@ -16,15 +16,15 @@ use Rattle.b2_atom.specs.declared.forms.Leaf.TheVariants as leaf
 use Rattle.b2_atom.specs.declared.forms.Item.{Item}
 use Rattle.b2_atom.specs.declared.forms.Item.TheVariants.{Word, Sign, Typed, Part, Maybe}
 use Rattle.b2_rows.specs.Leaves.{is_leaf}
-use Rattle.b2_rows.specs.Rows.{is_part, tree_at, after_part}
-use Rattle.b2_rows.specs.Optional.{maybe_part, maybe_tree}
+use Rattle.b2_rows.specs.Rows.{is_phrase, tree_at, after_phrase}
+use Rattle.b2_rows.specs.Optional.{maybe_phrase, maybe_tree}
 use Rattle.b2_rows.specs.Values.{line_of}
 use Rattle.b2_rows.proofs.Optional.{maybe_stands, begun_part, begun_tree, left_out_tree}
 use Rattle.b2_rows.proofs.RowsRead.{stands_of}
 use Rattle.b2_flow.specs.declared.frame.Place.{Place}
 use Rattle.b2_text.specs.Program.{Lines}
 use Rattle.b2_access.specs.declared.planned.Outcome.TheVariants as outcome
-use Rattle.b2_access.specs.Going.{to_line}
+use Rattle.b2_access.specs.Jumps.{to_line}
 use Rattle.b2_stmt_io.specs.Keys.{assigns_key, key_leads, lines_of, waits}
 use Rattle.b2_receiver.specs.Receiving.{assign_bytes_at}
 use Rattle.b2_expr.specs.Workspace.{WorkState}
@@ -37,13 +37,13 @@ unfolding row_items
 lines_row = refl
 
 abbrev Named : Text → Type 0
-Named t = maybe_part (start.Code byte.comma) row.COMMA_TWO_LINES t ≡ true
+Named t = maybe_phrase (start.Code byte.comma) row.COMMA_TWO_LINES t ≡ true
 
 begins : (t : Text) (b : Bool) → (first t == byte.comma) ≡ b → starts Atoms (start.Code byte.comma) t ≡ b
 unfolding starts
 begins t b is = is
 
-here : (t : Text) → Named t → (first t == byte.comma) ≡ true → is_part row.COMMA_TWO_LINES t ≡ true
+here : (t : Text) → Named t → (first t == byte.comma) ≡ true → is_phrase row.COMMA_TWO_LINES t ≡ true
 here t ok is = begun_part (start.Code byte.comma) row.COMMA_TWO_LINES t ok (begins t true is)
 
 pub first_here : (t : Text) → Named t → (first t == byte.comma) ≡ true → is_leaf leaf.LineNumber (drop 1 t) ≡ true
@@ -83,23 +83,23 @@ unfolding row_items
 key_row = refl
 
 abbrev after_receiver : Text → Text
-after_receiver t = after_part row.ALPHA_RECEIVER (drop 1 t)
+after_receiver t = after_phrase row.ALPHA_RECEIVER (drop 1 t)
 
-pub key_receiver : (t : Text) → is_part row.KEYIN t ≡ true → is_part row.ALPHA_RECEIVER (drop 1 t) ≡ true
+pub key_receiver : (t : Text) → is_phrase row.KEYIN t ≡ true → is_phrase row.ALPHA_RECEIVER (drop 1 t) ≡ true
 key_receiver t ok = (stands_of row.KEYIN key_items t key_row ok).0.1.0
 
-pub key_lines : (t : Text) → is_part row.KEYIN t ≡ true → maybe_part (start.Code byte.comma) row.COMMA_TWO_LINES (after_receiver t) ≡ true
+pub key_lines : (t : Text) → is_phrase row.KEYIN t ≡ true → maybe_phrase (start.Code byte.comma) row.COMMA_TWO_LINES (after_receiver t) ≡ true
 key_lines t ok = maybe_stands _ _ _ (stands_of row.KEYIN key_items t key_row ok).0.1.1
 
-key_tree : (t : Text) → is_part row.KEYIN t ≡ true
+key_tree : (t : Text) → is_phrase row.KEYIN t ≡ true
     → tree_at row.KEYIN t ≡ Put (Coded word.KEYIN) (In 2 (tree_at row.ALPHA_RECEIVER (drop 1 t)) (maybe_tree (start.Code byte.comma) row.COMMA_TWO_LINES (after_receiver t)))
 unfolding maybe_tree
 key_tree t ok = (stands_of row.KEYIN key_items t key_row ok).1
 
-pub assigns_key_is : (key : ℕ) (t : Text) (w : WorkState) → is_part row.KEYIN t ≡ true → assigns_key key (tree_at row.KEYIN t) w ≡ assign_bytes_at (Ok (key ∷ [])) (tree_at row.ALPHA_RECEIVER (drop 1 t)) w
+pub assigns_key_is : (key : ℕ) (t : Text) (w : WorkState) → is_phrase row.KEYIN t ≡ true → assigns_key key (tree_at row.KEYIN t) w ≡ assign_bytes_at (Ok (key ∷ [])) (tree_at row.ALPHA_RECEIVER (drop 1 t)) w
 assigns_key_is key t w ok = ap (λ (a : Trees). assigns_key key a w) (key_tree t ok)
 
-pub lines_are : (t : Text) → is_part row.KEYIN t ≡ true → lines_of (tree_at row.KEYIN t) ≡ maybe_tree (start.Code byte.comma) row.COMMA_TWO_LINES (after_receiver t)
+pub lines_are : (t : Text) → is_phrase row.KEYIN t ≡ true → lines_of (tree_at row.KEYIN t) ≡ maybe_tree (start.Code byte.comma) row.COMMA_TWO_LINES (after_receiver t)
 lines_are t ok = ap lines_of (key_tree t ok)
 
 waits_by : (t : Text) (b : Bool) → (first t == byte.comma) ≡ b → waits (maybe_tree (start.Code byte.comma) row.COMMA_TWO_LINES t) ≡ (if b then outcome.Next else outcome.Repeat)

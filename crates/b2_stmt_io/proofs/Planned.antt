@@ -30,7 +30,7 @@ use Rattle.b2_access.specs.declared.planned.Planned.{Planned}
 use Rattle.b2_access.specs.declared.planned.Planned.TheVariants as planned
 use Rattle.b2_access.specs.declared.private.Private.{Private}
 use Rattle.b2_access.proofs.Choice.{either}
-use Rattle.b2_access.proofs.Courses.{each_course}
+use Rattle.b2_access.proofs.Dispatch.{each_dispatch}
 use Rattle.b2_access.proofs.Tables.{each_row}
 use Rattle.b2_print.specs.Columns.{column_after}
 use Rattle.b2_stmt_io.specs.Converting.{converts}
@@ -38,7 +38,7 @@ use Rattle.b2_stmt_io.specs.Imaging.{prints_using}
 use Rattle.b2_stmt_io.specs.Keys.{key_taken}
 use Rattle.b2_stmt_io.specs.LineReading.{asks_line, prompt_of}
 use Rattle.b2_stmt_io.specs.Outlets.{column_of, outlet_of, shows_to, width_of}
-use Rattle.b2_stmt_io.specs.Plan.{Asks, Finishes, asked_of, asking_rows, course_of, does, ended_of, finishing_rows, is_refused, left_out, nothing_asked, takes_line, works}
+use Rattle.b2_stmt_io.specs.Plan.{Asks, Finishes, asked_of, asking_rows, dispatch_of, does, ended_of, finishing_rows, is_refused, left_out, nothing_asked, takes_line, works}
 use Rattle.b2_stmt_io.specs.Printing.{prints}
 use Rattle.b2_stmt_io.specs.Showing.{asks_at, asks_to_print, asks_to_print_using, shows_bytes, shows_laid}
 use Rattle.b2_stmt_io.specs.declared.outlets.Outlet.{Outlet}
@@ -108,7 +108,7 @@ module _ (devices : List Device) (me : Private) (s : SeenLent) (F : Planned → 
   each_code None = next
   each_code (Some code) = failed code
 
-  each_statement : (u : Statement) → Each (course_of devices u me s)
+  each_statement : (u : Statement) → Each (dispatch_of devices u me s)
   unfolding Each
   each_statement u =
       let e = context_of (work_in (setting_of me) s.home me.vars s.globals) in
@@ -117,7 +117,7 @@ module _ (devices : List Device) (me : Private) (s : SeenLent) (F : Planned → 
 
   pub each_planned : F (planned_of (works devices me s))
   unfolding Each
-  each_planned = each_course is_refused stops (does devices me s) me s Each ready (failed S26_PROGRAM_ONLY) (λ p is u. each_statement u)
+  each_planned = each_dispatch is_refused stops (does devices me s) me s Each ready (failed S26_PROGRAM_ONLY) (λ p is u. each_statement u)
 
 -- and of how a statement finishes: something was shown or printed, a key or a line was asked for, or nothing changes and it goes on or is
 -- repeated, as where the terminal is handed on

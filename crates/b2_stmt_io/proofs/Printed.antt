@@ -20,8 +20,8 @@ use Rattle.b2_atom.specs.declared.forms.Start.{Start}
 use Rattle.b2_atom.specs.declared.forms.Start.TheVariants as start
 use Rattle.b2_atom.specs.declared.forms.Item.{Item}
 use Rattle.b2_atom.specs.declared.forms.Item.TheVariants.{Word, Sign, Part, Maybe, Many}
-use Rattle.b2_rows.specs.Rows.{is_part, tree_at, after_part, is_list, list_at, Ends}
-use Rattle.b2_rows.specs.Optional.{maybe_part, maybe_tree, after_maybe}
+use Rattle.b2_rows.specs.Rows.{is_phrase, tree_at, after_phrase, is_list, list_at, Ends}
+use Rattle.b2_rows.specs.Optional.{maybe_phrase, maybe_tree, after_maybe}
 use Rattle.b2_rows.proofs.Choices.{either_first, either_second}
 use Rattle.b2_rows.proofs.Optional.{begun_part, begun_tree, begun_rest, left_out_tree, left_out_rest, maybe_no_longer}
 use Rattle.b2_rows.proofs.Lists.{goes, ended}
@@ -55,7 +55,7 @@ further_at t = list_at separators row.FURTHER_ITEM t
 abbrev pub item_there : Page → Text → Result (Option Shown) ℕ
 item_there s t = item_at s (maybe_tree start.PrintItem row.PRINT_ITEM t)
 
-pub one_part : (t : Text) → maybe_part start.PrintItem row.PRINT_ITEM t ≡ true → starts Atoms start.PrintItem t ≡ true → is_part row.PRINT_ITEM t ≡ true
+pub one_part : (t : Text) → maybe_phrase start.PrintItem row.PRINT_ITEM t ≡ true → starts Atoms start.PrintItem t ≡ true → is_phrase row.PRINT_ITEM t ≡ true
 one_part t ok is = begun_part start.PrintItem row.PRINT_ITEM t ok is
 
 one_there : (s : Page) (t : Text) → starts Atoms start.PrintItem t ≡ true → item_there s t ≡ (item_of s (tree_at row.PRINT_ITEM t) >>= (λ it. Ok (Some it)))
@@ -64,7 +64,7 @@ one_there s t is = ap (item_at s) (begun_tree start.PrintItem row.PRINT_ITEM t i
 none_there : (s : Page) (t : Text) → starts Atoms start.PrintItem t ≡ false → item_there s t ≡ Ok None
 none_there s t is = ap (item_at s) (left_out_tree start.PrintItem row.PRINT_ITEM t is)
 
-pub one_rest : (t : Text) → starts Atoms start.PrintItem t ≡ true → after_item t ≡ after_part row.PRINT_ITEM t
+pub one_rest : (t : Text) → starts Atoms start.PrintItem t ≡ true → after_item t ≡ after_phrase row.PRINT_ITEM t
 one_rest t is = begun_rest start.PrintItem row.PRINT_ITEM t is
 
 pub none_rest : (t : Text) → starts Atoms start.PrintItem t ≡ false → after_item t ≡ t
@@ -132,15 +132,15 @@ pub none_some : (s : Page) (t : Text) → starts Atoms start.PrintItem t ≡ fal
 none_some s t is = ap (λ (r : Result (Option Shown) ℕ). r >>= (λ o. Ok (is_some o))) (none_there s t is)
 
 -- the first item and the further ones, where PRINT is read
-print_stands : (t : Text) → is_part row.PRINT t ≡ true → (maybe_part start.PrintItem row.PRINT_ITEM (drop 1 t) ≡ true) × ((is_list separators row.FURTHER_ITEM (after_item (drop 1 t)) ≡ true) × Unit {0})
+print_stands : (t : Text) → is_phrase row.PRINT t ≡ true → (maybe_phrase start.PrintItem row.PRINT_ITEM (drop 1 t) ≡ true) × ((is_list separators row.FURTHER_ITEM (after_item (drop 1 t)) ≡ true) × Unit {0})
 print_stands t ok =
     maybe_then start.PrintItem row.PRINT_ITEM (drop 1 t) (λ u. (is_list separators row.FURTHER_ITEM u ≡ true) × Unit {0})
     (stands_of row.PRINT print_items t print_row ok).0.1
 
-pub print_item : (t : Text) → is_part row.PRINT t ≡ true → maybe_part start.PrintItem row.PRINT_ITEM (drop 1 t) ≡ true
+pub print_item : (t : Text) → is_phrase row.PRINT t ≡ true → maybe_phrase start.PrintItem row.PRINT_ITEM (drop 1 t) ≡ true
 print_item t ok = (print_stands t ok).0
 
-pub print_list : (t : Text) → is_part row.PRINT t ≡ true → is_list separators row.FURTHER_ITEM (after_item (drop 1 t)) ≡ true
+pub print_list : (t : Text) → is_phrase row.PRINT t ≡ true → is_list separators row.FURTHER_ITEM (after_item (drop 1 t)) ≡ true
 print_list t ok = (print_stands t ok).1.0
 
 -- what is shown before an item, an item or none, and what follows
@@ -152,27 +152,27 @@ shows_by : (s : Page) (c : ℕ) (b : Bool) (it : Trees) (f : Text → Trees) (u 
 shows_by s c true it f u t = ap (λ (l : Trees). item_in s 1 it >>= (λ x. then_further s true [] x l)) (also_done (f u))
 shows_by s c false it f u t = ap (λ (l : Trees). then_further s true [] None l) (also_done (f t))
 
-print_is : (s : Page) (t : Text) → is_part row.PRINT t ≡ true
+print_is : (s : Page) (t : Text) → is_phrase row.PRINT t ≡ true
     → shown_items s (tree_at row.PRINT t) ≡ (item_there s (drop 1 t) >>= (λ x. then_further s true [] x (further_at (after_item (drop 1 t)))))
 unfolding maybe_tree after_maybe
 print_is s t ok =
     ap (shown_items s) (stands_of row.PRINT print_items t print_row ok).1
-    ∙ shows_by s word.PRINT (starts Atoms start.PrintItem (drop 1 t)) (tree_at row.PRINT_ITEM (drop 1 t)) further_at (after_part row.PRINT_ITEM (drop 1 t)) (drop 1 t)
+    ∙ shows_by s word.PRINT (starts Atoms start.PrintItem (drop 1 t)) (tree_at row.PRINT_ITEM (drop 1 t)) further_at (after_phrase row.PRINT_ITEM (drop 1 t)) (drop 1 t)
 
 -- separators
-comma_stands : (t : Text) → is_part row.COMMA t ≡ true → after_part row.COMMA t ≡ drop 1 t
+comma_stands : (t : Text) → is_phrase row.COMMA t ≡ true → after_phrase row.COMMA t ≡ drop 1 t
 unfolding row_items
 comma_stands t ok = (stands_of row.COMMA (Sign byte.comma S13_SEPARATOR ∷ []) t refl ok).2
 
-semicolon_stands : (t : Text) → is_part row.SEMICOLON t ≡ true → after_part row.SEMICOLON t ≡ drop 1 t
+semicolon_stands : (t : Text) → is_phrase row.SEMICOLON t ≡ true → after_phrase row.SEMICOLON t ≡ drop 1 t
 unfolding row_items
 semicolon_stands t ok = (stands_of row.SEMICOLON (Sign byte.semicolon S13_SEPARATOR ∷ []) t refl ok).2
 
 record Separated (t : Text) : Type 0 where
   pub zone : separator_in (tree_at row.SEPARATOR t) ≡ zone_where (first t == byte.comma)
-  pub rest : after_part row.SEPARATOR t ≡ drop 1 t
+  pub rest : after_phrase row.SEPARATOR t ≡ drop 1 t
 
-separated_by : (t : Text) (b : Bool) → is_part row.SEPARATOR t ≡ true → (first t == byte.comma) ≡ b → Separated t
+separated_by : (t : Text) (b : Bool) → is_phrase row.SEPARATOR t ≡ true → (first t == byte.comma) ≡ b → Separated t
 unfolding row_items starts
 separated_by t true ok is =
     let r = either_first row.SEPARATOR row.COMMA row.SEMICOLON (start.Code byte.comma) t refl ok is in
@@ -190,7 +190,7 @@ unfolding row_items
 further_row = refl
 
 record Follows (t : Text) : Type 0 where
-  pub item : maybe_part start.PrintItem row.PRINT_ITEM (drop 1 t) ≡ true
+  pub item : maybe_phrase start.PrintItem row.PRINT_ITEM (drop 1 t) ≡ true
   pub list : is_list separators row.FURTHER_ITEM (after_item (drop 1 t)) ≡ true
   pub zone : (s : Page) (line : Bool)
       → further_in s line (further_at t) ≡ (item_there s (drop 1 t) >>= (λ x. then_further s (is_some x) (zone_where (first t == byte.comma)) x (further_at (after_item (drop 1 t)))))
@@ -200,11 +200,11 @@ next_by : (s : Page) (line b : Bool) (separator it more : Trees)
 next_by s line true separator it more = refl
 next_by s line false separator it more = refl
 
-follows_at : (t u : Text) (separator : Trees) → u ≡ drop 1 t → separator_in separator ≡ zone_where (first t == byte.comma) → maybe_part start.PrintItem row.PRINT_ITEM u ≡ true
+follows_at : (t u : Text) (separator : Trees) → u ≡ drop 1 t → separator_in separator ≡ zone_where (first t == byte.comma) → maybe_phrase start.PrintItem row.PRINT_ITEM u ≡ true
     → is_list separators row.FURTHER_ITEM (after_item u) ≡ true → further_at t ≡ In 1 (In 2 separator (maybe_tree start.PrintItem row.PRINT_ITEM u)) (further_at (after_item u)) → Follows t
 unfolding maybe_tree
 follows_at t u separator same zone item list tree = record {
-  item = subst (λ (x : Text). maybe_part start.PrintItem row.PRINT_ITEM x ≡ true) same item;
+  item = subst (λ (x : Text). maybe_phrase start.PrintItem row.PRINT_ITEM x ≡ true) same item;
   list = subst (λ (x : Text). is_list separators row.FURTHER_ITEM (after_item x) ≡ true) same list;
   zone = λ s line.
       ap (further_in s line) tree ∙ next_by s line (starts Atoms start.PrintItem u) separator (tree_at row.PRINT_ITEM u) (further_at (after_item u))
@@ -218,11 +218,11 @@ follows t ok is =
     let g = goes separators row.FURTHER_ITEM t ok is in
     let r = stands_of row.FURTHER_ITEM further_items t further_row g.part in
     let sep = separated_by t (first t == byte.comma) r.0.0 refl in
-    let item = maybe_then start.PrintItem row.PRINT_ITEM (after_part row.SEPARATOR t) (λ u. Unit {0}) r.0.1 in
-    follows_at t (after_part row.SEPARATOR t) (tree_at row.SEPARATOR t) sep.rest sep.zone item.0 (subst (λ (x : Text). is_list separators row.FURTHER_ITEM x ≡ true) r.2 g.list)
-    (g.tree ∙ ap (λ (a : Trees). In 1 a (further_at (after_part row.FURTHER_ITEM t))) r.1 ∙ ap (λ (x : Text). In 1 (In 2 (tree_at row.SEPARATOR t) (maybe_tree start.PrintItem row.PRINT_ITEM (after_part row.SEPARATOR t))) (further_at x)) r.2)
+    let item = maybe_then start.PrintItem row.PRINT_ITEM (after_phrase row.SEPARATOR t) (λ u. Unit {0}) r.0.1 in
+    follows_at t (after_phrase row.SEPARATOR t) (tree_at row.SEPARATOR t) sep.rest sep.zone item.0 (subst (λ (x : Text). is_list separators row.FURTHER_ITEM x ≡ true) r.2 g.list)
+    (g.tree ∙ ap (λ (a : Trees). In 1 a (further_at (after_phrase row.FURTHER_ITEM t))) r.1 ∙ ap (λ (x : Text). In 1 (In 2 (tree_at row.SEPARATOR t) (maybe_tree start.PrintItem row.PRINT_ITEM (after_phrase row.SEPARATOR t))) (further_at x)) r.2)
 
-pub next_item : (t : Text) → is_list separators row.FURTHER_ITEM t ≡ true → starts Atoms separators t ≡ true → maybe_part start.PrintItem row.PRINT_ITEM (drop 1 t) ≡ true
+pub next_item : (t : Text) → is_list separators row.FURTHER_ITEM t ≡ true → starts Atoms separators t ≡ true → maybe_phrase start.PrintItem row.PRINT_ITEM (drop 1 t) ≡ true
 next_item t ok is = Follows.item (follows t ok is)
 
 pub next_list : (t : Text) → is_list separators row.FURTHER_ITEM t ≡ true → starts Atoms separators t ≡ true → is_list separators row.FURTHER_ITEM (after_item (drop 1 t)) ≡ true
@@ -283,7 +283,7 @@ first_then width s more old new column after (Ok o) text at =
     ∙ ap (λ (l : List ℕ). laid_after width l (items_column width column (items_of o)) (further_in s true more)) (ok_same _ _ text)
     ∙ ap (λ (n : ℕ). laid_after width new n (further_in s true more)) (ok_same _ _ at)
 
-pub first_shown : (width : ℕ) (s : Page) (t : Text) (old new : List ℕ) (column after : ℕ) → is_part row.PRINT t ≡ true
+pub first_shown : (width : ℕ) (s : Page) (t : Text) (old new : List ℕ) (column after : ℕ) → is_phrase row.PRINT t ≡ true
     → (item_there s (drop 1 t) >>= (λ o. Ok (old ++ layout width column (items_of o)))) ≡ Ok new
     → (item_there s (drop 1 t) >>= (λ o. Ok (items_column width column (items_of o)))) ≡ Ok after
     → laid_after width new after (further_in s true (further_at (after_item (drop 1 t)))) ≡ laid_after width old column (shown_items s (tree_at row.PRINT t))
@@ -294,10 +294,10 @@ refused_then : (code : ℕ) (r : Result (Option Shown) ℕ) (f : Option Shown �
 refused_then code (Ok o) f is = cc
 refused_then code (Err c) f is = cc
 
-first_refused : (s : Page) (t : Text) (code : ℕ) → is_part row.PRINT t ≡ true → item_there s (drop 1 t) ≡ Err code → shown_items s (tree_at row.PRINT t) ≡ Err code
+first_refused : (s : Page) (t : Text) (code : ℕ) → is_phrase row.PRINT t ≡ true → item_there s (drop 1 t) ≡ Err code → shown_items s (tree_at row.PRINT t) ≡ Err code
 first_refused s t code ok is = print_is s t ok ∙ refused_then code (item_there s (drop 1 t)) (λ x. then_further s true [] x (further_at (after_item (drop 1 t)))) is
 
-pub first_fault : (s : Page) (t : Text) (f : Fault) → is_part row.PRINT t ≡ true → IsRefused (item_there s (drop 1 t)) f → IsRefused (shown_items s (tree_at row.PRINT t)) f
+pub first_fault : (s : Page) (t : Text) (f : Fault) → is_phrase row.PRINT t ≡ true → IsRefused (item_there s (drop 1 t)) f → IsRefused (shown_items s (tree_at row.PRINT t)) f
 first_fault s t (fault.Code code) ok refused = first_refused s t code ok refused
 first_fault s t fault.NoMemory ok refused = tt
 

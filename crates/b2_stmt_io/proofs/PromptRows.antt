@@ -18,8 +18,8 @@ use Rattle.b2_atom.specs.declared.forms.Leaf.TheVariants as leaf
 use Rattle.b2_atom.specs.declared.forms.Item.{Item}
 use Rattle.b2_atom.specs.declared.forms.Item.TheVariants.{Word, Sign, Part, Maybe}
 use Rattle.b2_rows.specs.Leaves.{is_leaf, leaf_bytes}
-use Rattle.b2_rows.specs.Rows.{is_part, tree_at}
-use Rattle.b2_rows.specs.Optional.{maybe_part, maybe_tree, after_maybe}
+use Rattle.b2_rows.specs.Rows.{is_phrase, tree_at}
+use Rattle.b2_rows.specs.Optional.{maybe_phrase, maybe_tree, after_maybe}
 use Rattle.b2_rows.specs.Values.{literal_of}
 use Rattle.b2_rows.proofs.Optional.{begun_part, begun_tree, begun_rest, left_out_tree, left_out_rest}
 use Rattle.b2_rows.proofs.RowsRead.{stands_of}
@@ -31,7 +31,7 @@ abbrev pub quoted : Start
 quoted = start.Code byte.quote
 
 abbrev Prompted : Text → Type 0
-Prompted t = maybe_part quoted row.PROMPT t ≡ true
+Prompted t = maybe_phrase quoted row.PROMPT t ≡ true
 
 begins : (t : Text) (b : Bool) → (first t == byte.quote) ≡ b → starts Atoms quoted t ≡ b
 unfolding starts
@@ -44,10 +44,10 @@ prompt_row : row_items row.PROMPT ≡ prompt_items
 unfolding row_items
 prompt_row = refl
 
-part : (t : Text) → Prompted t → (first t == byte.quote) ≡ true → is_part row.PROMPT t ≡ true
+part : (t : Text) → Prompted t → (first t == byte.quote) ≡ true → is_phrase row.PROMPT t ≡ true
 part t ok is = begun_part quoted row.PROMPT t ok (begins t true is)
 
-literal : (t : Text) → Prompted t → (first t == byte.quote) ≡ true → is_part row.LITERAL t ≡ true
+literal : (t : Text) → Prompted t → (first t == byte.quote) ≡ true → is_phrase row.LITERAL t ≡ true
 literal t ok is = (stands_of row.PROMPT prompt_items t prompt_row (part t ok is)).0.0
 
 pub prompt_here : (t : Text) → Prompted t → (first t == byte.quote) ≡ true → is_leaf leaf.Literal t ≡ true
@@ -99,22 +99,22 @@ linput_row : row_items row.LINPUT ≡ linput_items
 unfolding row_items
 linput_row = refl
 
-linput_stands : (t : Text) → is_part row.LINPUT t ≡ true → Prompted (drop 1 t) × ((is_part row.ALPHA_RECEIVER (rest_at t) ≡ true) × Unit {0})
-linput_stands t ok = maybe_then quoted row.PROMPT (drop 1 t) (λ u. (is_part row.ALPHA_RECEIVER u ≡ true) × Unit {0}) (stands_of row.LINPUT linput_items t linput_row ok).0.1
+linput_stands : (t : Text) → is_phrase row.LINPUT t ≡ true → Prompted (drop 1 t) × ((is_phrase row.ALPHA_RECEIVER (rest_at t) ≡ true) × Unit {0})
+linput_stands t ok = maybe_then quoted row.PROMPT (drop 1 t) (λ u. (is_phrase row.ALPHA_RECEIVER u ≡ true) × Unit {0}) (stands_of row.LINPUT linput_items t linput_row ok).0.1
 
-pub linput_prompt : (t : Text) → is_part row.LINPUT t ≡ true → maybe_part quoted row.PROMPT (drop 1 t) ≡ true
+pub linput_prompt : (t : Text) → is_phrase row.LINPUT t ≡ true → maybe_phrase quoted row.PROMPT (drop 1 t) ≡ true
 linput_prompt t ok = (linput_stands t ok).0
 
-pub linput_receiver : (t : Text) → is_part row.LINPUT t ≡ true → is_part row.ALPHA_RECEIVER (rest_at t) ≡ true
+pub linput_receiver : (t : Text) → is_phrase row.LINPUT t ≡ true → is_phrase row.ALPHA_RECEIVER (rest_at t) ≡ true
 linput_receiver t ok = (linput_stands t ok).1.0
 
-linput_tree : (t : Text) → is_part row.LINPUT t ≡ true → tree_at row.LINPUT t ≡ Put (Coded word.LINPUT) (also (maybe_tree quoted row.PROMPT (drop 1 t)) (In 2 (tree_at row.ALPHA_RECEIVER (rest_at t)) Done))
+linput_tree : (t : Text) → is_phrase row.LINPUT t ≡ true → tree_at row.LINPUT t ≡ Put (Coded word.LINPUT) (also (maybe_tree quoted row.PROMPT (drop 1 t)) (In 2 (tree_at row.ALPHA_RECEIVER (rest_at t)) Done))
 linput_tree t ok =
     (stands_of row.LINPUT linput_items t linput_row ok).1
     ∙ ap (λ (a : Trees). Put (Coded word.LINPUT) a) (maybe_put quoted row.PROMPT (drop 1 t) (λ u. In 2 (tree_at row.ALPHA_RECEIVER u) Done))
 
-pub linput_shows : (t : Text) → is_part row.LINPUT t ≡ true → prompt_of (tree_at row.LINPUT t) ≡ prompt_there (maybe_tree quoted row.PROMPT (drop 1 t))
+pub linput_shows : (t : Text) → is_phrase row.LINPUT t ≡ true → prompt_of (tree_at row.LINPUT t) ≡ prompt_there (maybe_tree quoted row.PROMPT (drop 1 t))
 linput_shows t ok = ap prompt_of (linput_tree t ok) ∙ prompt_is word.LINPUT (drop 1 t) (In 2 (tree_at row.ALPHA_RECEIVER (rest_at t)) Done)
 
-pub linput_to : (t : Text) → is_part row.LINPUT t ≡ true → receiver_of (after_prompt (tree_at row.LINPUT t)) ≡ tree_at row.ALPHA_RECEIVER (rest_at t)
+pub linput_to : (t : Text) → is_phrase row.LINPUT t ≡ true → receiver_of (after_prompt (tree_at row.LINPUT t)) ≡ tree_at row.ALPHA_RECEIVER (rest_at t)
 linput_to t ok = ap (λ (a : Trees). receiver_of (after_prompt a)) (linput_tree t ok) ∙ ap receiver_of (after_is word.LINPUT (drop 1 t) (In 2 (tree_at row.ALPHA_RECEIVER (rest_at t)) Done))

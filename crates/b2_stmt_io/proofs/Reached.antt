@@ -22,7 +22,7 @@ use Rattle.b2_access.specs.Lending.{SeenLent}
 use Rattle.b2_access.specs.Partition.{setting_of}
 use Rattle.b2_access.specs.Placed.{Statement}
 use Rattle.b2_access.specs.Showing.{shown_or_printed}
-use Rattle.b2_access.specs.Marks.{typed_by_mark}
+use Rattle.b2_access.specs.KeyLiterals.{typed_by_mark}
 use Rattle.b2_access.specs.Views.{LineCame, PromptShown, LineEntered, LineLeft, LineLater, key_came, line_came}
 use Rattle.b2_access.specs.Working.{EachReaches, PlansEachReach, Worked, Working, globals_after, plain, stops, told_of_globals}
 use Rattle.b2_access.specs.declared.accesses.Access.{Access}
@@ -31,7 +31,7 @@ use Rattle.b2_access.specs.declared.devices.Device.{Device}
 use Rattle.b2_access.specs.declared.planned.Outcome.{Outcome}
 use Rattle.b2_access.specs.declared.private.Private.{Private}
 use Rattle.b2_access.proofs.Choice.{either}
-use Rattle.b2_access.proofs.Courses.{each_course}
+use Rattle.b2_access.proofs.Dispatch.{each_dispatch}
 use Rattle.b2_stmt_io.specs.Converting.{converts, converts_bytes, converts_number, image_from, number_from}
 use Rattle.b2_stmt_io.specs.Inputs.{take_parts, takes_part, takes_parts, takes_some, takes_typed}
 use Rattle.b2_stmt_io.specs.Keys.{assigns_key, key_byte, key_goes, with_key}
@@ -86,7 +86,7 @@ converts_reach (Put word (In n t end)) w = either (λ (r : WorkLeft). MayBecome 
 pub plans_reach : (devices : List Device) → PlansEachReach (works devices)
 plans_reach devices me s =
     let F : Working → Type 0 = λ k. MayBecome s.globals (globals_after (told_of_globals k) s.globals) in
-    each_course is_refused stops (does devices me s) me s F (stay s.globals) (stay s.globals) (λ p is u.
+    each_dispatch is_refused stops (does devices me s) me s F (stay s.globals) (stay s.globals) (λ p is u.
     either F (u.row == row.CONVERT) _ _ (converts_reach u.tree (work_in (setting_of me) s.home me.vars s.globals)) (stay s.globals))
 
 -- INPUT and LINPUT
@@ -147,7 +147,7 @@ statement_reaches u p x a me s =
     (key_reaches (key_byte (key_came x a)) (key_goes (key_came x a) s.home.lines p u.tree) u.tree me s) (λ r. line_reaches r u.tree p x a me s)
 
 pub finishes_reach : EachReaches plain ends
-finishes_reach x a me s = each_course is_refused (repeats me) (finishes x a me s) me s (Tells s.globals) (stay s.globals) (stay s.globals) (λ p is u. statement_reaches u p x a me s)
+finishes_reach x a me s = each_dispatch is_refused (repeats me) (finishes x a me s) me s (Tells s.globals) (stay s.globals) (stay s.globals) (λ p is u. statement_reaches u p x a me s)
 
 pub printing_reaches : EachReaches plain printing_ends
 printing_reaches x a me s = shown_stays x a me s.globals

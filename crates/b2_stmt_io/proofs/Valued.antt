@@ -10,7 +10,7 @@ use Rattle.b2_atom.specs.Grammar.{row_items, starts}
 use Rattle.b2_atom.specs.declared.words.Origin.TheVariants.{Atoms}
 use Rattle.b2_atom.specs.declared.rows.TheConstants as row
 use Rattle.b2_atom.specs.declared.forms.Start.TheVariants as start
-use Rattle.b2_rows.specs.Rows.{is_part, tree_at, Ends}
+use Rattle.b2_rows.specs.Rows.{is_phrase, tree_at, Ends}
 use Rattle.b2_rows.proofs.Optional.{begun_tree, left_out_tree}
 use Rattle.b2_expr.specs.Answers.{◌>>=◌}
 use Rattle.b2_expr.specs.Scope.{Context}
@@ -42,7 +42,7 @@ comma_row : IsComma row.COMMA_OPERAND row.OPERAND_OF_ANY_KIND S13_SEPARATOR
 unfolding row_items
 comma_row = refl
 
-pub next_part : (t : Text) → are_operands t ≡ true → (first t == byte.comma) ≡ true → is_part row.OPERAND_OF_ANY_KIND (drop 1 t) ≡ true
+pub next_part : (t : Text) → are_operands t ≡ true → (first t == byte.comma) ≡ true → is_phrase row.OPERAND_OF_ANY_KIND (drop 1 t) ≡ true
 next_part t ok is = Other.part (other row.COMMA_OPERAND row.OPERAND_OF_ANY_KIND S13_SEPARATOR t comma_row ok is)
 
 pub next_list : (t : Text) → are_operands t ≡ true → (first t == byte.comma) ≡ true → are_operands (past_operand (drop 1 t)) ≡ true

@@ -14,7 +14,7 @@ use Rattle.b2_access.specs.declared.accesses.Access.{Access}
 use Rattle.b2_access.specs.declared.accesses.Answer.{Answer}
 use Rattle.b2_access.specs.declared.private.Private.{Private}
 use Rattle.b2_access.specs.Views.{KeyCame, LineCame}
-use Rattle.b2_access.proofs.Courses.{each_course}
+use Rattle.b2_access.proofs.Dispatch.{each_dispatch}
 use Rattle.b2_access.proofs.Delays.{key_delayed, line_delayed}
 use Rattle.b2_access.proofs.Shown.{after_shown_or_printed}
 use Rattle.b2_stmt_io.specs.Keys.{key_taken, key_taken_by}
@@ -38,7 +38,7 @@ after_statement u p x a me s h =
 pub after_place : (x : Access) (a : Answer) (me : Private) (s : SeenLent) → delays a ≡ true → (ends x a me s).work ≡ work_of me
 after_place x a me s h =
     let F : Worked → Type 0 = λ w. w.work ≡ work_of me in
-    each_course is_refused (repeats me) (finishes x a me s) me s F refl refl (λ p is u. after_statement u p x a me s h)
+    each_dispatch is_refused (repeats me) (finishes x a me s) me s F refl refl (λ p is u. after_statement u p x a me s h)
 
 pub after_printing : (x : Access) (a : Answer) (me : Private) → delays a ≡ true → (shown_or_printed x a me).work ≡ work_of me
 after_printing x a me h = after_shown_or_printed x a me h

@@ -12,7 +12,7 @@ use Rattle.b2_access.specs.declared.planned.Outcome.TheVariants as outcome
 use Rattle.b2_access.specs.declared.private.Private.{Private}
 use Rattle.b2_access.specs.Partition.{setting_of}
 use Rattle.b2_rows.specs.LineNumbers.{line_in}
-use Rattle.b2_access.specs.Going.{to_line}
+use Rattle.b2_access.specs.Jumps.{to_line}
 use Rattle.b2_access.specs.Views.{KeyCame, ByteTyped, KeyPressed, NoKey, KeyLater, key_came}
 use Rattle.b2_access.specs.Lending.{SeenLent}
 use Rattle.b2_access.specs.Working.{Worked, leaves, with_variables, work_of}

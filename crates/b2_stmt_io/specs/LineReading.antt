@@ -12,7 +12,7 @@ use Rattle.b2_access.specs.declared.accesses.Access.TheVariants as access
 use Rattle.b2_access.specs.declared.accesses.Answer.{Answer}
 use Rattle.b2_access.specs.declared.planned.Outcome.TheVariants as outcome
 use Rattle.b2_access.specs.declared.private.Private.{Private}
-use Rattle.b2_access.specs.Marks.{typed_by_mark}
+use Rattle.b2_access.specs.KeyLiterals.{typed_by_mark}
 use Rattle.b2_access.specs.Views.{LineCame, PromptShown, LineEntered, LineLeft, line_came}
 use Rattle.b2_access.specs.Working.{Worked, leaves, with_variables, work_of}
 use Rattle.b2_receiver.specs.Receiving.{assign_bytes_at}

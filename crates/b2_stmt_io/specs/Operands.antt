@@ -8,7 +8,7 @@ use Rattle.b2_atom.specs.Grammar.{starts}
 use Rattle.b2_atom.specs.declared.words.Origin.TheVariants.{Atoms}
 use Rattle.b2_atom.specs.declared.rows.TheConstants as row
 use Rattle.b2_atom.specs.declared.forms.Start.TheVariants as start
-use Rattle.b2_rows.specs.Rows.{tree_at, after_part, is_list, list_at, after_list}
+use Rattle.b2_rows.specs.Rows.{tree_at, after_phrase, is_list, list_at, after_list}
 use Rattle.b2_rows.specs.Optional.{maybe_tree}
 use Rattle.b2_rows.specs.CommaLists.{further_listed}
 
@@ -20,7 +20,7 @@ abbrev pub after_operands : Text → Text
 after_operands t = after_list (start.Code byte.comma) row.COMMA_OPERAND t
 
 abbrev pub past_operand : Text → Text
-past_operand t = after_part row.OPERAND_OF_ANY_KIND t
+past_operand t = after_phrase row.OPERAND_OF_ANY_KIND t
 
 -- a semicolon, or none
 abbrev pub joint_at : Text → Trees
@@ -46,7 +46,7 @@ abbrev pub image_is_named : Text → Bool
 image_is_named t = starts Atoms start.Line (drop 1 t)
 
 abbrev pub after_image : Text → Text
-after_image t = if image_is_named t then after_part row.LINE_NUMBER (drop 1 t) else after_part row.IMAGE_LITERAL (drop 1 t)
+after_image t = if image_is_named t then after_phrase row.LINE_NUMBER (drop 1 t) else after_phrase row.IMAGE_LITERAL (drop 1 t)
 
 abbrev pub items_text : Text → Text
 items_text t = drop 1 (after_image t)

@@ -24,7 +24,7 @@ use Rattle.b2_stmt_io.specs.Inputs.{takes_typed}
 use Rattle.b2_stmt_io.specs.Handing.{hands_on}
 use Rattle.b2_stmt_io.specs.Keys.{key_taken}
 use Rattle.b2_stmt_io.specs.LineReading.{asks_line, line_answered, prompt_of}
-use Rattle.b2_access.specs.Courses.{Here, course}
+use Rattle.b2_access.specs.Dispatch.{Here, dispatch}
 use Rattle.b2_access.specs.Placed.{Statement}
 use Rattle.b2_access.specs.Rows.{at_row, has_row}
 use Rattle.b2_access.specs.Planning.{Finishing, Planning}
@@ -63,17 +63,17 @@ left_out t e o column prompted = planned.Done (outcome.Failed S27_LEFT_OUT)
 abbrev pub asked_of : ℕ → Asks
 asked_of r = at_row asking_rows left_out r
 
-abbrev pub course_of : List Device → Statement → Private → SeenLent → Working
-course_of devices u me s =
+abbrev pub dispatch_of : List Device → Statement → Private → SeenLent → Working
+dispatch_of devices u me s =
     if u.row == row.CONVERT then Ends (with_variables (changed_by (converts u.tree (work_in (setting_of me) s.home me.vars s.globals))) outcome.Next (work_of me))
     else Plans (asked_of u.row u.tree (context_of (work_in (setting_of me) s.home me.vars s.globals)) (outlet_of devices me) me.term_column me.prompted)
 
 abbrev pub does : List Device → Private → SeenLent → Statement → Here → Working
-does devices me s u h = course_of devices u me s
+does devices me s u h = dispatch_of devices u me s
 
 -- what the statement at a partition's place plans, over the devices that there are
 abbrev pub works : List Device → Private → SeenLent → Working
-works devices me s = course is_refused stops (does devices me s) me.place me s
+works devices me s = dispatch is_refused stops (does devices me s) me.place me s
 
 abbrev pub plan : List Device → Private → SeenLent → Planning
 plan devices me s = plans_by (works devices) me s
@@ -111,7 +111,7 @@ repeats me o = leaves me outcome.Repeat
 
 -- how the statement at a partition's place finishes
 abbrev pub ends : Access → Answer → Private → SeenLent → Worked
-ends x a me s = course is_refused (repeats me) (finishes x a me s) me.place me s
+ends x a me s = dispatch is_refused (repeats me) (finishes x a me s) me.place me s
 
 abbrev pub finish : Access → Answer → Private → SeenLent → Finishing
 finish x a me s = finishes_by ends x a me s

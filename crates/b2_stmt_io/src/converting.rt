@@ -4,7 +4,7 @@ ghost use Rattle.b2_atom.specs.declared.rows.TheConstants as row;
 ghost use Rattle.b2_atom.specs.declared.forms.Leaf.TheVariants as leaf;
 ghost use Rattle.b2_print.specs.Imaged.{converted};
 ghost use Rattle.b2_rows.specs.Leaves.{is_leaf, leaf_bytes};
-ghost use Rattle.b2_rows.specs.Rows.{is_part, tree_at, after_part};
+ghost use Rattle.b2_rows.specs.Rows.{is_phrase, tree_at, after_phrase};
 ghost use Rattle.b2_rows.specs.Values.{image_of};
 ghost use Rattle.b2_expr.specs.Workspace.{SameReferences, workspace};
 ghost use Rattle.b2_stmt_io.specs.Converting as spec;
@@ -23,7 +23,7 @@ use b2_rows::{image_at, is_alpha_at};
 /// The number that bytes are, for a numeric receiver.
 #[tactic(auto, using(crate::proofs::ConvertRows::bytes_here, crate::proofs::ConvertRows::bytes_receiver, crate::proofs::ConvertRows::bytes_are))]
 fn convert_bytes(work: &mut Workspace<'_>, text: &[u8]) -> Result<Option<Code>, NoMemory>
-    requires part { is_part row.CONVERT_ALPHA text.now ≡ true }
+    requires phrase { is_phrase row.CONVERT_ALPHA text.now ≡ true }
     ensures worked { IfOk result (λ code. record { work = workspace work.new; code = code } ≡ spec.converts_bytes (tree_at row.CONVERT_ALPHA text.now) (workspace work.old)) }
     ensures same_references { SameReferences work.old work.new }
 {
@@ -43,7 +43,7 @@ fn image_to(
     image: &[u8],
     text: &[u8],
 ) -> Result<Option<Code>, NoMemory>
-    requires part { is_part row.ALPHA_RECEIVER text.now ≡ true }
+    requires phrase { is_phrase row.ALPHA_RECEIVER text.now ≡ true }
     requires short { length image.now ≤ 255 }
     ensures worked { IfOk result (λ code. record { work = workspace work.new; code = code } ≡ assigns_bytes (converted image.now x) (tree_at row.ALPHA_RECEIVER text.now) (workspace work.old)) }
     ensures same_references { SameReferences work.old work.new }
@@ -61,9 +61,9 @@ fn image_to(
 
 /// The image after the alpha receiver at a text.
 fn image_after(text: &[u8]) -> &[u8]
-    requires part { is_part row.ALPHA_RECEIVER text.now ≡ true }
-    requires image { is_leaf leaf.Image (drop 1 (drop 1 (after_part row.ALPHA_RECEIVER text.now))) ≡ true }
-    ensures { result.now ≡ image_of (leaf_bytes leaf.Image (drop 1 (drop 1 (after_part row.ALPHA_RECEIVER text.now)))) }
+    requires phrase { is_phrase row.ALPHA_RECEIVER text.now ≡ true }
+    requires image { is_leaf leaf.Image (drop 1 (drop 1 (after_phrase row.ALPHA_RECEIVER text.now))) ≡ true }
+    ensures { result.now ≡ image_of (leaf_bytes leaf.Image (drop 1 (drop 1 (after_phrase row.ALPHA_RECEIVER text.now)))) }
 {
     image_at(rest_after(rest_after(past_alpha_receiver(text), 1), 1))
 }
@@ -71,7 +71,7 @@ fn image_after(text: &[u8]) -> &[u8]
 /// A number in an image, for an alpha receiver.
 #[tactic(auto, using(crate::proofs::ConvertRows::number_here, crate::proofs::ConvertRows::number_receiver, crate::proofs::ConvertRows::image_here, crate::proofs::ConvertRows::image_short, crate::proofs::ConvertRows::number_is))]
 fn convert_number(work: &mut Workspace<'_>, text: &[u8]) -> Result<Option<Code>, NoMemory>
-    requires part { is_part row.CONVERT_NUMBER text.now ≡ true }
+    requires phrase { is_phrase row.CONVERT_NUMBER text.now ≡ true }
     ensures worked { IfOk result (λ code. record { work = workspace work.new; code = code } ≡ spec.converts_number (tree_at row.CONVERT_NUMBER text.now) (workspace work.old)) }
     ensures same_references { SameReferences work.old work.new }
 {
@@ -87,7 +87,7 @@ fn convert_number(work: &mut Workspace<'_>, text: &[u8]) -> Result<Option<Code>,
 /// CONVERT: the code with which it ended, or none.
 #[tactic(auto, using(crate::proofs::ConvertRows::alpha_here, crate::proofs::ConvertRows::alpha_is, crate::proofs::ConvertRows::other_here, crate::proofs::ConvertRows::other_is))]
 pub fn convert_unit(work: &mut Workspace<'_>, unit: &[u8]) -> Result<Option<Code>, NoMemory>
-    requires part { is_part row.CONVERT unit.now ≡ true }
+    requires phrase { is_phrase row.CONVERT unit.now ≡ true }
     ensures worked { IfOk result (λ code. record { work = workspace work.new; code = code } ≡ spec.converts (tree_at row.CONVERT unit.now) (workspace work.old)) }
     ensures same_references { SameReferences work.old work.new }
 {

@@ -7,7 +7,7 @@ ghost use Rattle.b2_atom.specs.declared.rows.TheConstants as row;
 ghost use Rattle.b2_receiver.specs.Assigning.{LendsOr};
 ghost use Rattle.b2_expr.specs.Scope.{surroundings};
 ghost use Rattle.b2_expr.specs.Value.{in_statement};
-ghost use Rattle.b2_rows.specs.Rows.{is_part, tree_at};
+ghost use Rattle.b2_rows.specs.Rows.{is_phrase, tree_at};
 ghost use Rattle.b2_text.specs.Program.{line_at as line_of};
 ghost use Rattle.b2_stmt_io.specs.Imaging as spec;
 ghost use Rattle.b2_stmt_io.specs.Imaging.{is_joined};
@@ -41,7 +41,7 @@ fn line_image(home: &Text, n: u16) -> Result<&[u8], Code>
 /// The image that is written or named.
 #[tactic(auto, using(crate::proofs::UsingRows::line_here, crate::proofs::UsingRows::line_is, crate::proofs::UsingRows::written_here, crate::proofs::UsingRows::written_is))]
 fn image_of<'a>(home: &'a Text, unit: &'a [u8]) -> Result<&'a [u8], Code>
-    requires part { is_part row.PRINTUSING unit.now ≡ true }
+    requires phrase { is_phrase row.PRINTUSING unit.now ≡ true }
     ensures { LendsOr (spec.image_named home.now.lines (tree_at row.PRINTUSING unit.now)) result }
 {
     let text = rest_after(unit, 1);
@@ -55,7 +55,7 @@ fn image_of<'a>(home: &'a Text, unit: &'a [u8]) -> Result<&'a [u8], Code>
 /// The text of the items after the image.
 #[tactic(auto, using(crate::proofs::UsingRows::after_line, crate::proofs::UsingRows::after_written))]
 fn items_of(unit: &[u8]) -> &[u8]
-    requires part { is_part row.PRINTUSING unit.now ≡ true }
+    requires phrase { is_phrase row.PRINTUSING unit.now ≡ true }
     ensures { result.now ≡ items_text unit.now }
 {
     let text = rest_after(unit, 1);
@@ -69,7 +69,7 @@ fn items_of(unit: &[u8]) -> &[u8]
 /// The value of the operand of either kind at a text, and what stands after it.
 #[tactic(auto, using(crate::proofs::UsingRows::alpha_part, crate::proofs::UsingRows::alpha_value, crate::proofs::UsingRows::alpha_code, crate::proofs::UsingRows::alpha_rest, crate::proofs::UsingRows::number_part, crate::proofs::UsingRows::number_value, crate::proofs::UsingRows::number_code, crate::proofs::UsingRows::number_rest))]
 fn any_value<'a>(e: &Env<'_>, text: &'a [u8]) -> Result<(Value, &'a [u8]), Code>
-    requires part { is_part row.OPERAND_OF_ANY_KIND text.now ≡ true }
+    requires phrase { is_phrase row.OPERAND_OF_ANY_KIND text.now ≡ true }
     ensures { MatchResult result (λ p. (spec.any_value (in_statement (surroundings e.now)) (tree_at row.OPERAND_OF_ANY_KIND text.now) ≡ Ok p.0) × (p.1.now ≡ past_operand text.now)) (λ code. spec.any_value (in_statement (surroundings e.now)) (tree_at row.OPERAND_OF_ANY_KIND text.now) ≡ Err code) }
 {
     let mut c = Cursor::over(text);
@@ -99,8 +99,12 @@ fn add(values: &mut Vec<Value>, x: Value) -> Result<(), NoMemory>
 
 /// Adds the values of the operands at a text, and gives what stands after them.
 #[tactic(auto, using(crate::proofs::Valued::one_then, crate::proofs::Valued::one_refused, crate::proofs::Valued::next_part, crate::proofs::Valued::next_list, crate::proofs::Valued::next_rest, crate::proofs::Valued::next_end, crate::proofs::Valued::next_shorter, crate::proofs::Valued::next_one, crate::proofs::Valued::next_refused, crate::proofs::Valued::all_valued, crate::proofs::Valued::all_joined))]
-fn values_at<'a>(e: &Env<'_>, text: &'a [u8], values: &mut Vec<Value>) -> Result<&'a [u8], Fault>
-    requires part { is_part row.OPERAND_OF_ANY_KIND text.now ≡ true }
+fn imaged_values_at<'a>(
+    e: &Env<'_>,
+    text: &'a [u8],
+    values: &mut Vec<Value>,
+) -> Result<&'a [u8], Fault>
+    requires phrase { is_phrase row.OPERAND_OF_ANY_KIND text.now ≡ true }
     requires list { are_operands (past_operand text.now) ≡ true }
     ensures { MatchResult result (λ rest. (spec.values_joined values.old.items (spec.values_of (in_statement (surroundings e.now)) (operands_at text.now)) ≡ Ok values.new.items) × (is_joined (after_all_listed (operands_tree text.now)) ≡ (first rest.now == byte.semicolon))) (λ f. IsRefused (spec.values_of (in_statement (surroundings e.now)) (operands_at text.now)) f) }
 {
@@ -123,7 +127,7 @@ fn values_at<'a>(e: &Env<'_>, text: &'a [u8], values: &mut Vec<Value>) -> Result
 /// What PRINTUSING shows, or its first code.
 #[tactic(auto, using(crate::proofs::UsingRows::items_part, crate::proofs::UsingRows::items_list, crate::proofs::UsingRows::image_refused, crate::proofs::UsingRows::values_refused, crate::proofs::UsingRows::using_refused, crate::proofs::UsingRows::using_shown))]
 pub fn shown_using(alloc: Global, e: &Env<'_>, unit: &[u8]) -> Result<ByteList, Fault>
-    requires part { is_part row.PRINTUSING unit.now ≡ true }
+    requires phrase { is_phrase row.PRINTUSING unit.now ≡ true }
     ensures { MatchResult result (λ bytes. spec.prints_using (in_statement (surroundings e.now)) (tree_at row.PRINTUSING unit.now) ≡ Ok bytes) (λ f. IsRefused (spec.prints_using (in_statement (surroundings e.now)) (tree_at row.PRINTUSING unit.now)) f) }
 {
     let image = match image_of(e.home, unit) {
@@ -131,7 +135,7 @@ pub fn shown_using(alloc: Global, e: &Env<'_>, unit: &[u8]) -> Result<ByteList, 
         Err(code) => return Err(Fault::Code(code)),
     };
     let mut values = Vec::new(alloc);
-    let rest = match values_at(e, items_of(unit), &mut values) {
+    let rest = match imaged_values_at(e, items_of(unit), &mut values) {
         Ok(rest) => rest,
         Err(fault) => return Err(fault),
     };

@@ -2,7 +2,7 @@
 ghost use Rattle.std.specs.Prelude.{◌≡◌, ◌==◌, ◌||◌, true, IfOk, None, option_copied};
 ghost use Rattle.b2_alpha.specs.Values.{value_of};
 ghost use Rattle.b2_atom.specs.declared.rows.TheConstants as row;
-ghost use Rattle.b2_rows.specs.Rows.{is_part, tree_at};
+ghost use Rattle.b2_rows.specs.Rows.{is_phrase, tree_at};
 ghost use Rattle.b2_access.specs.Answering.{can_answer};
 ghost use Rattle.b2_access.specs.Views.{line_came};
 ghost use Rattle.b2_access.specs.Working.{ended};
@@ -36,7 +36,7 @@ fn item_value(bytes: &[u8]) -> &[u8]
 /// Assigns a part that isn't empty to the receiver at a text.
 #[tactic(auto, using(crate::proofs::InputRows::alpha_here, crate::proofs::InputRows::alpha_is, crate::proofs::InputRows::number_here, crate::proofs::InputRows::number_is))]
 fn some_to(work: &mut Workspace<'_>, part: &[u8], text: &[u8]) -> Result<Option<Code>, NoMemory>
-    requires part { is_part row.RECEIVER text.now ≡ true }
+    requires phrase { is_phrase row.RECEIVER text.now ≡ true }
     ensures worked { IfOk result (λ code. record { work = workspace work.new; code = code } ≡ spec.takes_some part.now (tree_at row.RECEIVER text.now) (workspace work.old)) }
     ensures same_references { SameReferences work.old work.new }
 {
@@ -49,7 +49,7 @@ fn some_to(work: &mut Workspace<'_>, part: &[u8], text: &[u8]) -> Result<Option<
 
 /// Assigns a part to the receiver at a text, unless it is empty.
 fn part_to(work: &mut Workspace<'_>, part: &[u8], text: &[u8]) -> Result<Option<Code>, NoMemory>
-    requires part { is_part row.RECEIVER text.now ≡ true }
+    requires phrase { is_phrase row.RECEIVER text.now ≡ true }
     ensures worked { IfOk result (λ code. record { work = workspace work.new; code = code } ≡ spec.takes_part (tree_at row.RECEIVER text.now) part.now (workspace work.old)) }
     ensures same_references { SameReferences work.old work.new }
 {
@@ -62,7 +62,7 @@ fn part_to(work: &mut Workspace<'_>, part: &[u8], text: &[u8]) -> Result<Option<
 /// Assigns the parts of a line to the receivers that stand at a text, from left to right.
 #[tactic(auto, using(crate::proofs::Parted::part_more, crate::proofs::Parted::key_leads, b2_receiver::proofs::ReceiverLists::other_part, b2_receiver::proofs::ReceiverLists::other_list, b2_receiver::proofs::ReceiverLists::receiver_shorter))]
 fn parts_to(work: &mut Workspace<'_>, line: &[u8], text: &[u8]) -> Result<Option<Code>, NoMemory>
-    requires part { is_part row.RECEIVER text.now ≡ true }
+    requires phrase { is_phrase row.RECEIVER text.now ≡ true }
     requires list { are_others (past_first text.now) ≡ true }
     ensures worked { IfOk result (λ code. record { work = workspace work.new; code = code } ≡ spec.take_parts spec.takes_part (receivers_at text.now) (typed_parts line.now) (workspace work.old)) }
     ensures same_references { SameReferences work.old work.new }
@@ -91,7 +91,7 @@ fn parts_to(work: &mut Workspace<'_>, line: &[u8], text: &[u8]) -> Result<Option
 /// Assigns a line to the receivers of INPUT.
 #[tactic(auto, using(crate::proofs::InputRows::input_prompt, crate::proofs::InputRows::input_receiver, crate::proofs::InputRows::input_list, crate::proofs::InputRows::input_is))]
 fn take_parts(work: &mut Workspace<'_>, line: &[u8], unit: &[u8]) -> Result<Option<Code>, NoMemory>
-    requires part { is_part row.INPUT unit.now ≡ true }
+    requires phrase { is_phrase row.INPUT unit.now ≡ true }
     ensures worked { IfOk result (λ code. record { work = workspace work.new; code = code } ≡ spec.takes_parts line.now (tree_at row.INPUT unit.now) (workspace work.old)) }
     ensures same_references { SameReferences work.old work.new }
 {
@@ -107,7 +107,7 @@ pub fn ask_input(
     term: Term,
     unit: &[u8],
 ) -> Result<Access, NoMemory>
-    requires part { is_part row.INPUT unit.now ≡ true }
+    requires phrase { is_phrase row.INPUT unit.now ≡ true }
     ensures { IfOk result (λ a. a ≡ asks_line prompted column term (prompt_of (tree_at row.INPUT unit.now))) }
 {
     ask_line(alloc, prompted, column, term, rest_after(unit, 1))
@@ -120,7 +120,7 @@ pub fn take_typed(
     line: &[u8],
     unit: &[u8],
 ) -> Result<Option<Code>, NoMemory>
-    requires part { is_part kind unit.now ≡ true }
+    requires phrase { is_phrase kind unit.now ≡ true }
     requires reads { (kind == row.LINPUT || kind == row.INPUT) ≡ true }
     ensures worked { IfOk result (λ code. record { work = workspace work.new; code = code } ≡ spec.takes_typed kind line.now (tree_at kind unit.now) (workspace work.old)) }
     ensures same_references { SameReferences work.old work.new }

@@ -5,8 +5,8 @@ ghost use Rattle.b2_access.specs.Views.{key_came};
 ghost use Rattle.b2_base.specs.Byte as byte;
 ghost use Rattle.b2_atom.specs.declared.rows.TheConstants as row;
 ghost use Rattle.b2_atom.specs.declared.forms.Start.TheVariants as start;
-ghost use Rattle.b2_rows.specs.Rows.{is_part, tree_at};
-ghost use Rattle.b2_rows.specs.Optional.{maybe_part, maybe_tree};
+ghost use Rattle.b2_rows.specs.Rows.{is_phrase, tree_at};
+ghost use Rattle.b2_rows.specs.Optional.{maybe_phrase, maybe_tree};
 ghost use Rattle.b2_expr.specs.Workspace.{SameReferences, workspace};
 ghost use Rattle.b2_stmt_io.specs.Keys as spec;
 
@@ -29,7 +29,7 @@ fn other_named(text: &[u8]) -> &[u8]
 /// Where KEYIN goes on after a key, by the lines that are named at a text.
 #[tactic(auto, using(crate::proofs::KeyRows::first_here, crate::proofs::KeyRows::to_next))]
 fn key_leads(special: bool, home: &Text, place: Place, text: &[u8]) -> Outcome
-    requires part { maybe_part (start.Code byte.comma) row.COMMA_TWO_LINES text.now ≡ true }
+    requires phrase { maybe_phrase (start.Code byte.comma) row.COMMA_TWO_LINES text.now ≡ true }
     ensures { result ≡ spec.key_leads special home.now.lines place (maybe_tree (start.Code byte.comma) row.COMMA_TWO_LINES text.now) }
 {
     if !is_at(b',', text) {
@@ -45,7 +45,7 @@ fn key_leads(special: bool, home: &Text, place: Place, text: &[u8]) -> Outcome
 /// Assigns a key to the receiver of KEYIN. The code with which that ended, or none.
 #[tactic(auto, using(crate::proofs::KeyRows::key_receiver, crate::proofs::KeyRows::assigns_key_is))]
 pub fn assign_key(work: &mut Workspace<'_>, key: u8, unit: &[u8]) -> Result<Option<Code>, NoMemory>
-    requires part { is_part row.KEYIN unit.now ≡ true }
+    requires phrase { is_phrase row.KEYIN unit.now ≡ true }
     ensures worked { IfOk result (λ code. record { work = workspace work.new; code = code } ≡ spec.assigns_key key (tree_at row.KEYIN unit.now) (workspace work.old)) }
     ensures same_references { SameReferences work.old work.new }
 {
@@ -71,7 +71,7 @@ pub fn key_byte(access: &Access, answer: &Answer) -> Option<u8>
 /// Where KEYIN goes on without a key, by the lines that are named at a text.
 #[tactic(auto, using(crate::proofs::KeyRows::waits_is))]
 fn without_key(text: &[u8]) -> Outcome
-    requires part { maybe_part (start.Code byte.comma) row.COMMA_TWO_LINES text.now ≡ true }
+    requires phrase { maybe_phrase (start.Code byte.comma) row.COMMA_TWO_LINES text.now ≡ true }
     ensures { result ≡ spec.waits (maybe_tree (start.Code byte.comma) row.COMMA_TWO_LINES text.now) }
 {
     if is_at(b',', text) {
@@ -90,7 +90,7 @@ pub fn after_key(
     answer: &Answer,
     unit: &[u8],
 ) -> Outcome
-    requires part { is_part row.KEYIN unit.now ≡ true }
+    requires phrase { is_phrase row.KEYIN unit.now ≡ true }
     requires possible { can_answer access.now answer.now ≡ true }
     ensures { result ≡ spec.key_goes (key_came access.now answer.now) home.now.lines place (tree_at row.KEYIN unit.now) }
 {

@@ -3,11 +3,11 @@ ghost use Rattle.std.specs.Prelude.{◌≡◌, true, IfOk};
 ghost use Rattle.b2_base.specs.Byte as byte;
 ghost use Rattle.b2_atom.specs.declared.rows.TheConstants as row;
 ghost use Rattle.b2_atom.specs.declared.forms.Start.TheVariants as start;
-ghost use Rattle.b2_rows.specs.Rows.{is_part, tree_at};
-ghost use Rattle.b2_rows.specs.Optional.{maybe_part, maybe_tree, after_maybe};
+ghost use Rattle.b2_rows.specs.Rows.{is_phrase, tree_at};
+ghost use Rattle.b2_rows.specs.Optional.{maybe_phrase, maybe_tree, after_maybe};
 ghost use Rattle.b2_expr.specs.Workspace.{SameReferences, workspace};
 ghost use Rattle.b2_stmt_io.specs.LineReading as spec;
-ghost use Rattle.b2_access.specs.Marks.{typed_by_mark};
+ghost use Rattle.b2_access.specs.KeyLiterals.{typed_by_mark};
 ghost use Rattle.b2_access.specs.Working.{ended};
 
 use crate::outlets::Outlet;
@@ -24,7 +24,7 @@ use std::alloc::Global;
 /// The text of the prompt at a text, no bytes where none stands there.
 #[tactic(auto, using(crate::proofs::PromptRows::prompt_here, crate::proofs::PromptRows::prompt_with, crate::proofs::PromptRows::prompt_without))]
 fn prompt_at(text: &[u8]) -> &[u8]
-    requires part { maybe_part (start.Code byte.quote) row.PROMPT text.now ≡ true }
+    requires phrase { maybe_phrase (start.Code byte.quote) row.PROMPT text.now ≡ true }
     ensures { result.now ≡ spec.prompt_there (maybe_tree (start.Code byte.quote) row.PROMPT text.now) }
 {
     if is_at(b'"', text) {
@@ -37,7 +37,7 @@ fn prompt_at(text: &[u8]) -> &[u8]
 /// What stands after the prompt at a text, or after none.
 #[tactic(auto, using(crate::proofs::PromptRows::rest_with, crate::proofs::PromptRows::rest_without))]
 pub fn past_prompt(text: &[u8]) -> &[u8]
-    requires part { maybe_part (start.Code byte.quote) row.PROMPT text.now ≡ true }
+    requires phrase { maybe_phrase (start.Code byte.quote) row.PROMPT text.now ≡ true }
     ensures { result.now ≡ after_maybe (start.Code byte.quote) row.PROMPT text.now }
 {
     if is_at(b'"', text) {
@@ -55,7 +55,7 @@ pub fn ask_line(
     term: Term,
     text: &[u8],
 ) -> Result<Access, NoMemory>
-    requires part { maybe_part (start.Code byte.quote) row.PROMPT text.now ≡ true }
+    requires phrase { maybe_phrase (start.Code byte.quote) row.PROMPT text.now ≡ true }
     ensures { IfOk result (λ a. a ≡ spec.asks_line prompted column term (spec.prompt_there (maybe_tree (start.Code byte.quote) row.PROMPT text.now))) }
 {
     if prompted {
@@ -76,7 +76,7 @@ pub fn ask_linput(
     term: Term,
     unit: &[u8],
 ) -> Result<Access, NoMemory>
-    requires part { is_part row.LINPUT unit.now ≡ true }
+    requires phrase { is_phrase row.LINPUT unit.now ≡ true }
     ensures { IfOk result (λ a. a ≡ spec.asks_line prompted column term (spec.prompt_of (tree_at row.LINPUT unit.now))) }
 {
     ask_line(alloc, prompted, column, term, rest_after(unit, 1))
@@ -89,7 +89,7 @@ pub fn assign_line(
     line: &[u8],
     unit: &[u8],
 ) -> Result<Option<Code>, NoMemory>
-    requires part { is_part row.LINPUT unit.now ≡ true }
+    requires phrase { is_phrase row.LINPUT unit.now ≡ true }
     ensures worked { IfOk result (λ code. record { work = workspace work.new; code = code } ≡ spec.takes_line line.now (tree_at row.LINPUT unit.now) (workspace work.old)) }
     ensures same_references { SameReferences work.old work.new }
 {

@@ -52,7 +52,7 @@ fn is_refused(row: u16, program: bool) -> bool
 
 /// What a statement asks for that changes nothing yet: by where PRINT and PRINTUSING show or its code, and by the column at the
 /// terminal and whether the prompt was shown there.
-fn ask(
+fn ask_at_terminal(
     alloc: Global,
     e: &Env<'_>,
     outlet: Result<Outlet, Code>,
@@ -90,7 +90,7 @@ pub fn plan_found(
     unit: &RowUnit<'_>,
 ) -> Result<Planned, NoMemory>
     requires read { IsRow unit.now.row unit.now.bytes.now (tree_at unit.now.row unit.now.bytes.now) }
-    ensures planned { IfOk result (λ p. record { me = me.new; globals = globals_lent lent.new; planned = p } ≡ plans_by (spec.course_of devices.now (record { row = unit.now.row; tree = tree_at unit.now.row unit.now.bytes.now })) me.old (seen_lent lent.old)) }
+    ensures planned { IfOk result (λ p. record { me = me.new; globals = globals_lent lent.new; planned = p } ≡ plans_by (spec.dispatch_of devices.now (record { row = unit.now.row; tree = tree_at unit.now.row unit.now.bytes.now })) me.old (seen_lent lent.old)) }
     ensures same_texts { (lent.new.own ≡ lent.old.own) × (lent.new.home ≡ lent.old.home) }
     ensures same_reference { lent.new.globals.ghost_name ≡ lent.old.globals.ghost_name }
     ensures part { me.new.part ≡ me.old.part }
@@ -111,7 +111,7 @@ pub fn plan_found(
         return Ok(Planned::Done(goes_or(Outcome::Next, code)));
     }
     let e = surroundings_of(&work);
-    ask(alloc, &e, outlet, me.term_column, me.prompted, unit)
+    ask_at_terminal(alloc, &e, outlet, me.term_column, me.prompted, unit)
 }
 
 /// What the statement at the place of a partition plans, over the devices that there are. Where no unit is there it is ready.
@@ -152,7 +152,7 @@ pub fn plan(
         return Ok(Planned::Done(goes_or(Outcome::Next, code)));
     }
     let e = surroundings_of(&work);
-    ask(alloc, &e, outlet, me.term_column, me.prompted, &unit)
+    ask_at_terminal(alloc, &e, outlet, me.term_column, me.prompted, &unit)
 }
 
 /// Whether statements of a row finish by what they asked for and its answer alone: PRINT and PRINTUSING.

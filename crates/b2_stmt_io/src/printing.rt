@@ -6,8 +6,8 @@ ghost use Rattle.b2_atom.specs.Grammar.{starts};
 ghost use Rattle.b2_atom.specs.declared.words.Origin.TheVariants.{Atoms};
 ghost use Rattle.b2_atom.specs.declared.rows.TheConstants as row;
 ghost use Rattle.b2_atom.specs.declared.forms.Start.TheVariants as start;
-ghost use Rattle.b2_rows.specs.Rows.{is_part, tree_at, after_part};
-ghost use Rattle.b2_rows.specs.Optional.{maybe_part, maybe_tree, after_maybe};
+ghost use Rattle.b2_rows.specs.Rows.{is_phrase, tree_at, after_phrase};
+ghost use Rattle.b2_rows.specs.Optional.{maybe_phrase, maybe_tree, after_maybe};
 ghost use Rattle.b2_expr.specs.Functions.{whole_between};
 ghost use Rattle.b2_expr.specs.Scope.{surroundings};
 ghost use Rattle.b2_expr.specs.Value.{in_statement};
@@ -110,8 +110,8 @@ fn tab_shown(
     out: &mut Vec<u8>,
     fault: &mut Fault,
 ) -> Shown
-    requires part { is_part row.TAB c.old ≡ true }
-    ensures { ShowsItem (spec.tab_in (in_statement (surroundings e.now)) (tree_at row.TAB c.old)) (after_part row.TAB c.old) width column out.old.items out.new.items c.new fault.new result }
+    requires phrase { is_phrase row.TAB c.old ≡ true }
+    ensures { ShowsItem (spec.tab_in (in_statement (surroundings e.now)) (tree_at row.TAB c.old)) (after_phrase row.TAB c.old) width column out.old.items out.new.items c.new fault.new result }
 {
     *c = Cursor::over(rest_after(c.rest(), 1));
     let x = match number(c, e) {
@@ -140,8 +140,8 @@ fn hex_shown(
     out: &mut Vec<u8>,
     fault: &mut Fault,
 ) -> Shown
-    requires part { is_part row.HEXOF c.old ≡ true }
-    ensures { ShowsItem (spec.hex_in (in_statement (surroundings e.now)) (tree_at row.HEXOF c.old)) (after_part row.HEXOF c.old) width column out.old.items out.new.items c.new fault.new result }
+    requires phrase { is_phrase row.HEXOF c.old ≡ true }
+    ensures { ShowsItem (spec.hex_in (in_statement (surroundings e.now)) (tree_at row.HEXOF c.old)) (after_phrase row.HEXOF c.old) width column out.old.items out.new.items c.new fault.new result }
 {
     *c = Cursor::over(rest_after(c.rest(), 1));
     let mut bytes = Bytes::new();
@@ -165,8 +165,8 @@ fn alpha_shown(
     out: &mut Vec<u8>,
     fault: &mut Fault,
 ) -> Shown
-    requires part { is_part row.ALPHA c.old ≡ true }
-    ensures { ShowsItem (spec.alpha_in (in_statement (surroundings e.now)) (tree_at row.ALPHA c.old)) (after_part row.ALPHA c.old) width column out.old.items out.new.items c.new fault.new result }
+    requires phrase { is_phrase row.ALPHA c.old ≡ true }
+    ensures { ShowsItem (spec.alpha_in (in_statement (surroundings e.now)) (tree_at row.ALPHA c.old)) (after_phrase row.ALPHA c.old) width column out.old.items out.new.items c.new fault.new result }
 {
     let mut bytes = Bytes::new();
     match alpha(c, e, &mut bytes) {
@@ -188,8 +188,8 @@ fn number_shown(
     out: &mut Vec<u8>,
     fault: &mut Fault,
 ) -> Shown
-    requires part { is_part row.SUM c.old ≡ true }
-    ensures { ShowsItem (spec.number_in (in_statement (surroundings e.now)) (tree_at row.SUM c.old)) (after_part row.SUM c.old) width column out.old.items out.new.items c.new fault.new result }
+    requires phrase { is_phrase row.SUM c.old ≡ true }
+    ensures { ShowsItem (spec.number_in (in_statement (surroundings e.now)) (tree_at row.SUM c.old)) (after_phrase row.SUM c.old) width column out.old.items out.new.items c.new fault.new result }
 {
     let x = match number(c, e) {
         Ok(x) => x,
@@ -213,8 +213,8 @@ fn other_shown(
     out: &mut Vec<u8>,
     fault: &mut Fault,
 ) -> Shown
-    requires part { is_part row.PRINT_BUT_HEXOF c.old ≡ true }
-    ensures { ShowsItem (spec.but_hexof_in (record { context = in_statement (surroundings e.now); outlet = outlet.now }) (tree_at row.PRINT_BUT_HEXOF c.old)) (after_part row.PRINT_BUT_HEXOF c.old) (width_of outlet.now) column out.old.items out.new.items c.new fault.new result }
+    requires phrase { is_phrase row.PRINT_BUT_HEXOF c.old ≡ true }
+    ensures { ShowsItem (spec.but_hexof_in (record { context = in_statement (surroundings e.now); outlet = outlet.now }) (tree_at row.PRINT_BUT_HEXOF c.old)) (after_phrase row.PRINT_BUT_HEXOF c.old) (width_of outlet.now) column out.old.items out.new.items c.new fault.new result }
 {
     if is_at(AT_OPEN, c.rest()) {
         return at_shown(alloc, e, outlet, c, out, fault);
@@ -240,8 +240,8 @@ fn item_shown(
     out: &mut Vec<u8>,
     fault: &mut Fault,
 ) -> Shown
-    requires part { is_part row.PRINT_ITEM c.old ≡ true }
-    ensures { ShowsItem (spec.item_of (record { context = in_statement (surroundings e.now); outlet = outlet.now }) (tree_at row.PRINT_ITEM c.old)) (after_part row.PRINT_ITEM c.old) (width_of outlet.now) column out.old.items out.new.items c.new fault.new result }
+    requires phrase { is_phrase row.PRINT_ITEM c.old ≡ true }
+    ensures { ShowsItem (spec.item_of (record { context = in_statement (surroundings e.now); outlet = outlet.now }) (tree_at row.PRINT_ITEM c.old)) (after_phrase row.PRINT_ITEM c.old) (width_of outlet.now) column out.old.items out.new.items c.new fault.new result }
 {
     if is_at(TAB_OPEN, c.rest()) {
         return tab_shown(e, outlet.width(), column, c, out, fault);
@@ -283,7 +283,7 @@ fn item_or_none(
     out: &mut Vec<u8>,
     fault: &mut Fault,
 ) -> Shown
-    requires part { maybe_part start.PrintItem row.PRINT_ITEM c.old ≡ true }
+    requires phrase { maybe_phrase start.PrintItem row.PRINT_ITEM c.old ≡ true }
     ensures { ShowsMaybe (spec.item_at (record { context = in_statement (surroundings e.now); outlet = outlet.now }) (maybe_tree start.PrintItem row.PRINT_ITEM c.old)) (after_maybe start.PrintItem row.PRINT_ITEM c.old) (width_of outlet.now) column out.old.items out.new.items c.new fault.new result }
 {
     if !is_item_at(c.rest()) {
@@ -302,7 +302,7 @@ pub fn show_items(
     unit: &[u8],
     out: &mut Vec<u8>,
 ) -> Result<u16, Fault>
-    requires part { is_part row.PRINT unit.now ≡ true }
+    requires phrase { is_phrase row.PRINT unit.now ≡ true }
     ensures { MatchResult result (λ after. laid_after (width_of outlet.now) out.old.items (column_of outlet.now) (spec.shown_items (record { context = in_statement (surroundings e.now); outlet = outlet.now }) (tree_at row.PRINT unit.now)) ≡ Ok (out.new.items, after)) (λ f. IsRefused (spec.shown_items (record { context = in_statement (surroundings e.now); outlet = outlet.now }) (tree_at row.PRINT unit.now)) f) }
 {
     let mut fault = Fault::NoMemory;

@@ -3,8 +3,8 @@ ghost use Rattle.std.specs.Prelude.{◌≡◌, ◌≤◌, ◌+◌, ℕ, IfOk, Ma
 ghost use Rattle.b2_base.specs.Byte as byte;
 ghost use Rattle.b2_atom.specs.declared.rows.TheConstants as row;
 ghost use Rattle.b2_atom.specs.declared.forms.Start.TheVariants as start;
-ghost use Rattle.b2_rows.specs.Rows.{is_part, tree_at, after_part};
-ghost use Rattle.b2_rows.specs.Optional.{maybe_part, maybe_tree, after_maybe};
+ghost use Rattle.b2_rows.specs.Rows.{is_phrase, tree_at, after_phrase};
+ghost use Rattle.b2_rows.specs.Optional.{maybe_phrase, maybe_tree, after_maybe};
 ghost use Rattle.b2_expr.specs.Scope.{surroundings};
 ghost use Rattle.b2_expr.specs.Value.{in_statement};
 ghost use Rattle.b2_print.specs.Layout.{is_on_screen};
@@ -41,9 +41,9 @@ pub struct BoxSize {
 
 /// The number that stands at a cursor without its fraction, from a least to a most. Where it is refused, nothing is told of where
 /// the cursor stands.
-fn whole_at(e: &Env<'_>, least: u8, most: u8, c: &mut Cursor<'_>) -> Result<u8, Code>
-    requires part { is_part row.SUM c.old ≡ true }
-    ensures value { MatchResult result (λ n. (spec.whole_in (in_statement (surroundings e.now)) least most (tree_at row.SUM c.old) ≡ Ok n) × (c.new ≡ after_part row.SUM c.old)) (λ code. spec.whole_in (in_statement (surroundings e.now)) least most (tree_at row.SUM c.old) ≡ Err code) }
+fn whole_number_at(e: &Env<'_>, least: u8, most: u8, c: &mut Cursor<'_>) -> Result<u8, Code>
+    requires phrase { is_phrase row.SUM c.old ≡ true }
+    ensures value { MatchResult result (λ n. (spec.whole_in (in_statement (surroundings e.now)) least most (tree_at row.SUM c.old) ≡ Ok n) × (c.new ≡ after_phrase row.SUM c.old)) (λ code. spec.whole_in (in_statement (surroundings e.now)) least most (tree_at row.SUM c.old) ≡ Err code) }
     ensures within { IfOk result (λ n. (least ≤ n) × (n ≤ most)) }
 {
     let x = match number(c, e) {
@@ -56,7 +56,7 @@ fn whole_at(e: &Env<'_>, least: u8, most: u8, c: &mut Cursor<'_>) -> Result<u8, 
 /// How many cells are erased from a column on, none where no number is written.
 #[tactic(auto, using(crate::proofs::ScreenRows::count_part, crate::proofs::ScreenRows::count_is, crate::proofs::ScreenRows::count_rest, crate::proofs::ScreenRows::no_count, crate::proofs::ScreenRows::no_count_rest))]
 fn erased_at(e: &Env<'_>, column: u8, c: &mut Cursor<'_>) -> Result<u8, Code>
-    requires part { maybe_part (start.Code byte.comma) row.COMMA_NUMBER c.old ≡ true }
+    requires phrase { maybe_phrase (start.Code byte.comma) row.COMMA_NUMBER c.old ≡ true }
     requires column { column ≤ 79 }
     ensures value { MatchResult result (λ n. (spec.erased_in (in_statement (surroundings e.now)) column (maybe_tree (start.Code byte.comma) row.COMMA_NUMBER c.old) ≡ Ok n) × (c.new ≡ after_maybe (start.Code byte.comma) row.COMMA_NUMBER c.old)) (λ code. spec.erased_in (in_statement (surroundings e.now)) column (maybe_tree (start.Code byte.comma) row.COMMA_NUMBER c.old) ≡ Err code) }
     ensures within { IfOk result (λ n. column + n ≤ 80) }
@@ -65,22 +65,22 @@ fn erased_at(e: &Env<'_>, column: u8, c: &mut Cursor<'_>) -> Result<u8, Code>
         return Ok(0);
     }
     *c = Cursor::over(rest_after(c.rest(), 1));
-    whole_at(e, 0, SCREEN_COLUMNS - column, c)
+    whole_number_at(e, 0, SCREEN_COLUMNS - column, c)
 }
 
 /// The place that the numbers at a cursor are.
 #[tactic(auto, using(crate::proofs::ScreenRows::place_column, crate::proofs::ScreenRows::place_count, crate::proofs::ScreenRows::place_row, crate::proofs::ScreenRows::place_is, crate::proofs::ScreenRows::place_rest, crate::proofs::ScreenRows::place_on_screen))]
 fn place_at(e: &Env<'_>, c: &mut Cursor<'_>) -> Result<ScreenPlace, Code>
-    requires part { is_part row.AT_NUMBERS c.old ≡ true }
-    ensures value { MatchResult result (λ p. (spec.place_in (in_statement (surroundings e.now)) (tree_at row.AT_NUMBERS c.old) ≡ Ok (item.At p.row p.column p.erase)) × (c.new ≡ after_part row.AT_NUMBERS c.old)) (λ code. spec.place_in (in_statement (surroundings e.now)) (tree_at row.AT_NUMBERS c.old) ≡ Err code) }
+    requires phrase { is_phrase row.AT_NUMBERS c.old ≡ true }
+    ensures value { MatchResult result (λ p. (spec.place_in (in_statement (surroundings e.now)) (tree_at row.AT_NUMBERS c.old) ≡ Ok (item.At p.row p.column p.erase)) × (c.new ≡ after_phrase row.AT_NUMBERS c.old)) (λ code. spec.place_in (in_statement (surroundings e.now)) (tree_at row.AT_NUMBERS c.old) ≡ Err code) }
     ensures on_screen { IfOk result (λ p. is_on_screen (item.At p.row p.column p.erase) ≡ true) }
 {
-    let row = match whole_at(e, 0, SCREEN_ROWS - 1, c) {
+    let row = match whole_number_at(e, 0, SCREEN_ROWS - 1, c) {
         Ok(row) => row,
         Err(code) => return Err(code),
     };
     *c = Cursor::over(rest_after(c.rest(), 1));
-    let column = match whole_at(e, 0, SCREEN_COLUMNS - 1, c) {
+    let column = match whole_number_at(e, 0, SCREEN_COLUMNS - 1, c) {
         Ok(column) => column,
         Err(code) => return Err(code),
     };
@@ -94,16 +94,16 @@ fn place_at(e: &Env<'_>, c: &mut Cursor<'_>) -> Result<ScreenPlace, Code>
 /// The size that the numbers at a cursor are.
 #[tactic(auto, using(crate::proofs::ScreenRows::size_rows, crate::proofs::ScreenRows::size_columns, crate::proofs::ScreenRows::size_is, crate::proofs::ScreenRows::size_rest, crate::proofs::ScreenRows::size_on_screen))]
 fn size_at(e: &Env<'_>, c: &mut Cursor<'_>) -> Result<BoxSize, Code>
-    requires part { is_part row.BOX_NUMBERS c.old ≡ true }
-    ensures value { MatchResult result (λ b. (spec.outline_in (in_statement (surroundings e.now)) (tree_at row.BOX_NUMBERS c.old) ≡ Ok (item.Outline b.rows b.columns)) × (c.new ≡ after_part row.BOX_NUMBERS c.old)) (λ code. spec.outline_in (in_statement (surroundings e.now)) (tree_at row.BOX_NUMBERS c.old) ≡ Err code) }
+    requires phrase { is_phrase row.BOX_NUMBERS c.old ≡ true }
+    ensures value { MatchResult result (λ b. (spec.outline_in (in_statement (surroundings e.now)) (tree_at row.BOX_NUMBERS c.old) ≡ Ok (item.Outline b.rows b.columns)) × (c.new ≡ after_phrase row.BOX_NUMBERS c.old)) (λ code. spec.outline_in (in_statement (surroundings e.now)) (tree_at row.BOX_NUMBERS c.old) ≡ Err code) }
     ensures on_screen { IfOk result (λ b. is_on_screen (item.Outline b.rows b.columns) ≡ true) }
 {
-    let rows = match whole_at(e, 2, SCREEN_ROWS, c) {
+    let rows = match whole_number_at(e, 2, SCREEN_ROWS, c) {
         Ok(rows) => rows,
         Err(code) => return Err(code),
     };
     *c = Cursor::over(rest_after(c.rest(), 1));
-    let columns = match whole_at(e, 2, SCREEN_COLUMNS, c) {
+    let columns = match whole_number_at(e, 2, SCREEN_COLUMNS, c) {
         Ok(columns) => columns,
         Err(code) => return Err(code),
     };
@@ -120,8 +120,8 @@ pub fn at_shown(
     out: &mut Vec<u8>,
     fault: &mut Fault,
 ) -> Shown
-    requires part { is_part row.AT c.old ≡ true }
-    ensures { (column : ℕ) → ShowsItem (spec.on_screen outlet.now (spec.at_in (in_statement (surroundings e.now)) (tree_at row.AT c.old))) (after_part row.AT c.old) (width_of outlet.now) column out.old.items out.new.items c.new fault.new result }
+    requires phrase { is_phrase row.AT c.old ≡ true }
+    ensures { (column : ℕ) → ShowsItem (spec.on_screen outlet.now (spec.at_in (in_statement (surroundings e.now)) (tree_at row.AT c.old))) (after_phrase row.AT c.old) (width_of outlet.now) column out.old.items out.new.items c.new fault.new result }
 {
     if !outlet.is_terminal() {
         return refusal(Fault::Code(Code::known(P48_DEVICE)), fault);
@@ -148,8 +148,8 @@ pub fn box_shown(
     out: &mut Vec<u8>,
     fault: &mut Fault,
 ) -> Shown
-    requires part { is_part row.BOX c.old ≡ true }
-    ensures { ShowsItem (spec.on_screen outlet.now (spec.box_in (in_statement (surroundings e.now)) (tree_at row.BOX c.old))) (after_part row.BOX c.old) (width_of outlet.now) column out.old.items out.new.items c.new fault.new result }
+    requires phrase { is_phrase row.BOX c.old ≡ true }
+    ensures { ShowsItem (spec.on_screen outlet.now (spec.box_in (in_statement (surroundings e.now)) (tree_at row.BOX c.old))) (after_phrase row.BOX c.old) (width_of outlet.now) column out.old.items out.new.items c.new fault.new result }
 {
     if !outlet.is_terminal() {
         return refusal(Fault::Code(Code::known(P48_DEVICE)), fault);

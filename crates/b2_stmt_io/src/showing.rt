@@ -1,7 +1,7 @@
 // What PRINT and PRINTUSING ask for.
 ghost use Rattle.std.specs.Prelude.{◌≡◌, true, IfOk};
 ghost use Rattle.b2_atom.specs.declared.rows.TheConstants as row;
-ghost use Rattle.b2_rows.specs.Rows.{is_part, tree_at};
+ghost use Rattle.b2_rows.specs.Rows.{is_phrase, tree_at};
 ghost use Rattle.b2_expr.specs.Scope.{surroundings};
 ghost use Rattle.b2_expr.specs.Value.{in_statement};
 ghost use Rattle.b2_stmt_io.specs.Showing as spec;
@@ -25,7 +25,7 @@ pub fn ask_print(
     outlet: &Outlet,
     unit: &[u8],
 ) -> Result<Planned, NoMemory>
-    requires part { is_part row.PRINT unit.now ≡ true }
+    requires phrase { is_phrase row.PRINT unit.now ≡ true }
     ensures { IfOk result (λ p. p ≡ spec.asks_to_print (tree_at row.PRINT unit.now) (in_statement (surroundings e.now)) outlet.now) }
 {
     let mut out = Vec::with_capacity(alloc, LINE)?;
@@ -43,7 +43,7 @@ pub fn ask_using(
     outlet: &Outlet,
     unit: &[u8],
 ) -> Result<Planned, NoMemory>
-    requires part { is_part row.PRINTUSING unit.now ≡ true }
+    requires phrase { is_phrase row.PRINTUSING unit.now ≡ true }
     ensures { IfOk result (λ p. p ≡ spec.asks_to_print_using (tree_at row.PRINTUSING unit.now) (in_statement (surroundings e.now)) outlet.now) }
 {
     match shown_using(alloc, e, unit) {

@@ -12,7 +12,7 @@ use Rattle.b2_atom.specs.declared.forms.Leaf.TheVariants as leaf
 use Rattle.b2_atom.specs.declared.forms.Item.TheVariants.{Word, Sign, Typed, Part}
 use Rattle.b2_base.specs.declared.codes.TheConstants.{S10_OPEN, S11_CLOSE, S13_SEPARATOR, S20_VARIABLE}
 use Rattle.b2_rows.specs.Leaves.{is_leaf, leaf_bytes}
-use Rattle.b2_rows.specs.Rows.{is_part, tree_at, after_part}
+use Rattle.b2_rows.specs.Rows.{is_phrase, tree_at, after_phrase}
 use Rattle.b2_rows.proofs.RowsRead.{stands_of}
 use Rattle.b2_expr.specs.Answers.{◌>>=◌}
 use Rattle.b2_expr.specs.Scope.{Context}
@@ -28,10 +28,10 @@ array_row : row_items row.ALPHA_ARRAY ≡ array_items
 unfolding row_items
 array_row = refl
 
-pub array_name : (t : Text) → is_part row.ALPHA_ARRAY t ≡ true → is_leaf leaf.AlphaName t ≡ true
+pub array_name : (t : Text) → is_phrase row.ALPHA_ARRAY t ≡ true → is_leaf leaf.AlphaName t ≡ true
 array_name t ok = (stands_of row.ALPHA_ARRAY array_items t array_row ok).0.0
 
-pub array_is : (s : Context) (t : Text) → is_part row.ALPHA_ARRAY t ≡ true → bytes_in s (tree_at row.ALPHA_ARRAY t) ≡ array_of s.around true (leaf_bytes leaf.AlphaName t)
+pub array_is : (s : Context) (t : Text) → is_phrase row.ALPHA_ARRAY t ≡ true → bytes_in s (tree_at row.ALPHA_ARRAY t) ≡ array_of s.around true (leaf_bytes leaf.AlphaName t)
 unfolding bytes_in array_receiver
 array_is s t ok = ap (bytes_in s) (stands_of row.ALPHA_ARRAY array_items t array_row ok).1
 
@@ -39,7 +39,7 @@ two : (t : Text) → drop 1 (drop 1 t) ≡ drop 2 t
 two [] = refl
 two (a ∷ t) = refl
 
-pub array_rest : (t : Text) → is_part row.ALPHA_ARRAY t ≡ true → after_part row.ALPHA_ARRAY t ≡ drop 2 (drop (leaf_width Atoms leaf.AlphaName t) t)
+pub array_rest : (t : Text) → is_phrase row.ALPHA_ARRAY t ≡ true → after_phrase row.ALPHA_ARRAY t ≡ drop 2 (drop (leaf_width Atoms leaf.AlphaName t) t)
 array_rest t ok = (stands_of row.ALPHA_ARRAY array_items t array_row ok).2 ∙ two (drop (leaf_width Atoms leaf.AlphaName t) t)
 
 -- the arrays that stand there
@@ -47,10 +47,10 @@ abbrev pub first_text : Text → Text
 first_text t = drop 1 (drop 1 t)
 
 abbrev pub second_text : Text → Text
-second_text t = drop 1 (after_part row.ALPHA_ARRAY (first_text t))
+second_text t = drop 1 (after_phrase row.ALPHA_ARRAY (first_text t))
 
 abbrev pub third_text : Text → Text
-third_text t = drop 1 (after_part row.ALPHA_ARRAY (second_text t))
+third_text t = drop 1 (after_phrase row.ALPHA_ARRAY (second_text t))
 
 -- MAT MOVE
 abbrev move_items : List Item
@@ -60,16 +60,16 @@ move_row : row_items row.MAT_MOVE ≡ move_items
 unfolding row_items
 move_row = refl
 
-pub move_of : (t : Text) → is_part row.MAT_MOVE t ≡ true → is_part row.ALPHA_ARRAY (first_text t) ≡ true
+pub move_of : (t : Text) → is_phrase row.MAT_MOVE t ≡ true → is_phrase row.ALPHA_ARRAY (first_text t) ≡ true
 move_of t ok = (stands_of row.MAT_MOVE move_items t move_row ok).0.1.1.0
 
-pub move_locators : (t : Text) → is_part row.MAT_MOVE t ≡ true → is_part row.ALPHA_ARRAY (second_text t) ≡ true
+pub move_locators : (t : Text) → is_phrase row.MAT_MOVE t ≡ true → is_phrase row.ALPHA_ARRAY (second_text t) ≡ true
 move_locators t ok = (stands_of row.MAT_MOVE move_items t move_row ok).0.1.1.1.1.0
 
-pub move_to : (t : Text) → is_part row.MAT_MOVE t ≡ true → is_part row.ALPHA_ARRAY (third_text t) ≡ true
+pub move_to : (t : Text) → is_phrase row.MAT_MOVE t ≡ true → is_phrase row.ALPHA_ARRAY (third_text t) ≡ true
 move_to t ok = (stands_of row.MAT_MOVE move_items t move_row ok).0.1.1.1.1.1.1.0
 
-pub move_is : (s : Context) (t : Text) → is_part row.MAT_MOVE t ≡ true
+pub move_is : (s : Context) (t : Text) → is_phrase row.MAT_MOVE t ≡ true
     → move_in s (tree_at row.MAT_MOVE t) ≡ (bytes_in s (tree_at row.ALPHA_ARRAY (first_text t)) >>= (λ of. bytes_in s (tree_at row.ALPHA_ARRAY (second_text t)) >>= (λ locators. bytes_in s (tree_at row.ALPHA_ARRAY (third_text t)) >>= (λ to. Ok (record { of = of; locators = locators; to = to })))))
 unfolding move_in
 move_is s t ok = ap (move_in s) (stands_of row.MAT_MOVE move_items t move_row ok).1
@@ -82,16 +82,16 @@ sort_row : row_items row.MAT_SORT ≡ sort_items
 unfolding row_items
 sort_row = refl
 
-pub sort_of : (t : Text) → is_part row.MAT_SORT t ≡ true → is_part row.ALPHA_ARRAY (first_text t) ≡ true
+pub sort_of : (t : Text) → is_phrase row.MAT_SORT t ≡ true → is_phrase row.ALPHA_ARRAY (first_text t) ≡ true
 sort_of t ok = (stands_of row.MAT_SORT sort_items t sort_row ok).0.1.1.0
 
-pub sort_work : (t : Text) → is_part row.MAT_SORT t ≡ true → is_part row.ALPHA_ARRAY (second_text t) ≡ true
+pub sort_work : (t : Text) → is_phrase row.MAT_SORT t ≡ true → is_phrase row.ALPHA_ARRAY (second_text t) ≡ true
 sort_work t ok = (stands_of row.MAT_SORT sort_items t sort_row ok).0.1.1.1.1.0
 
-pub sort_to : (t : Text) → is_part row.MAT_SORT t ≡ true → is_part row.ALPHA_ARRAY (third_text t) ≡ true
+pub sort_to : (t : Text) → is_phrase row.MAT_SORT t ≡ true → is_phrase row.ALPHA_ARRAY (third_text t) ≡ true
 sort_to t ok = (stands_of row.MAT_SORT sort_items t sort_row ok).0.1.1.1.1.1.1.0
 
-pub sort_is : (s : Context) (t : Text) → is_part row.MAT_SORT t ≡ true
+pub sort_is : (s : Context) (t : Text) → is_phrase row.MAT_SORT t ≡ true
     → sort_in s (tree_at row.MAT_SORT t) ≡ (bytes_in s (tree_at row.ALPHA_ARRAY (first_text t)) >>= (λ of. bytes_in s (tree_at row.ALPHA_ARRAY (second_text t)) >>= (λ work. bytes_in s (tree_at row.ALPHA_ARRAY (third_text t)) >>= (λ to. Ok (record { of = of; to = to })))))
 unfolding sort_in
 sort_is s t ok = ap (sort_in s) (stands_of row.MAT_SORT sort_items t sort_row ok).1
@@ -104,13 +104,13 @@ copy_row : row_items row.MAT_COPY ≡ copy_items
 unfolding row_items
 copy_row = refl
 
-pub copy_of : (t : Text) → is_part row.MAT_COPY t ≡ true → is_part row.ALPHA_ARRAY (first_text t) ≡ true
+pub copy_of : (t : Text) → is_phrase row.MAT_COPY t ≡ true → is_phrase row.ALPHA_ARRAY (first_text t) ≡ true
 copy_of t ok = (stands_of row.MAT_COPY copy_items t copy_row ok).0.1.1.0
 
-pub copy_to : (t : Text) → is_part row.MAT_COPY t ≡ true → is_part row.ALPHA_ARRAY (second_text t) ≡ true
+pub copy_to : (t : Text) → is_phrase row.MAT_COPY t ≡ true → is_phrase row.ALPHA_ARRAY (second_text t) ≡ true
 copy_to t ok = (stands_of row.MAT_COPY copy_items t copy_row ok).0.1.1.1.1.0
 
-pub copy_is : (s : Context) (t : Text) → is_part row.MAT_COPY t ≡ true
+pub copy_is : (s : Context) (t : Text) → is_phrase row.MAT_COPY t ≡ true
     → copy_in s (tree_at row.MAT_COPY t) ≡ (bytes_in s (tree_at row.ALPHA_ARRAY (first_text t)) >>= (λ of. bytes_in s (tree_at row.ALPHA_ARRAY (second_text t)) >>= (λ to. Ok (record { of = of; to = to }))))
 unfolding copy_in
 copy_is s t ok = ap (copy_in s) (stands_of row.MAT_COPY copy_items t copy_row ok).1

@@ -16,8 +16,8 @@ use Rattle.b2_atom.specs.Tree.{Trees}
 use Rattle.b2_atom.specs.declared.forms.Item.TheVariants.{Word, Sign, Typed, Part, Maybe}
 use Rattle.b2_base.specs.declared.codes.TheConstants.{S13_SEPARATOR, S21_COMPARISON}
 use Rattle.b2_rows.specs.Leaves.{is_leaf, leaf_bytes}
-use Rattle.b2_rows.specs.Optional.{maybe_part, maybe_tree}
-use Rattle.b2_rows.specs.Rows.{is_part, tree_at, after_part}
+use Rattle.b2_rows.specs.Optional.{maybe_phrase, maybe_tree}
+use Rattle.b2_rows.specs.Rows.{is_phrase, tree_at, after_phrase}
 use Rattle.b2_rows.specs.Values.{relation_of}
 use Rattle.b2_rows.proofs.Optional.{begun_part, begun_tree, left_out_tree, maybe_stands}
 use Rattle.b2_rows.proofs.RowsRead.{stands_of}
@@ -42,15 +42,15 @@ unfolding row_items
 step_row = refl
 
 abbrev IsStep : Text → Type 0
-IsStep t = maybe_part (start.Code word.STEP) row.STEP t ≡ true
+IsStep t = maybe_phrase (start.Code word.STEP) row.STEP t ≡ true
 
 abbrev step_tree : Text → Trees
 step_tree t = maybe_tree (start.Code word.STEP) row.STEP t
 
-here : (t : Text) → IsStep t → (first t == word.STEP) ≡ true → is_part row.STEP t ≡ true
+here : (t : Text) → IsStep t → (first t == word.STEP) ≡ true → is_phrase row.STEP t ≡ true
 here t ok is = begun_part (start.Code word.STEP) row.STEP t ok (code_begins word.STEP t true is)
 
-pub step_sum : (t : Text) → IsStep t → (first t == word.STEP) ≡ true → is_part row.SUM (drop 1 t) ≡ true
+pub step_sum : (t : Text) → IsStep t → (first t == word.STEP) ≡ true → is_phrase row.SUM (drop 1 t) ≡ true
 step_sum t ok is = (stands_of row.STEP step_items t step_row (here t ok is)).0.1.0
 
 pub step_is : (s : Context) (t : Text) → IsStep t → (first t == word.STEP) ≡ true → step_in s (step_tree t) ≡ (value s level.Sum (tree_at row.SUM (drop 1 t)) >>= whole_between 1 65535)
@@ -75,33 +75,33 @@ abbrev pub of_text : Text → Text
 of_text t = drop 1 (drop 1 t)
 
 abbrev pub sign_text : Text → Text
-sign_text t = drop 1 (after_part row.BUFFER (of_text t))
+sign_text t = drop 1 (after_phrase row.BUFFER (of_text t))
 
 abbrev pub want_text : Text → Text
 want_text t = drop (leaf_width Atoms leaf.Relation (sign_text t)) (sign_text t)
 
 abbrev pub receiver_text : Text → Text
-receiver_text t = drop 1 (after_part row.ALPHA (want_text t))
+receiver_text t = drop 1 (after_phrase row.ALPHA (want_text t))
 
 abbrev pub step_text : Text → Text
-step_text t = after_part row.ALPHA_RECEIVER (receiver_text t)
+step_text t = after_phrase row.ALPHA_RECEIVER (receiver_text t)
 
-pub of_part : (t : Text) → is_part row.MAT_SEARCH t ≡ true → is_part row.BUFFER (of_text t) ≡ true
+pub of_part : (t : Text) → is_phrase row.MAT_SEARCH t ≡ true → is_phrase row.BUFFER (of_text t) ≡ true
 of_part t ok = (stands_of row.MAT_SEARCH items t row_is ok).0.1.1.0
 
-pub relation_leaf : (t : Text) → is_part row.MAT_SEARCH t ≡ true → is_leaf leaf.Relation (sign_text t) ≡ true
+pub relation_leaf : (t : Text) → is_phrase row.MAT_SEARCH t ≡ true → is_leaf leaf.Relation (sign_text t) ≡ true
 relation_leaf t ok = (stands_of row.MAT_SEARCH items t row_is ok).0.1.1.1.1.0
 
-pub want_part : (t : Text) → is_part row.MAT_SEARCH t ≡ true → is_part row.ALPHA (want_text t) ≡ true
+pub want_part : (t : Text) → is_phrase row.MAT_SEARCH t ≡ true → is_phrase row.ALPHA (want_text t) ≡ true
 want_part t ok = (stands_of row.MAT_SEARCH items t row_is ok).0.1.1.1.1.1.0
 
-pub receiver_part : (t : Text) → is_part row.MAT_SEARCH t ≡ true → is_part row.ALPHA_RECEIVER (receiver_text t) ≡ true
+pub receiver_part : (t : Text) → is_phrase row.MAT_SEARCH t ≡ true → is_phrase row.ALPHA_RECEIVER (receiver_text t) ≡ true
 receiver_part t ok = (stands_of row.MAT_SEARCH items t row_is ok).0.1.1.1.1.1.1.1.0
 
-pub step_part : (t : Text) → is_part row.MAT_SEARCH t ≡ true → maybe_part (start.Code word.STEP) row.STEP (step_text t) ≡ true
+pub step_part : (t : Text) → is_phrase row.MAT_SEARCH t ≡ true → maybe_phrase (start.Code word.STEP) row.STEP (step_text t) ≡ true
 step_part t ok = maybe_stands _ _ _ (stands_of row.MAT_SEARCH items t row_is ok).0.1.1.1.1.1.1.1.1
 
-pub search_is : (s : Context) (t : Text) → is_part row.MAT_SEARCH t ≡ true → search_in s (tree_at row.MAT_SEARCH t)
+pub search_is : (s : Context) (t : Text) → is_phrase row.MAT_SEARCH t ≡ true → search_in s (tree_at row.MAT_SEARCH t)
     ≡ (buffer s (tree_at row.BUFFER (of_text t)) >>= (λ of. text s (tree_at row.ALPHA (want_text t)) >>= (λ want. alpha_receiver s (tree_at row.ALPHA_RECEIVER (receiver_text t)) >>= (λ to. step_in s (step_tree (step_text t))
     >>= (λ step. Ok (record { of = of; relation = relation_of (leaf_bytes leaf.Relation (sign_text t)); want = want; to = to; step = step }))))))
 unfolding search_in maybe_tree

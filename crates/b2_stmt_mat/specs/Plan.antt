@@ -4,7 +4,7 @@ use Rattle.b2_base.specs.declared.codes.TheConstants.{S27_LEFT_OUT}
 use Rattle.b2_atom.specs.Tree.{Trees}
 use Rattle.b2_atom.specs.declared.rows.TheConstants as row
 use Rattle.b2_expr.specs.Workspace.{WorkState, WorkLeft, changed_by, refused, work_in}
-use Rattle.b2_access.specs.Courses.{Here, course}
+use Rattle.b2_access.specs.Dispatch.{Here, dispatch}
 use Rattle.b2_access.specs.Lending.{SeenLent}
 use Rattle.b2_access.specs.Partition.{setting_of}
 use Rattle.b2_access.specs.Placed.{Statement}
@@ -54,7 +54,7 @@ is_refused r program = false
 
 -- what the statement at a partition's place plans
 abbrev pub works : Private → SeenLent → Working
-works me s = course is_refused stops (does me s) me.place me s
+works me s = dispatch is_refused stops (does me s) me.place me s
 
 abbrev pub plan : Private → SeenLent → Planning
 plan me s = plans_by works me s

@@ -73,7 +73,7 @@ pub fn cell_count(shape: Shape) -> usize
 
 /// The row and the column of a place along rows; the column is 0 for an array of one dimension.
 #[tactic(auto, using(crate::proofs::CellPlaces::cell_is, crate::proofs::CellPlaces::cell_there, crate::proofs::CellPlaces::cell_fits, crate::proofs::CellPlaces::row_fits, crate::proofs::CellPlaces::column_fits, crate::proofs::CellPlaces::place_is, crate::proofs::CellPlaces::place_there))]
-fn subscripts(shape: Shape, cell: usize) -> (u16, u16)
+fn subscripts_of_cell(shape: Shape, cell: usize) -> (u16, u16)
     requires rows { 0 < shape.rows }
     requires within { cell < cells shape }
     ensures there { has_cell shape result.0 result.1 ≡ true }
@@ -95,7 +95,7 @@ fn number_in(vars: &Vars, v: Var, shape: Shape, cell: usize) -> Dec
     requires within { cell < cells shape }
     ensures { result ≡ get_or (variable_at v vars.now.table).numbers cell zero_number }
 {
-    let (row, column) = subscripts(shape, cell);
+    let (row, column) = subscripts_of_cell(shape, cell);
     match vars.number(v, row, column) {
         Ok(x) => x,
         Err(_) => unreachable!(),
@@ -135,14 +135,14 @@ pub fn numbers_of(alloc: Global, vars: &Vars, v: Var) -> Result<Vec<Dec>, NoMemo
 }
 
 /// Puts a number at a place along the rows of an array.
-fn put_number(vars: &mut Vars, v: Var, shape: Shape, cell: usize, x: Dec)
+fn put_cell_number(vars: &mut Vars, v: Var, shape: Shape, cell: usize, x: Dec)
     requires there { IsArrayOf false v vars.old.table }
     requires shape { shape ≡ shape_at v vars.old.table }
     requires rows { 0 < shape.rows }
     requires within { cell < cells shape }
     ensures { vars.new ≡ with_change v (with_number cell x) vars.old }
 {
-    let (row, column) = subscripts(shape, cell);
+    let (row, column) = subscripts_of_cell(shape, cell);
     let _count = vars.count();
     match vars.set_number(v, row, column, x) {
         Ok(()) => {}
@@ -159,7 +159,7 @@ pub fn put_numbers(vars: &mut Vars, v: Var, numbers: &[Dec])
 {
     let shape = shape_of(vars, v);
     for (cell, x) in numbers.iter().enumerate() {
-        put_number(vars, v, shape, cell, *x);
+        put_cell_number(vars, v, shape, cell, *x);
     }
 }
 
@@ -209,7 +209,7 @@ pub fn put_all_bytes(
 }
 
 /// A code with which nothing is assigned to an array. With what the statement ends.
-fn refuse(work: &mut Workspace<'_>, global: bool, code: Code) -> Option<Code>
+fn refuse_array(work: &mut Workspace<'_>, global: bool, code: Code) -> Option<Code>
     ensures worked { record { work = workspace work.new; code = result } ≡ among global (λ old. unassigned code old) (workspace work.old) }
     ensures same_references { SameReferences work.old work.new }
 {
@@ -233,7 +233,7 @@ pub fn refuse_fault(
     ensures same_references { SameReferences work.old work.new }
 {
     match fault {
-        Fault::Code(code) => Ok(refuse(work, global, code)),
+        Fault::Code(code) => Ok(refuse_array(work, global, code)),
         Fault::NoMemory => Err(NoMemory),
     }
 }

@@ -2,7 +2,7 @@
 ghost use Rattle.std.specs.Prelude.{◌≡◌, ◌<◌, ◌≤◌, true, length, IfOk, Ok};
 ghost use Rattle.b2_vars.specs.Tables.{shape_at};
 ghost use Rattle.b2_atom.specs.declared.rows.TheConstants as row;
-ghost use Rattle.b2_rows.specs.Rows.{after_part, is_part, tree_at};
+ghost use Rattle.b2_rows.specs.Rows.{after_phrase, is_phrase, tree_at};
 ghost use Rattle.b2_expr.specs.Reads.{Gives};
 ghost use Rattle.b2_expr.specs.Scope.{surroundings};
 ghost use Rattle.b2_expr.specs.Value.{in_statement};
@@ -51,8 +51,8 @@ pub struct ArrayCopy {
 /// The whole array of alpha values at a text, and what stands after it. P59 where it isn't there.
 #[tactic(auto, using(crate::proofs::ByteArrayRows::array_name, crate::proofs::ByteArrayRows::array_is, crate::proofs::ByteArrayRows::array_rest))]
 fn whole_at<'t>(e: &Env<'_>, text: &'t [u8]) -> Result<(Array, &'t [u8]), Code>
-    requires part { is_part row.ALPHA_ARRAY text.now ≡ true }
-    ensures array { Gives (spec.bytes_in (in_statement (surroundings e.now)) (tree_at row.ALPHA_ARRAY text.now)) (after_part row.ALPHA_ARRAY text.now) result }
+    requires phrase { is_phrase row.ALPHA_ARRAY text.now ≡ true }
+    ensures array { Gives (spec.bytes_in (in_statement (surroundings e.now)) (tree_at row.ALPHA_ARRAY text.now)) (after_phrase row.ALPHA_ARRAY text.now) result }
     ensures there { IfOk result (λ p. IsArrayIn true p.0 (families (surroundings e.now))) }
 {
     match array_at(e, Kind::Alpha, text) {
@@ -64,7 +64,7 @@ fn whole_at<'t>(e: &Env<'_>, text: &'t [u8]) -> Result<(Array, &'t [u8]), Code>
 /// What MAT MOVE asks for, or the first code from the left.
 #[tactic(auto, using(crate::proofs::ByteArrayRows::move_of, crate::proofs::ByteArrayRows::move_locators, crate::proofs::ByteArrayRows::move_to, crate::proofs::ByteArrayRows::move_is))]
 fn move_at(e: &Env<'_>, unit: &[u8]) -> Result<ArrayMove, Code>
-    requires part { is_part row.MAT_MOVE unit.now ≡ true }
+    requires phrase { is_phrase row.MAT_MOVE unit.now ≡ true }
     ensures asked { result ≡ spec.move_in (in_statement (surroundings e.now)) (tree_at row.MAT_MOVE unit.now) }
     ensures of { IfOk result (λ m. IsArrayIn true m.of (families (surroundings e.now))) }
     ensures locators { IfOk result (λ m. IsArrayIn true m.locators (families (surroundings e.now))) }
@@ -87,7 +87,7 @@ fn move_at(e: &Env<'_>, unit: &[u8]) -> Result<ArrayMove, Code>
 /// What MAT SORT asks for, or the first code from the left. Its work array has to be there and isn't used.
 #[tactic(auto, using(crate::proofs::ByteArrayRows::sort_of, crate::proofs::ByteArrayRows::sort_work, crate::proofs::ByteArrayRows::sort_to, crate::proofs::ByteArrayRows::sort_is))]
 fn sort_at(e: &Env<'_>, unit: &[u8]) -> Result<ArraySort, Code>
-    requires part { is_part row.MAT_SORT unit.now ≡ true }
+    requires phrase { is_phrase row.MAT_SORT unit.now ≡ true }
     ensures asked { result ≡ spec.sort_in (in_statement (surroundings e.now)) (tree_at row.MAT_SORT unit.now) }
     ensures of { IfOk result (λ m. IsArrayIn true m.of (families (surroundings e.now))) }
     ensures to { IfOk result (λ m. IsArrayIn true m.to (families (surroundings e.now))) }
@@ -109,7 +109,7 @@ fn sort_at(e: &Env<'_>, unit: &[u8]) -> Result<ArraySort, Code>
 /// What MAT COPY asks for, or the first code from the left.
 #[tactic(auto, using(crate::proofs::ByteArrayRows::copy_of, crate::proofs::ByteArrayRows::copy_to, crate::proofs::ByteArrayRows::copy_is))]
 fn copy_at(e: &Env<'_>, unit: &[u8]) -> Result<ArrayCopy, Code>
-    requires part { is_part row.MAT_COPY unit.now ≡ true }
+    requires phrase { is_phrase row.MAT_COPY unit.now ≡ true }
     ensures asked { result ≡ spec.copy_in (in_statement (surroundings e.now)) (tree_at row.MAT_COPY unit.now) }
     ensures of { IfOk result (λ m. IsArrayIn true m.of (families (surroundings e.now))) }
     ensures to { IfOk result (λ m. IsArrayIn true m.to (families (surroundings e.now))) }
@@ -270,7 +270,7 @@ pub fn move_array(
     work: &mut Workspace<'_>,
     unit: &[u8],
 ) -> Result<Option<Code>, NoMemory>
-    requires part { is_part row.MAT_MOVE unit.now ≡ true }
+    requires phrase { is_phrase row.MAT_MOVE unit.now ≡ true }
     ensures worked { IfOk result (λ code. record { work = workspace work.new; code = code } ≡ spec.moves (tree_at row.MAT_MOVE unit.now) (workspace work.old)) }
     ensures same_references { SameReferences work.old work.new }
 {
@@ -286,7 +286,7 @@ pub fn sort_array(
     work: &mut Workspace<'_>,
     unit: &[u8],
 ) -> Result<Option<Code>, NoMemory>
-    requires part { is_part row.MAT_SORT unit.now ≡ true }
+    requires phrase { is_phrase row.MAT_SORT unit.now ≡ true }
     ensures worked { IfOk result (λ code. record { work = workspace work.new; code = code } ≡ spec.sorts (tree_at row.MAT_SORT unit.now) (workspace work.old)) }
     ensures same_references { SameReferences work.old work.new }
 {
@@ -302,7 +302,7 @@ pub fn copy_array(
     work: &mut Workspace<'_>,
     unit: &[u8],
 ) -> Result<Option<Code>, NoMemory>
-    requires part { is_part row.MAT_COPY unit.now ≡ true }
+    requires phrase { is_phrase row.MAT_COPY unit.now ≡ true }
     ensures worked { IfOk result (λ code. record { work = workspace work.new; code = code } ≡ spec.copies (tree_at row.MAT_COPY unit.now) (workspace work.old)) }
     ensures same_references { SameReferences work.old work.new }
 {

@@ -4,7 +4,7 @@ ghost use Rattle.b2_base.specs.Lexical.{first};
 ghost use Rattle.b2_atom.specs.Grammar.{is_among};
 ghost use Rattle.b2_atom.specs.declared.rows.TheConstants as row;
 ghost use Rattle.b2_atom.specs.declared.words.TheConstants as word;
-ghost use Rattle.b2_rows.specs.Rows.{is_part, tree_at};
+ghost use Rattle.b2_rows.specs.Rows.{is_phrase, tree_at};
 ghost use Rattle.b2_expr.specs.Scope.{surroundings};
 ghost use Rattle.b2_expr.specs.Value.{in_statement};
 ghost use Rattle.b2_stmt_mat.specs.Arrays.{IsArrayIn, families};
@@ -47,7 +47,7 @@ pub struct MatrixAssignment {
 /// A multiple: the number, and then the array.
 #[tactic(auto, using(crate::proofs::FormulaRows::scaled_sum, crate::proofs::FormulaRows::scaled_name, crate::proofs::FormulaRows::scaled_is))]
 fn scaled_at(e: &Env<'_>, text: &[u8]) -> Result<Formula, Code>
-    requires part { is_part row.SCALED text.now ≡ true }
+    requires phrase { is_phrase row.SCALED text.now ≡ true }
     ensures made_of { result ≡ spec.scaled_in (in_statement (surroundings e.now)) (tree_at row.SCALED text.now) }
     ensures there { IfOk result (λ f. AreThere f (families (surroundings e.now))) }
 {
@@ -64,7 +64,7 @@ fn scaled_at(e: &Env<'_>, text: &[u8]) -> Result<Formula, Code>
 /// An array transposed.
 #[tactic(auto, using(crate::proofs::FormulaRows::transposed_name, crate::proofs::FormulaRows::transposed_is))]
 fn transposed_at(e: &Env<'_>, text: &[u8]) -> Result<Formula, Code>
-    requires part { is_part row.TRANSPOSED text.now ≡ true }
+    requires phrase { is_phrase row.TRANSPOSED text.now ≡ true }
     ensures made_of { result ≡ spec.transposed_in (in_statement (surroundings e.now)) (tree_at row.TRANSPOSED text.now) }
     ensures there { IfOk result (λ f. AreThere f (families (surroundings e.now))) }
 {
@@ -90,7 +90,7 @@ fn fill_of(word: u8) -> Fill
 /// CON, ZER or IDN, with dimensions or without.
 #[tactic(auto, using(crate::proofs::FormulaRows::filled_dimensions, crate::proofs::FormulaRows::filled_with_dimensions, crate::proofs::FormulaRows::filled_without))]
 fn filled_at(e: &Env<'_>, text: &[u8]) -> Result<Formula, Code>
-    requires part { is_part row.FILLED text.now ≡ true }
+    requires phrase { is_phrase row.FILLED text.now ≡ true }
     ensures made_of { result ≡ spec.filled_in (in_statement (surroundings e.now)) (tree_at row.FILLED text.now) }
     ensures there { IfOk result (λ f. AreThere f (families (surroundings e.now))) }
 {
@@ -119,7 +119,7 @@ fn op_of(sign: u8) -> MatOp
 /// The second array of a sum, a difference or a product, after its sign.
 #[tactic(auto, using(crate::proofs::FormulaRows::second_name, crate::proofs::FormulaRows::second_is))]
 fn second_at(e: &Env<'_>, b: Array, text: &[u8]) -> Result<Formula, Code>
-    requires part { is_part row.SECOND_MATRIX text.now ≡ true }
+    requires phrase { is_phrase row.SECOND_MATRIX text.now ≡ true }
     requires first { IsArrayIn false b (families (surroundings e.now)) }
     ensures made_of { result ≡ spec.second_in (in_statement (surroundings e.now)) b (tree_at row.SECOND_MATRIX text.now) }
     ensures there { IfOk result (λ f. AreThere f (families (surroundings e.now))) }
@@ -140,7 +140,7 @@ fn has_second(text: &[u8]) -> bool
 /// One array, or two with a sign between them.
 #[tactic(auto, using(crate::proofs::FormulaRows::first_name, crate::proofs::FormulaRows::first_refused, crate::proofs::FormulaRows::second_here, crate::proofs::FormulaRows::one_is, crate::proofs::FormulaRows::two_are))]
 fn matrices_at(e: &Env<'_>, text: &[u8]) -> Result<Formula, Code>
-    requires part { is_part row.MATRICES text.now ≡ true }
+    requires phrase { is_phrase row.MATRICES text.now ≡ true }
     ensures made_of { result ≡ spec.matrices_in (in_statement (surroundings e.now)) (tree_at row.MATRICES text.now) }
     ensures there { IfOk result (λ f. AreThere f (families (surroundings e.now))) }
 {
@@ -165,7 +165,7 @@ fn is_constant_at(text: &[u8]) -> bool
 /// What is none of a multiple and TRN.
 #[tactic(auto, using(crate::proofs::FormulaRows::constant_here, crate::proofs::FormulaRows::constant_is, crate::proofs::FormulaRows::matrices_here, crate::proofs::FormulaRows::matrices_are))]
 fn but_transposed_at(e: &Env<'_>, text: &[u8]) -> Result<Formula, Code>
-    requires part { is_part row.MATRIX_BUT_TRANSPOSED text.now ≡ true }
+    requires phrase { is_phrase row.MATRIX_BUT_TRANSPOSED text.now ≡ true }
     ensures made_of { result ≡ spec.but_transposed_in (in_statement (surroundings e.now)) (tree_at row.MATRIX_BUT_TRANSPOSED text.now) }
     ensures there { IfOk result (λ f. AreThere f (families (surroundings e.now))) }
 {
@@ -179,7 +179,7 @@ fn but_transposed_at(e: &Env<'_>, text: &[u8]) -> Result<Formula, Code>
 /// What is no multiple.
 #[tactic(auto, using(crate::proofs::FormulaRows::trn_here, crate::proofs::FormulaRows::trn_is, crate::proofs::FormulaRows::no_trn_here, crate::proofs::FormulaRows::no_trn_is))]
 fn but_scaled_at(e: &Env<'_>, text: &[u8]) -> Result<Formula, Code>
-    requires part { is_part row.MATRIX_BUT_SCALED text.now ≡ true }
+    requires phrase { is_phrase row.MATRIX_BUT_SCALED text.now ≡ true }
     ensures made_of { result ≡ spec.but_scaled_in (in_statement (surroundings e.now)) (tree_at row.MATRIX_BUT_SCALED text.now) }
     ensures there { IfOk result (λ f. AreThere f (families (surroundings e.now))) }
 {
@@ -193,7 +193,7 @@ fn but_scaled_at(e: &Env<'_>, text: &[u8]) -> Result<Formula, Code>
 /// What MAT asks for: the array that is assigned, and then what it is made of; or the first code from the left.
 #[tactic(auto, using(crate::proofs::FormulaRows::result_name, crate::proofs::FormulaRows::result_refused, crate::proofs::FormulaRows::multiple_here, crate::proofs::FormulaRows::multiple_is, crate::proofs::FormulaRows::no_multiple_here, crate::proofs::FormulaRows::no_multiple_is))]
 pub fn assignment_at(e: &Env<'_>, unit: &[u8]) -> Result<MatrixAssignment, Code>
-    requires part { is_part row.MAT unit.now ≡ true }
+    requires phrase { is_phrase row.MAT unit.now ≡ true }
     ensures asked { result ≡ spec.assignment_in (in_statement (surroundings e.now)) (tree_at row.MAT unit.now) }
     ensures to { IfOk result (λ a. IsArrayIn false a.to (families (surroundings e.now))) }
     ensures there { IfOk result (λ a. AreThere a.made_of (families (surroundings e.now))) }

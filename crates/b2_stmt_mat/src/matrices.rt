@@ -1,7 +1,7 @@
 // What MAT makes of a right side, and assigning it.
 ghost use Rattle.std.specs.Prelude.{◌≡◌, ◌<◌, ◌*◌, MatchResult, Err, true, false, List, [], length, IfOk, OnOk, Ok, None};
 ghost use Rattle.b2_atom.specs.declared.rows.TheConstants as row;
-ghost use Rattle.b2_rows.specs.Rows.{is_part, tree_at};
+ghost use Rattle.b2_rows.specs.Rows.{is_phrase, tree_at};
 ghost use Rattle.b2_vars.specs.Shapes.{cells, has_dimensions};
 ghost use Rattle.b2_vars.specs.Tables.{shape_at, variable_at};
 ghost use Rattle.b2_expr.specs.Scope.{surroundings};
@@ -58,7 +58,7 @@ fn is_own_operand(made_of: &Formula, to: Array) -> bool
 }
 
 /// How many columns an array of this shape has, 1 where it has one dimension.
-fn width_of(shape: Shape) -> u16
+fn columns_of_shape(shape: Shape) -> u16
     ensures value { result ≡ columns_of shape.cols }
 {
     shape.cols.max(1)
@@ -69,8 +69,8 @@ fn suit(op: MatOp, b: Shape, c: Shape) -> bool
     ensures { result ≡ answers.suit op (lent_as b []) (lent_as c []) }
 {
     match op {
-        MatOp::Add | MatOp::Sub => b.rows == c.rows && width_of(b) == width_of(c),
-        MatOp::Mul => width_of(b) == c.rows,
+        MatOp::Add | MatOp::Sub => b.rows == c.rows && columns_of_shape(b) == columns_of_shape(c),
+        MatOp::Mul => columns_of_shape(b) == c.rows,
     }
 }
 
@@ -111,7 +111,7 @@ fn combined_dimensions(op: MatOp, b: Shape, c: Shape) -> Dimensions
         MatOp::Add | MatOp::Sub => dimensions_of(b),
         MatOp::Mul => Dimensions {
             rows: b.rows,
-            cols: width_of(c),
+            cols: columns_of_shape(c),
         },
     }
 }
@@ -121,7 +121,7 @@ fn transposed_dimensions(b: Shape) -> Dimensions
     ensures { result ≡ record { rows = columns_of b.cols; cols = b.rows } }
 {
     Dimensions {
-        rows: width_of(b),
+        rows: columns_of_shape(b),
         cols: b.rows,
     }
 }
@@ -299,7 +299,7 @@ fn numbers_combined(
     let seconds = numbers_of(alloc, with, c)?;
     let mut into = zeros(
         alloc,
-        usize::from(first.rows) * usize::from(width_of(second)),
+        usize::from(first.rows) * usize::from(columns_of_shape(second)),
     )?;
     match combine_into(op, first, &firsts, second, &seconds, mode, &mut into) {
         Ok(()) => Ok(into),
@@ -420,7 +420,7 @@ pub fn assign_matrix(
     work: &mut Workspace<'_>,
     unit: &[u8],
 ) -> Result<Option<Code>, NoMemory>
-    requires part { is_part row.MAT unit.now ≡ true }
+    requires phrase { is_phrase row.MAT unit.now ≡ true }
     ensures worked { IfOk result (λ code. record { work = workspace work.new; code = code } ≡ spec.assigns (tree_at row.MAT unit.now) (workspace work.old)) }
     ensures same_references { SameReferences work.old work.new }
 {

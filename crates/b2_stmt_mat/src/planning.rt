@@ -1,6 +1,6 @@
 // What the statement at a partition's place plans, and how it finishes.
 ghost use Rattle.std.specs.Prelude.{◌≡◌, true, IfOk};
-ghost use Rattle.b2_rows.specs.Rows.{is_part, tree_at};
+ghost use Rattle.b2_rows.specs.Rows.{is_phrase, tree_at};
 ghost use Rattle.b2_access.specs.Answering.{can_answer};
 ghost use Rattle.b2_access.specs.Lending.{globals_lent, seen_lent};
 ghost use Rattle.b2_expr.specs.Workspace.{SameReferences, workspace};
@@ -42,7 +42,7 @@ fn change(
     row: u16,
     unit: &[u8],
 ) -> Result<Option<Code>, NoMemory>
-    requires part { is_part row unit.now ≡ true }
+    requires phrase { is_phrase row unit.now ≡ true }
     ensures worked { IfOk result (λ code. record { work = workspace work.new; code = code } ≡ spec.changes row (tree_at row unit.now) (workspace work.old)) }
     ensures same_references { SameReferences work.old work.new }
 {

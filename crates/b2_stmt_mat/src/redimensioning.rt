@@ -3,7 +3,7 @@ ghost use Rattle.std.specs.Prelude.{◌≡◌, true, drop, IfOk};
 ghost use Rattle.b2_atom.specs.declared.rows.TheConstants as row;
 ghost use Rattle.b2_atom.specs.Leaves.{leaf_width};
 ghost use Rattle.b2_atom.specs.declared.words.Origin.TheVariants.{Atoms};
-ghost use Rattle.b2_rows.specs.Rows.{is_part, tree_at};
+ghost use Rattle.b2_rows.specs.Rows.{is_phrase, tree_at};
 ghost use Rattle.b2_rows.specs.Leaves.{is_leaf, leaf_bytes};
 ghost use Rattle.b2_receiver.specs.Receivers.{array_leaf, is_alpha_array};
 ghost use Rattle.b2_vars.specs.Names.{is_legal_name};
@@ -43,7 +43,7 @@ fn is_alpha(kind: Kind) -> bool
 /// What MAT REDIM asks for at the name of an array of a kind, or the first code.
 fn redimensioned_of(e: &Env<'_>, kind: Kind, text: &[u8]) -> Result<Redimensioned, Code>
     requires named { is_leaf (array_leaf kind) text.now ≡ true }
-    requires part { is_part row.SUBSCRIPTS_AND_LENGTH (drop (leaf_width Atoms (array_leaf kind) text.now) text.now) ≡ true }
+    requires phrase { is_phrase row.SUBSCRIPTS_AND_LENGTH (drop (leaf_width Atoms (array_leaf kind) text.now) text.now) ≡ true }
     ensures asked { result ≡ spec.redimensioned_of (in_statement (surroundings e.now)) (is_alpha_array kind) (leaf_bytes (array_leaf kind) text.now) (tree_at row.SUBSCRIPTS_AND_LENGTH (drop (leaf_width Atoms (array_leaf kind) text.now) text.now)) }
     ensures named { IfOk result (λ r. is_legal_name r.array.var ≡ true) }
 {
@@ -61,7 +61,7 @@ fn redimensioned_of(e: &Env<'_>, kind: Kind, text: &[u8]) -> Result<Redimensione
 /// What MAT REDIM asks for, or the first code from the left.
 #[tactic(auto, using(crate::proofs::RedimensionRows::alpha_leaf, crate::proofs::RedimensionRows::alpha_shape, crate::proofs::RedimensionRows::alpha_is, crate::proofs::RedimensionRows::number_leaf, crate::proofs::RedimensionRows::number_shape, crate::proofs::RedimensionRows::number_is))]
 fn redimensioned_at(e: &Env<'_>, unit: &[u8]) -> Result<Redimensioned, Code>
-    requires part { is_part row.MAT_REDIM unit.now ≡ true }
+    requires phrase { is_phrase row.MAT_REDIM unit.now ≡ true }
     ensures asked { result ≡ spec.redimensioned_in (in_statement (surroundings e.now)) (tree_at row.MAT_REDIM unit.now) }
     ensures named { IfOk result (λ r. is_legal_name r.array.var ≡ true) }
 {
@@ -95,7 +95,7 @@ fn redimension_asked(work: &mut Workspace<'_>, asked: Redimensioned) -> Option<C
 
 /// MAT REDIM: gives an array another shape. The code with which that ended, or none.
 pub fn redimension(work: &mut Workspace<'_>, unit: &[u8]) -> Option<Code>
-    requires part { is_part row.MAT_REDIM unit.now ≡ true }
+    requires phrase { is_phrase row.MAT_REDIM unit.now ≡ true }
     ensures worked { record { work = workspace work.new; code = result } ≡ spec.redimensions (tree_at row.MAT_REDIM unit.now) (workspace work.old) }
     ensures same_references { SameReferences work.old work.new }
 {

@@ -3,8 +3,8 @@ ghost use Rattle.std.specs.Prelude.{◌≡◌, ◌<◌, true, length, IfOk, Matc
 ghost use Rattle.b2_atom.specs.declared.forms.Start.TheVariants as start;
 ghost use Rattle.b2_atom.specs.declared.rows.TheConstants as row;
 ghost use Rattle.b2_atom.specs.declared.words.TheConstants as word;
-ghost use Rattle.b2_rows.specs.Optional.{maybe_part, maybe_tree};
-ghost use Rattle.b2_rows.specs.Rows.{is_part, tree_at};
+ghost use Rattle.b2_rows.specs.Optional.{maybe_phrase, maybe_tree};
+ghost use Rattle.b2_rows.specs.Rows.{is_phrase, tree_at};
 ghost use Rattle.b2_receiver.specs.Receivers.{IsAlpha, IsBuffer};
 ghost use Rattle.b2_expr.specs.Scope.{surroundings};
 ghost use Rattle.b2_expr.specs.Value.{in_statement};
@@ -60,8 +60,8 @@ fn step_of(n: Option<i64>) -> Result<u16, Code>
 
 /// The step after the receiver, 1 where none is written.
 #[tactic(auto, using(crate::proofs::SearchRows::step_sum, crate::proofs::SearchRows::step_is, crate::proofs::SearchRows::no_step))]
-fn step_at(e: &Env<'_>, text: &[u8]) -> Result<u16, Code>
-    requires part { maybe_part (start.Code word.STEP) row.STEP text.now ≡ true }
+fn search_step_at(e: &Env<'_>, text: &[u8]) -> Result<u16, Code>
+    requires phrase { maybe_phrase (start.Code word.STEP) row.STEP text.now ≡ true }
     ensures step { result ≡ spec.step_in (in_statement (surroundings e.now)) (maybe_tree (start.Code word.STEP) row.STEP text.now) }
     ensures some { IfOk result (λ step. 0 < step) }
 {
@@ -77,7 +77,7 @@ fn step_at(e: &Env<'_>, text: &[u8]) -> Result<u16, Code>
 /// What MAT SEARCH asks for, or the first code from the left.
 #[tactic(auto, using(crate::proofs::SearchRows::of_part, crate::proofs::SearchRows::relation_leaf, crate::proofs::SearchRows::want_part, crate::proofs::SearchRows::receiver_part, crate::proofs::SearchRows::step_part, crate::proofs::SearchRows::search_is))]
 fn search_at(e: &Env<'_>, unit: &[u8]) -> Result<Search, Code>
-    requires part { is_part row.MAT_SEARCH unit.now ≡ true }
+    requires phrase { is_phrase row.MAT_SEARCH unit.now ≡ true }
     ensures asked { result ≡ spec.search_in (in_statement (surroundings e.now)) (tree_at row.MAT_SEARCH unit.now) }
     ensures of { IfOk result (λ s. IsBuffer s.of) }
     ensures to { IfOk result (λ s. IsAlpha s.to.element.var) }
@@ -101,7 +101,7 @@ fn search_at(e: &Env<'_>, unit: &[u8]) -> Result<Search, Code>
         Ok(to) => to,
         Err(code) => return Err(code),
     };
-    match step_at(e, c.rest()) {
+    match search_step_at(e, c.rest()) {
         Ok(step) => Ok(Search {
             of,
             relation,
@@ -168,7 +168,7 @@ fn search_asked(work: &mut Workspace<'_>, asked: &Search) -> Result<Option<Code>
 
 /// MAT SEARCH: the places of bytes that stand in a relation to a value. The code with which that ended, or none.
 pub fn search_array(work: &mut Workspace<'_>, unit: &[u8]) -> Result<Option<Code>, NoMemory>
-    requires part { is_part row.MAT_SEARCH unit.now ≡ true }
+    requires phrase { is_phrase row.MAT_SEARCH unit.now ≡ true }
     ensures worked { IfOk result (λ code. record { work = workspace work.new; code = code } ≡ spec.searches (tree_at row.MAT_SEARCH unit.now) (workspace work.old)) }
     ensures same_references { SameReferences work.old work.new }
 {

@@ -14,7 +14,7 @@ use Rattle.b2_atom.specs.declared.forms.Item.{Item}
 use Rattle.b2_atom.specs.declared.forms.Item.TheVariants.{Word, Sign, LeftOut, Nest, Part, Either, Many}
 use Rattle.b2_rows.specs.Choices.{ReadAs, second_branch}
 use Rattle.b2_rows.specs.CommaLists.{commas}
-use Rattle.b2_rows.specs.Rows.{is_part, tree_at, after_part, is_list}
+use Rattle.b2_rows.specs.Rows.{is_phrase, tree_at, after_phrase, is_list}
 use Rattle.b2_rows.proofs.Choices.{either_first, either_second}
 use Rattle.b2_rows.proofs.RowsRead.{stands_of}
 use Rattle.b2_vars.specs.Tables.{VarsState}
@@ -59,30 +59,30 @@ specification_row : row_items row.SPECIFICATION ≡ Either (start.Code byte.uppe
 unfolding row_items
 specification_row = refl
 
-fields_by : (t : Text) (b : Bool) → starts Atoms (start.Code byte.upper_d) t ≡ b → is_part row.SPECIFICATION t ≡ true → ReadAs row.SPECIFICATION row.FIELDS second_branch t
+fields_by : (t : Text) (b : Bool) → starts Atoms (start.Code byte.upper_d) t ≡ b → is_phrase row.SPECIFICATION t ≡ true → ReadAs row.SPECIFICATION row.FIELDS second_branch t
 fields_by t true is ok = absurd (stands_of row.LEFT_OUT (LeftOut ∷ []) t left_out_row (ReadAs.part (either_first row.SPECIFICATION row.LEFT_OUT row.FIELDS (start.Code byte.upper_d) t specification_row ok is))).0
 fields_by t false is ok = either_second row.SPECIFICATION row.LEFT_OUT row.FIELDS (start.Code byte.upper_d) t specification_row ok is
 
-fields_read : (t : Text) → is_part row.SPECIFICATION t ≡ true → ReadAs row.SPECIFICATION row.FIELDS second_branch t
+fields_read : (t : Text) → is_phrase row.SPECIFICATION t ≡ true → ReadAs row.SPECIFICATION row.FIELDS second_branch t
 fields_read t ok = fields_by t (starts Atoms (start.Code byte.upper_d) t) refl ok
 
-pub fields_variable : (t : Text) → is_part row.SPECIFICATION t ≡ true → is_part row.ALPHA_RECEIVER (drop 1 (drop 1 t)) ≡ true
+pub fields_variable : (t : Text) → is_phrase row.SPECIFICATION t ≡ true → is_phrase row.ALPHA_RECEIVER (drop 1 (drop 1 t)) ≡ true
 fields_variable t ok = (stands_of row.FIELDS fields_items t fields_row (ReadAs.part (fields_read t ok))).0.1.1.0
 
-pub fields_rest : (t : Text) → is_part row.SPECIFICATION t ≡ true → after_part row.SPECIFICATION t ≡ after_part row.ALPHA_RECEIVER (drop 1 (drop 1 t))
+pub fields_rest : (t : Text) → is_phrase row.SPECIFICATION t ≡ true → after_phrase row.SPECIFICATION t ≡ after_phrase row.ALPHA_RECEIVER (drop 1 (drop 1 t))
 fields_rest t ok = ReadAs.rest (fields_read t ok) ∙ (stands_of row.FIELDS fields_items t fields_row (ReadAs.part (fields_read t ok))).2
 
-pub fields_is : (s : Context) (t : Text) → is_part row.SPECIFICATION t ≡ true
+pub fields_is : (s : Context) (t : Text) → is_phrase row.SPECIFICATION t ≡ true
     → bytes_of_fields s (tree_at row.SPECIFICATION t) ≡ (alpha_receiver s (tree_at row.ALPHA_RECEIVER (drop 1 (drop 1 t))) >>= (λ of. buffer_variables s.around (buffer_kind.Value of) >>= (λ vars. value_bytes of vars)))
 fields_is s t ok =
     ap (bytes_of_fields s) (ReadAs.tree (fields_read t ok)) ∙ ap (λ (a : Trees). bytes_of_fields s (second_branch a)) (stands_of row.FIELDS fields_items t fields_row (ReadAs.part (fields_read t ok))).1
 
 -- the buffer after it, and the list after that
 abbrev pub buffer_text : Text → Text
-buffer_text t = drop 1 (after_part row.SPECIFICATION (drop 1 t))
+buffer_text t = drop 1 (after_phrase row.SPECIFICATION (drop 1 t))
 
 abbrev pub items_text : Text → Text
-items_text t = drop 1 (after_part row.BUFFER (buffer_text t))
+items_text t = drop 1 (after_phrase row.BUFFER (buffer_text t))
 
 -- $PACK
 abbrev pack_row : List Item
@@ -92,19 +92,19 @@ pack_row_is : row_items row.FIELD_PACK ≡ pack_row
 unfolding row_items
 pack_row_is = refl
 
-pub pack_fields : (t : Text) → is_part row.FIELD_PACK t ≡ true → is_part row.SPECIFICATION (drop 1 t) ≡ true
+pub pack_fields : (t : Text) → is_phrase row.FIELD_PACK t ≡ true → is_phrase row.SPECIFICATION (drop 1 t) ≡ true
 pack_fields t ok = (stands_of row.FIELD_PACK pack_row t pack_row_is ok).0.1.0
 
-pub pack_buffer : (t : Text) → is_part row.FIELD_PACK t ≡ true → is_part row.BUFFER (buffer_text t) ≡ true
+pub pack_buffer : (t : Text) → is_phrase row.FIELD_PACK t ≡ true → is_phrase row.BUFFER (buffer_text t) ≡ true
 pack_buffer t ok = (stands_of row.FIELD_PACK pack_row t pack_row_is ok).0.1.1.1.0
 
-pub pack_value : (t : Text) → is_part row.FIELD_PACK t ≡ true → is_part row.OPERAND_OF_ANY_KIND (items_text t) ≡ true
+pub pack_value : (t : Text) → is_phrase row.FIELD_PACK t ≡ true → is_phrase row.OPERAND_OF_ANY_KIND (items_text t) ≡ true
 pack_value t ok = (stands_of row.FIELD_PACK pack_row t pack_row_is ok).0.1.1.1.1.1.0
 
-pub pack_list : (t : Text) → is_part row.FIELD_PACK t ≡ true → is_list commas row.COMMA_OPERAND (after_part row.OPERAND_OF_ANY_KIND (items_text t)) ≡ true
+pub pack_list : (t : Text) → is_phrase row.FIELD_PACK t ≡ true → is_list commas row.COMMA_OPERAND (after_phrase row.OPERAND_OF_ANY_KIND (items_text t)) ≡ true
 pack_list t ok = (stands_of row.FIELD_PACK pack_row t pack_row_is ok).0.1.1.1.1.1.1.0
 
-pub pack_is : (t : Text) (w : WorkState) → is_part row.FIELD_PACK t ≡ true → packs (tree_at row.FIELD_PACK t) w
+pub pack_is : (t : Text) (w : WorkState) → is_phrase row.FIELD_PACK t ≡ true → packs (tree_at row.FIELD_PACK t) w
     ≡ packs_by (bytes_of_fields (context_of w) (tree_at row.SPECIFICATION (drop 1 t))) (buffer (context_of w) (tree_at row.BUFFER (buffer_text t))) (items_at row.COMMA_OPERAND row.OPERAND_OF_ANY_KIND (items_text t)) w
 pack_is t w ok = ap (λ (a : Trees). packs a w) (stands_of row.FIELD_PACK pack_row t pack_row_is ok).1
 
@@ -116,19 +116,19 @@ unpack_row_is : row_items row.FIELD_UNPACK ≡ unpack_row
 unfolding row_items
 unpack_row_is = refl
 
-pub unpack_fields : (t : Text) → is_part row.FIELD_UNPACK t ≡ true → is_part row.SPECIFICATION (drop 1 t) ≡ true
+pub unpack_fields : (t : Text) → is_phrase row.FIELD_UNPACK t ≡ true → is_phrase row.SPECIFICATION (drop 1 t) ≡ true
 unpack_fields t ok = (stands_of row.FIELD_UNPACK unpack_row t unpack_row_is ok).0.1.0
 
-pub unpack_buffer : (t : Text) → is_part row.FIELD_UNPACK t ≡ true → is_part row.BUFFER (buffer_text t) ≡ true
+pub unpack_buffer : (t : Text) → is_phrase row.FIELD_UNPACK t ≡ true → is_phrase row.BUFFER (buffer_text t) ≡ true
 unpack_buffer t ok = (stands_of row.FIELD_UNPACK unpack_row t unpack_row_is ok).0.1.1.1.0
 
-pub unpack_receiver : (t : Text) → is_part row.FIELD_UNPACK t ≡ true → is_part row.RECEIVER (items_text t) ≡ true
+pub unpack_receiver : (t : Text) → is_phrase row.FIELD_UNPACK t ≡ true → is_phrase row.RECEIVER (items_text t) ≡ true
 unpack_receiver t ok = (stands_of row.FIELD_UNPACK unpack_row t unpack_row_is ok).0.1.1.1.1.1.0
 
-pub unpack_list : (t : Text) → is_part row.FIELD_UNPACK t ≡ true → is_list commas row.COMMA_RECEIVER (after_part row.RECEIVER (items_text t)) ≡ true
+pub unpack_list : (t : Text) → is_phrase row.FIELD_UNPACK t ≡ true → is_list commas row.COMMA_RECEIVER (after_phrase row.RECEIVER (items_text t)) ≡ true
 unpack_list t ok = (stands_of row.FIELD_UNPACK unpack_row t unpack_row_is ok).0.1.1.1.1.1.1.0
 
-pub unpack_is : (t : Text) (w : WorkState) → is_part row.FIELD_UNPACK t ≡ true → unpacks (tree_at row.FIELD_UNPACK t) w
+pub unpack_is : (t : Text) (w : WorkState) → is_phrase row.FIELD_UNPACK t ≡ true → unpacks (tree_at row.FIELD_UNPACK t) w
     ≡ unpacks_by (bytes_of_fields (context_of w) (tree_at row.SPECIFICATION (drop 1 t))) (buffer (context_of w) (tree_at row.BUFFER (buffer_text t))) (items_at row.COMMA_RECEIVER row.RECEIVER (items_text t)) w
 unpack_is t w ok = ap (λ (a : Trees). unpacks a w) (stands_of row.FIELD_UNPACK unpack_row t unpack_row_is ok).1
 
@@ -137,21 +137,21 @@ same_by : {A : Type 0} (b : Bool) (x y : A) → b ≡ true → (if b then x else
 same_by true x y is = refl
 same_by false x y is = cc
 
-pub pack_fine : (t pairs rest : Text) (w : WorkState) (left : WorkLeft) → is_part row.FIELD_PACK t ≡ true → bytes_of_fields (context_of w) (tree_at row.SPECIFICATION (drop 1 t)) ≡ Ok pairs → rest ≡ buffer_text t → is_specification pairs ≡ true
-    → left ≡ packs_to (values_packed pairs) (buffer (context_of w) (tree_at row.BUFFER rest)) (each_of (value_of (context_of w)) (items_at row.COMMA_OPERAND row.OPERAND_OF_ANY_KIND (drop 1 (after_part row.BUFFER rest)))) w → left ≡ packs (tree_at row.FIELD_PACK t) w
+pub pack_fine : (t pairs rest : Text) (w : WorkState) (left : WorkLeft) → is_phrase row.FIELD_PACK t ≡ true → bytes_of_fields (context_of w) (tree_at row.SPECIFICATION (drop 1 t)) ≡ Ok pairs → rest ≡ buffer_text t → is_specification pairs ≡ true
+    → left ≡ packs_to (values_packed pairs) (buffer (context_of w) (tree_at row.BUFFER rest)) (each_of (value_of (context_of w)) (items_at row.COMMA_OPERAND row.OPERAND_OF_ANY_KIND (drop 1 (after_phrase row.BUFFER rest)))) w → left ≡ packs (tree_at row.FIELD_PACK t) w
 pack_fine t pairs rest w left ok is_pairs is_rest fine is =
     is
     ∙ sym (same_by (is_specification pairs) _ (refused P58_SPECIFICATION w) fine)
-    ∙ sym (ap (λ (a : TextAnswer). packs_by a (buffer (context_of w) (tree_at row.BUFFER rest)) (items_at row.COMMA_OPERAND row.OPERAND_OF_ANY_KIND (drop 1 (after_part row.BUFFER rest))) w) is_pairs)
-    ∙ ap (λ (u : Text). packs_by (bytes_of_fields (context_of w) (tree_at row.SPECIFICATION (drop 1 t))) (buffer (context_of w) (tree_at row.BUFFER u)) (items_at row.COMMA_OPERAND row.OPERAND_OF_ANY_KIND (drop 1 (after_part row.BUFFER u))) w) is_rest
+    ∙ sym (ap (λ (a : TextAnswer). packs_by a (buffer (context_of w) (tree_at row.BUFFER rest)) (items_at row.COMMA_OPERAND row.OPERAND_OF_ANY_KIND (drop 1 (after_phrase row.BUFFER rest))) w) is_pairs)
+    ∙ ap (λ (u : Text). packs_by (bytes_of_fields (context_of w) (tree_at row.SPECIFICATION (drop 1 t))) (buffer (context_of w) (tree_at row.BUFFER u)) (items_at row.COMMA_OPERAND row.OPERAND_OF_ANY_KIND (drop 1 (after_phrase row.BUFFER u))) w) is_rest
     ∙ sym (pack_is t w ok)
 
-pub unpack_fine : (t pairs rest : Text) (w : WorkState) (left : WorkLeft) → is_part row.FIELD_UNPACK t ≡ true → bytes_of_fields (context_of w) (tree_at row.SPECIFICATION (drop 1 t)) ≡ Ok pairs → rest ≡ buffer_text t → is_specification pairs ≡ true
-    → left ≡ all_taken takes_value (items_at row.COMMA_RECEIVER row.RECEIVER (drop 1 (after_part row.BUFFER rest))) (read_from (fields_in pairs (map kind_of (items_at row.COMMA_RECEIVER row.RECEIVER (drop 1 (after_part row.BUFFER rest))))) (buffer (context_of w) (tree_at row.BUFFER rest)) (surroundings_of w)) w
+pub unpack_fine : (t pairs rest : Text) (w : WorkState) (left : WorkLeft) → is_phrase row.FIELD_UNPACK t ≡ true → bytes_of_fields (context_of w) (tree_at row.SPECIFICATION (drop 1 t)) ≡ Ok pairs → rest ≡ buffer_text t → is_specification pairs ≡ true
+    → left ≡ all_taken takes_value (items_at row.COMMA_RECEIVER row.RECEIVER (drop 1 (after_phrase row.BUFFER rest))) (read_from (fields_in pairs (map kind_of (items_at row.COMMA_RECEIVER row.RECEIVER (drop 1 (after_phrase row.BUFFER rest))))) (buffer (context_of w) (tree_at row.BUFFER rest)) (surroundings_of w)) w
     → left ≡ unpacks (tree_at row.FIELD_UNPACK t) w
 unpack_fine t pairs rest w left ok is_pairs is_rest fine is =
     is
     ∙ sym (same_by (is_specification pairs) _ (refused P58_SPECIFICATION w) fine)
-    ∙ sym (ap (λ (a : TextAnswer). unpacks_by a (buffer (context_of w) (tree_at row.BUFFER rest)) (items_at row.COMMA_RECEIVER row.RECEIVER (drop 1 (after_part row.BUFFER rest))) w) is_pairs)
-    ∙ ap (λ (u : Text). unpacks_by (bytes_of_fields (context_of w) (tree_at row.SPECIFICATION (drop 1 t))) (buffer (context_of w) (tree_at row.BUFFER u)) (items_at row.COMMA_RECEIVER row.RECEIVER (drop 1 (after_part row.BUFFER u))) w) is_rest
+    ∙ sym (ap (λ (a : TextAnswer). unpacks_by a (buffer (context_of w) (tree_at row.BUFFER rest)) (items_at row.COMMA_RECEIVER row.RECEIVER (drop 1 (after_phrase row.BUFFER rest))) w) is_pairs)
+    ∙ ap (λ (u : Text). unpacks_by (bytes_of_fields (context_of w) (tree_at row.SPECIFICATION (drop 1 t))) (buffer (context_of w) (tree_at row.BUFFER u)) (items_at row.COMMA_RECEIVER row.RECEIVER (drop 1 (after_phrase row.BUFFER u))) w) is_rest
     ∙ sym (unpack_is t w ok)

@@ -13,7 +13,7 @@ use Rattle.b2_atom.specs.Tree.{Trees, also}
 use Rattle.b2_atom.specs.Tree.Trees.{Done, In}
 use Rattle.b2_atom.specs.Words.{Text}
 use Rattle.b2_rows.specs.CommaLists.{commas, further_listed}
-use Rattle.b2_rows.specs.Rows.{after_part, list_at, tree_at}
+use Rattle.b2_rows.specs.Rows.{after_phrase, list_at, tree_at}
 use Rattle.b2_expr.specs.Answers.{Answer, ◌>>=◌}
 use Rattle.b2_expr.specs.Kinds.{suits}
 use Rattle.b2_expr.specs.Scope.{Context}
@@ -30,7 +30,7 @@ abbrev pub others_at : ℕ → Text → List Trees
 others_at more t = further_listed (also (list_at commas more t) Done)
 
 abbrev pub items_at : ℕ → ℕ → Text → List Trees
-items_at more item t = tree_at item t ∷ others_at more (after_part item t)
+items_at more item t = tree_at item t ∷ others_at more (after_phrase item t)
 
 -- what each of them is, or the first code from the left
 abbrev pub each_of : {A : Type 0} → (Trees → Result A ℕ) → List Trees → Result (List A) ℕ

@@ -54,7 +54,7 @@ fn room_of(vars: &Vars, of: &Buffer) -> Result<usize, Code>
 
 /// The code of the buffer, or the first of numbers that are packed into it.
 #[tactic(auto, using(crate::proofs::Changed::room_coded, crate::proofs::Changed::room_missing))]
-fn check_numbers(vars: &Vars, to: &Buffer, image: &[u8], xs: &[Dec]) -> Result<(), Code>
+fn check_buffer_numbers(vars: &Vars, to: &Buffer, image: &[u8], xs: &[Dec]) -> Result<(), Code>
     requires named { IsBuffer to.now }
     ensures { MatchResult result (λ done. room_code (packing.image_code (image_row image.now) xs.now) (room_in to.now vars.now) ≡ None) (λ code. room_code (packing.image_code (image_row image.now) xs.now) (room_in to.now vars.now) ≡ Some code) }
 {
@@ -74,11 +74,11 @@ fn pack_into(bytes: &mut [u8], image: &[u8], xs: &[Dec])
 
 /// Puts numbers into a buffer. A scalar that isn't there is made. After an error all is as before.
 #[tactic(auto, using(crate::proofs::Changed::numbers_put, crate::proofs::Changed::numbers_refused))]
-fn assign_numbers(vars: &mut Vars, to: &Buffer, image: &[u8], xs: &[Dec]) -> Result<(), Fault>
+fn pack_numbers_into(vars: &mut Vars, to: &Buffer, image: &[u8], xs: &[Dec]) -> Result<(), Fault>
     requires named { IsBuffer to.now }
     ensures { Ends (numbers_packed image.now xs.now to.now vars.old) vars.old vars.new result }
 {
-    match check_numbers(vars, to, image, xs) {
+    match check_buffer_numbers(vars, to, image, xs) {
         Ok(()) => change_buffer(vars, to, |bytes| pack_into(bytes, image, xs)),
         Err(code) => Err(Fault::Code(code)),
     }
@@ -98,13 +98,13 @@ pub fn put_numbers(
     change_among(
         work,
         to.is_global(),
-        |vars| assign_numbers(vars, to, image, xs),
+        |vars| pack_numbers_into(vars, to, image, xs),
     )
 }
 
 /// The code of the buffer, or the first of values that are packed into its fields.
 #[tactic(auto, using(crate::proofs::Changed::room_coded, crate::proofs::Changed::room_missing))]
-fn check_values(vars: &Vars, to: &Buffer, spec: &[u8], values: &[Value]) -> Result<(), Code>
+fn check_buffer_values(vars: &Vars, to: &Buffer, spec: &[u8], values: &[Value]) -> Result<(), Code>
     requires named { IsBuffer to.now }
     ensures { MatchResult result (λ done. room_code (packing.fields_code spec.now values.now) (room_in to.now vars.now) ≡ None) (λ code. room_code (packing.fields_code spec.now values.now) (room_in to.now vars.now) ≡ Some code) }
 {
@@ -122,13 +122,13 @@ fn fields_into(bytes: &mut [u8], spec: &[u8], values: &[Value])
     let _packed = fields(spec, values, bytes);
 }
 
-/// Puts values into the fields of a buffer, as `assign_numbers`.
+/// Puts values into the fields of a buffer, as `pack_numbers_into`.
 #[tactic(auto, using(crate::proofs::Changed::values_put, crate::proofs::Changed::values_refused))]
 fn assign_values(vars: &mut Vars, to: &Buffer, spec: &[u8], values: &[Value]) -> Result<(), Fault>
     requires named { IsBuffer to.now }
     ensures { Ends (values_packed spec.now values.now to.now vars.old) vars.old vars.new result }
 {
-    match check_values(vars, to, spec, values) {
+    match check_buffer_values(vars, to, spec, values) {
         Ok(()) => change_buffer(vars, to, |bytes| fields_into(bytes, spec, values)),
         Err(code) => Err(Fault::Code(code)),
     }

@@ -3,7 +3,7 @@ ghost use Rattle.std.specs.Prelude.{◌≡◌, true, drop, map, IfOk, IfErr, Ok}
 ghost use Rattle.b2_base.specs.Refusals.{IsRefused};
 ghost use Rattle.b2_atom.specs.declared.rows.TheConstants as row;
 ghost use Rattle.b2_rows.specs.CommaLists.{commas};
-ghost use Rattle.b2_rows.specs.Rows.{after_part, is_list, is_part, tree_at};
+ghost use Rattle.b2_rows.specs.Rows.{after_phrase, is_list, is_phrase, tree_at};
 ghost use Rattle.b2_pack.specs.Unpacking.{fields_in};
 ghost use Rattle.b2_expr.specs.Reads.{Gives};
 ghost use Rattle.b2_expr.specs.Scope.{surroundings};
@@ -46,8 +46,8 @@ fn bytes_of(vars: &Vars, of: AlphaReceiver) -> Result<Bytes, Code>
 /// The specification at a text, and what stands after it.
 #[tactic(auto, using(crate::proofs::FieldRows::fields_variable, crate::proofs::FieldRows::fields_is, crate::proofs::FieldRows::fields_rest))]
 fn specification_at<'a>(e: &Env<'_>, text: &'a [u8]) -> Result<(Bytes, &'a [u8]), Code>
-    requires part { is_part row.SPECIFICATION text.now ≡ true }
-    ensures { Gives (spec.bytes_of_fields (in_statement (surroundings e.now)) (tree_at row.SPECIFICATION text.now)) (after_part row.SPECIFICATION text.now) result }
+    requires phrase { is_phrase row.SPECIFICATION text.now ≡ true }
+    ensures { Gives (spec.bytes_of_fields (in_statement (surroundings e.now)) (tree_at row.SPECIFICATION text.now)) (after_phrase row.SPECIFICATION text.now) result }
 {
     let mut c = Cursor::over(rest_after(rest_after(text, 1), 1));
     let of = match alpha_receiver(&mut c, e) {
@@ -72,10 +72,10 @@ fn pack_at(
     pairs: &[u8],
     text: &[u8],
 ) -> Result<Option<Code>, NoMemory>
-    requires buffer { is_part row.BUFFER text.now ≡ true }
-    requires value { is_part row.OPERAND_OF_ANY_KIND (drop 1 (after_part row.BUFFER text.now)) ≡ true }
-    requires list { is_list commas row.COMMA_OPERAND (after_part row.OPERAND_OF_ANY_KIND (drop 1 (after_part row.BUFFER text.now))) ≡ true }
-    ensures worked { IfOk result (λ code. record { work = workspace work.new; code = code } ≡ packs_to (spec.values_packed pairs.now) (buffer_seen (context_of (workspace work.old)) (tree_at row.BUFFER text.now)) (each_of (value_of (context_of (workspace work.old))) (items_at row.COMMA_OPERAND row.OPERAND_OF_ANY_KIND (drop 1 (after_part row.BUFFER text.now)))) (workspace work.old)) }
+    requires buffer { is_phrase row.BUFFER text.now ≡ true }
+    requires value { is_phrase row.OPERAND_OF_ANY_KIND (drop 1 (after_phrase row.BUFFER text.now)) ≡ true }
+    requires list { is_list commas row.COMMA_OPERAND (after_phrase row.OPERAND_OF_ANY_KIND (drop 1 (after_phrase row.BUFFER text.now))) ≡ true }
+    ensures worked { IfOk result (λ code. record { work = workspace work.new; code = code } ≡ packs_to (spec.values_packed pairs.now) (buffer_seen (context_of (workspace work.old)) (tree_at row.BUFFER text.now)) (each_of (value_of (context_of (workspace work.old))) (items_at row.COMMA_OPERAND row.OPERAND_OF_ANY_KIND (drop 1 (after_phrase row.BUFFER text.now)))) (workspace work.old)) }
     ensures same_references { SameReferences work.old work.new }
 {
     let mut c = Cursor::over(text);
@@ -96,7 +96,7 @@ pub fn pack_fields(
     work: &mut Workspace<'_>,
     unit: &[u8],
 ) -> Result<Option<Code>, NoMemory>
-    requires part { is_part row.FIELD_PACK unit.now ≡ true }
+    requires phrase { is_phrase row.FIELD_PACK unit.now ≡ true }
     ensures worked { IfOk result (λ code. record { work = workspace work.new; code = code } ≡ spec.packs (tree_at row.FIELD_PACK unit.now) (workspace work.old)) }
     ensures same_references { SameReferences work.old work.new }
 {
@@ -112,7 +112,7 @@ pub fn pack_fields(
 }
 
 /// The values of these kinds that a buffer holds, or the first code.
-fn values_of(
+fn values_held(
     alloc: Global,
     vars: &Vars,
     of: &Buffer,
@@ -136,10 +136,10 @@ fn unpack_at(
     pairs: &[u8],
     text: &[u8],
 ) -> Result<Option<Code>, NoMemory>
-    requires buffer { is_part row.BUFFER text.now ≡ true }
-    requires receiver { is_part row.RECEIVER (drop 1 (after_part row.BUFFER text.now)) ≡ true }
-    requires list { is_list commas row.COMMA_RECEIVER (after_part row.RECEIVER (drop 1 (after_part row.BUFFER text.now))) ≡ true }
-    ensures worked { IfOk result (λ code. record { work = workspace work.new; code = code } ≡ all_taken takes_value (items_at row.COMMA_RECEIVER row.RECEIVER (drop 1 (after_part row.BUFFER text.now))) (read_from (fields_in pairs.now (map kind_of (items_at row.COMMA_RECEIVER row.RECEIVER (drop 1 (after_part row.BUFFER text.now))))) (buffer_seen (context_of (workspace work.old)) (tree_at row.BUFFER text.now)) (seen_by (workspace work.old))) (workspace work.old)) }
+    requires buffer { is_phrase row.BUFFER text.now ≡ true }
+    requires receiver { is_phrase row.RECEIVER (drop 1 (after_phrase row.BUFFER text.now)) ≡ true }
+    requires list { is_list commas row.COMMA_RECEIVER (after_phrase row.RECEIVER (drop 1 (after_phrase row.BUFFER text.now))) ≡ true }
+    ensures worked { IfOk result (λ code. record { work = workspace work.new; code = code } ≡ all_taken takes_value (items_at row.COMMA_RECEIVER row.RECEIVER (drop 1 (after_phrase row.BUFFER text.now))) (read_from (fields_in pairs.now (map kind_of (items_at row.COMMA_RECEIVER row.RECEIVER (drop 1 (after_phrase row.BUFFER text.now))))) (buffer_seen (context_of (workspace work.old)) (tree_at row.BUFFER text.now)) (seen_by (workspace work.old))) (workspace work.old)) }
     ensures same_references { SameReferences work.old work.new }
 {
     let mut c = Cursor::over(text);
@@ -153,7 +153,7 @@ fn unpack_at(
         Ok(vars) => vars,
         Err(code) => return Ok(Some(code)),
     };
-    match values_of(alloc, vars, &of, pairs, &kinds) {
+    match values_held(alloc, vars, &of, pairs, &kinds) {
         Ok(values) => give_values(work, receivers, &values),
         Err(fault) => code_of_fault(fault),
     }
@@ -166,7 +166,7 @@ pub fn unpack_fields(
     work: &mut Workspace<'_>,
     unit: &[u8],
 ) -> Result<Option<Code>, NoMemory>
-    requires part { is_part row.FIELD_UNPACK unit.now ≡ true }
+    requires phrase { is_phrase row.FIELD_UNPACK unit.now ≡ true }
     ensures worked { IfOk result (λ code. record { work = workspace work.new; code = code } ≡ spec.unpacks (tree_at row.FIELD_UNPACK unit.now) (workspace work.old)) }
     ensures same_references { SameReferences work.old work.new }
 {

@@ -3,7 +3,7 @@ ghost use Rattle.std.specs.Prelude.{◌≡◌, true, length, map, IfOk, IfErr, O
 ghost use Rattle.b2_atom.specs.declared.rows.TheConstants as row;
 ghost use Rattle.b2_base.specs.Refusals.{IsRefused};
 ghost use Rattle.b2_rows.specs.CommaLists.{commas};
-ghost use Rattle.b2_rows.specs.Rows.{after_part, is_list, is_part, tree_at};
+ghost use Rattle.b2_rows.specs.Rows.{after_phrase, is_list, is_phrase, tree_at};
 ghost use Rattle.b2_expr.specs.Scope.{surroundings};
 ghost use Rattle.b2_expr.specs.Value.{in_statement};
 ghost use Rattle.b2_expr.specs.Workspace.{SameReferences, workspace};
@@ -23,9 +23,13 @@ use b2_rows::{is_alpha_at, is_at};
 use std::alloc::Global;
 
 /// Puts the number of the expression at a text after others, and gives what stands after it.
-fn put_number<'a>(e: &Env<'_>, text: &'a [u8], into: &mut Vec<Dec>) -> Result<&'a [u8], Fault>
-    requires part { is_part row.SUM text.now ≡ true }
-    ensures { PutsOne (spec.number_of (in_statement (surroundings e.now)) (tree_at row.SUM text.now)) (after_part row.SUM text.now) into.old.items into.new.items result }
+fn put_packed_number<'a>(
+    e: &Env<'_>,
+    text: &'a [u8],
+    into: &mut Vec<Dec>,
+) -> Result<&'a [u8], Fault>
+    requires phrase { is_phrase row.SUM text.now ≡ true }
+    ensures { PutsOne (spec.number_of (in_statement (surroundings e.now)) (tree_at row.SUM text.now)) (after_phrase row.SUM text.now) into.old.items into.new.items result }
 {
     let mut c = Cursor::over(text);
     match number(&mut c, e) {
@@ -40,15 +44,15 @@ fn put_number<'a>(e: &Env<'_>, text: &'a [u8], into: &mut Vec<Dec>) -> Result<&'
 /// The numbers of the expressions at a text, from left to right, or the first code.
 #[tactic(auto, using(crate::proofs::ListRows::number_part, crate::proofs::ListRows::number_list, crate::proofs::ListRows::number_shorter, crate::proofs::ListRows::number_put, crate::proofs::ListRows::number_last, crate::proofs::ListRows::number_refused))]
 pub fn numbers_at(alloc: Global, e: &Env<'_>, text: &[u8]) -> Result<Vec<Dec>, Fault>
-    requires part { is_part row.SUM text.now ≡ true }
-    requires list { is_list commas row.COMMA_NUMBER (after_part row.SUM text.now) ≡ true }
+    requires phrase { is_phrase row.SUM text.now ≡ true }
+    requires list { is_list commas row.COMMA_NUMBER (after_phrase row.SUM text.now) ≡ true }
     ensures numbers { IfOk result (λ xs. each_of (spec.number_of (in_statement (surroundings e.now))) (items_at row.COMMA_NUMBER row.SUM text.now) ≡ Ok xs.items) }
     ensures refused { IfErr result (IsRefused (each_of (spec.number_of (in_statement (surroundings e.now))) (items_at row.COMMA_NUMBER row.SUM text.now))) }
 {
     let mut numbers = Vec::new(alloc);
     let mut left = text;
     loop {
-        let rest = match put_number(e, left, &mut numbers) {
+        let rest = match put_packed_number(e, left, &mut numbers) {
             Ok(rest) => rest,
             Err(fault) => return Err(fault),
         };
@@ -60,9 +64,13 @@ pub fn numbers_at(alloc: Global, e: &Env<'_>, text: &[u8]) -> Result<Vec<Dec>, F
 }
 
 /// Puts the bytes of the expression at a text after other values, and gives what stands after it.
-fn put_bytes<'a>(e: &Env<'_>, text: &'a [u8], into: &mut Vec<Value>) -> Result<&'a [u8], Fault>
-    requires part { is_part row.ALPHA text.now ≡ true }
-    ensures { PutsOne (spec.bytes_value (in_statement (surroundings e.now)) (tree_at row.ALPHA text.now)) (after_part row.ALPHA text.now) into.old.items into.new.items result }
+fn put_packed_bytes<'a>(
+    e: &Env<'_>,
+    text: &'a [u8],
+    into: &mut Vec<Value>,
+) -> Result<&'a [u8], Fault>
+    requires phrase { is_phrase row.ALPHA text.now ≡ true }
+    ensures { PutsOne (spec.bytes_value (in_statement (surroundings e.now)) (tree_at row.ALPHA text.now)) (after_phrase row.ALPHA text.now) into.old.items into.new.items result }
 {
     let mut c = Cursor::over(text);
     let mut bytes = Bytes::new();
@@ -77,8 +85,8 @@ fn put_bytes<'a>(e: &Env<'_>, text: &'a [u8], into: &mut Vec<Value>) -> Result<&
 
 /// Puts the number of the expression at a text after other values, and gives what stands after it.
 fn put_sum<'a>(e: &Env<'_>, text: &'a [u8], into: &mut Vec<Value>) -> Result<&'a [u8], Fault>
-    requires part { is_part row.SUM text.now ≡ true }
-    ensures { PutsOne (spec.number_value (in_statement (surroundings e.now)) (tree_at row.SUM text.now)) (after_part row.SUM text.now) into.old.items into.new.items result }
+    requires phrase { is_phrase row.SUM text.now ≡ true }
+    ensures { PutsOne (spec.number_value (in_statement (surroundings e.now)) (tree_at row.SUM text.now)) (after_phrase row.SUM text.now) into.old.items into.new.items result }
 {
     let mut c = Cursor::over(text);
     match number(&mut c, e) {
@@ -92,12 +100,16 @@ fn put_sum<'a>(e: &Env<'_>, text: &'a [u8], into: &mut Vec<Value>) -> Result<&'a
 
 /// Puts the value of the expression at a text after others, and gives what stands after it.
 #[tactic(auto, using(crate::proofs::ValueRows::alpha_here, crate::proofs::ValueRows::alpha_is, crate::proofs::ValueRows::alpha_rest, crate::proofs::ValueRows::number_here, crate::proofs::ValueRows::number_is, crate::proofs::ValueRows::number_rest))]
-fn put_value<'a>(e: &Env<'_>, text: &'a [u8], into: &mut Vec<Value>) -> Result<&'a [u8], Fault>
-    requires part { is_part row.OPERAND_OF_ANY_KIND text.now ≡ true }
-    ensures { PutsOne (spec.value_of (in_statement (surroundings e.now)) (tree_at row.OPERAND_OF_ANY_KIND text.now)) (after_part row.OPERAND_OF_ANY_KIND text.now) into.old.items into.new.items result }
+fn put_packed_value<'a>(
+    e: &Env<'_>,
+    text: &'a [u8],
+    into: &mut Vec<Value>,
+) -> Result<&'a [u8], Fault>
+    requires phrase { is_phrase row.OPERAND_OF_ANY_KIND text.now ≡ true }
+    ensures { PutsOne (spec.value_of (in_statement (surroundings e.now)) (tree_at row.OPERAND_OF_ANY_KIND text.now)) (after_phrase row.OPERAND_OF_ANY_KIND text.now) into.old.items into.new.items result }
 {
     if is_alpha_at(text) {
-        put_bytes(e, text, into)
+        put_packed_bytes(e, text, into)
     } else {
         put_sum(e, text, into)
     }
@@ -106,15 +118,15 @@ fn put_value<'a>(e: &Env<'_>, text: &'a [u8], into: &mut Vec<Value>) -> Result<&
 /// The values of the expressions at a text, from left to right, or the first code.
 #[tactic(auto, using(crate::proofs::ListRows::value_part, crate::proofs::ListRows::value_list, crate::proofs::ListRows::value_shorter, crate::proofs::ListRows::value_put, crate::proofs::ListRows::value_last, crate::proofs::ListRows::value_refused))]
 pub fn values_at(alloc: Global, e: &Env<'_>, text: &[u8]) -> Result<Vec<Value>, Fault>
-    requires part { is_part row.OPERAND_OF_ANY_KIND text.now ≡ true }
-    requires list { is_list commas row.COMMA_OPERAND (after_part row.OPERAND_OF_ANY_KIND text.now) ≡ true }
+    requires phrase { is_phrase row.OPERAND_OF_ANY_KIND text.now ≡ true }
+    requires list { is_list commas row.COMMA_OPERAND (after_phrase row.OPERAND_OF_ANY_KIND text.now) ≡ true }
     ensures values { IfOk result (λ xs. each_of (spec.value_of (in_statement (surroundings e.now))) (items_at row.COMMA_OPERAND row.OPERAND_OF_ANY_KIND text.now) ≡ Ok xs.items) }
     ensures refused { IfErr result (IsRefused (each_of (spec.value_of (in_statement (surroundings e.now))) (items_at row.COMMA_OPERAND row.OPERAND_OF_ANY_KIND text.now))) }
 {
     let mut values = Vec::new(alloc);
     let mut left = text;
     loop {
-        let rest = match put_value(e, left, &mut values) {
+        let rest = match put_packed_value(e, left, &mut values) {
             Ok(rest) => rest,
             Err(fault) => return Err(fault),
         };
@@ -128,8 +140,8 @@ pub fn values_at(alloc: Global, e: &Env<'_>, text: &[u8]) -> Result<Vec<Value>, 
 /// How many numeric receivers stand at a text.
 #[tactic(auto, using(crate::proofs::ListRows::receiver_part, crate::proofs::ListRows::receiver_list, crate::proofs::ListRows::receiver_items, crate::proofs::ListRows::no_receivers, crate::proofs::ListRows::receiver_shorter, b2_rows::proofs::RowsRead::part_short))]
 pub fn count_at(text: &[u8]) -> usize
-    requires part { is_part row.NUMERIC_RECEIVER text.now ≡ true }
-    requires list { is_list commas row.COMMA_NUMERIC_RECEIVER (after_part row.NUMERIC_RECEIVER text.now) ≡ true }
+    requires phrase { is_phrase row.NUMERIC_RECEIVER text.now ≡ true }
+    requires list { is_list commas row.COMMA_NUMERIC_RECEIVER (after_phrase row.NUMERIC_RECEIVER text.now) ≡ true }
     ensures { result ≡ length (items_at row.COMMA_NUMERIC_RECEIVER row.NUMERIC_RECEIVER text.now) }
 {
     let mut left = text;
@@ -146,8 +158,8 @@ pub fn count_at(text: &[u8]) -> usize
 
 /// The kind of the receiver at a text, as it is written.
 #[tactic(auto, using(crate::proofs::ValueRows::alpha_kind, crate::proofs::ValueRows::number_kind))]
-fn kind_at(text: &[u8]) -> Kind
-    requires part { is_part row.RECEIVER text.now ≡ true }
+fn written_kind_at(text: &[u8]) -> Kind
+    requires phrase { is_phrase row.RECEIVER text.now ≡ true }
     ensures { result ≡ spec.kind_of (tree_at row.RECEIVER text.now) }
 {
     if is_alpha_at(text) {
@@ -160,14 +172,14 @@ fn kind_at(text: &[u8]) -> Kind
 /// The kinds of the receivers at a text, from left to right.
 #[tactic(auto, using(crate::proofs::ListRows::any_part, crate::proofs::ListRows::any_list, crate::proofs::ListRows::any_shorter, crate::proofs::ListRows::kind_put, crate::proofs::ListRows::kind_last))]
 pub fn kinds_at(alloc: Global, text: &[u8]) -> Result<Vec<Kind>, NoMemory>
-    requires part { is_part row.RECEIVER text.now ≡ true }
-    requires list { is_list commas row.COMMA_RECEIVER (after_part row.RECEIVER text.now) ≡ true }
+    requires phrase { is_phrase row.RECEIVER text.now ≡ true }
+    requires list { is_list commas row.COMMA_RECEIVER (after_phrase row.RECEIVER text.now) ≡ true }
     ensures { IfOk result (λ kinds. kinds.items ≡ map spec.kind_of (items_at row.COMMA_RECEIVER row.RECEIVER text.now)) }
 {
     let mut kinds = Vec::new(alloc);
     let mut left = text;
     loop {
-        let kind = kind_at(left);
+        let kind = written_kind_at(left);
         kinds.push(kind)?;
         let rest = past_any_receiver(left);
         if !is_at(b',', rest) {
@@ -184,8 +196,8 @@ pub fn give_numbers(
     text: &[u8],
     xs: &[Dec],
 ) -> Result<Option<Code>, NoMemory>
-    requires part { is_part row.NUMERIC_RECEIVER text.now ≡ true }
-    requires list { is_list commas row.COMMA_NUMERIC_RECEIVER (after_part row.NUMERIC_RECEIVER text.now) ≡ true }
+    requires phrase { is_phrase row.NUMERIC_RECEIVER text.now ≡ true }
+    requires list { is_list commas row.COMMA_NUMERIC_RECEIVER (after_phrase row.NUMERIC_RECEIVER text.now) ≡ true }
     ensures worked { IfOk result (λ code. record { work = workspace work.new; code = code } ≡ each_takes takes_number (items_at row.COMMA_NUMERIC_RECEIVER row.NUMERIC_RECEIVER text.now) xs.now (workspace work.old)) }
     ensures same_references { SameReferences work.old work.new }
 {
@@ -224,7 +236,7 @@ fn give_value_at(
     text: &[u8],
     value: &Value,
 ) -> Result<Option<Code>, NoMemory>
-    requires part { is_part row.RECEIVER text.now ≡ true }
+    requires phrase { is_phrase row.RECEIVER text.now ≡ true }
     ensures worked { IfOk result (λ code. record { work = workspace work.new; code = code } ≡ takes_value value.now (tree_at row.RECEIVER text.now) (workspace work.old)) }
     ensures same_references { SameReferences work.old work.new }
 {
@@ -241,8 +253,8 @@ pub fn give_values(
     text: &[u8],
     values: &[Value],
 ) -> Result<Option<Code>, NoMemory>
-    requires part { is_part row.RECEIVER text.now ≡ true }
-    requires list { is_list commas row.COMMA_RECEIVER (after_part row.RECEIVER text.now) ≡ true }
+    requires phrase { is_phrase row.RECEIVER text.now ≡ true }
+    requires list { is_list commas row.COMMA_RECEIVER (after_phrase row.RECEIVER text.now) ≡ true }
     ensures worked { IfOk result (λ code. record { work = workspace work.new; code = code } ≡ each_takes takes_value (items_at row.COMMA_RECEIVER row.RECEIVER text.now) values.now (workspace work.old)) }
     ensures same_references { SameReferences work.old work.new }
 {

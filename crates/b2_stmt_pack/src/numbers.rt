@@ -6,7 +6,7 @@ ghost use Rattle.b2_atom.specs.declared.forms.Leaf.TheVariants as leaf;
 ghost use Rattle.b2_atom.specs.declared.rows.TheConstants as row;
 ghost use Rattle.b2_atom.specs.declared.words.Origin.TheVariants.{Atoms};
 ghost use Rattle.b2_rows.specs.CommaLists.{commas};
-ghost use Rattle.b2_rows.specs.Rows.{after_part, is_list, is_part, tree_at};
+ghost use Rattle.b2_rows.specs.Rows.{after_phrase, is_list, is_phrase, tree_at};
 ghost use Rattle.b2_pack.specs.Images.{image_row};
 ghost use Rattle.b2_pack.specs.Unpacking.{numbers_by_rows};
 ghost use Rattle.b2_expr.specs.Value.{context_of};
@@ -39,10 +39,10 @@ fn pack_at(
     image: &[u8],
     text: &[u8],
 ) -> Result<Option<Code>, NoMemory>
-    requires buffer { is_part row.BUFFER text.now ≡ true }
-    requires number { is_part row.SUM (drop 1 (after_part row.BUFFER text.now)) ≡ true }
-    requires list { is_list commas row.COMMA_NUMBER (after_part row.SUM (drop 1 (after_part row.BUFFER text.now))) ≡ true }
-    ensures worked { IfOk result (λ code. record { work = workspace work.new; code = code } ≡ packs_to (spec.numbers_packed image.now) (buffer_seen (context_of (workspace work.old)) (tree_at row.BUFFER text.now)) (each_of (number_of (context_of (workspace work.old))) (items_at row.COMMA_NUMBER row.SUM (drop 1 (after_part row.BUFFER text.now)))) (workspace work.old)) }
+    requires buffer { is_phrase row.BUFFER text.now ≡ true }
+    requires number { is_phrase row.SUM (drop 1 (after_phrase row.BUFFER text.now)) ≡ true }
+    requires list { is_list commas row.COMMA_NUMBER (after_phrase row.SUM (drop 1 (after_phrase row.BUFFER text.now))) ≡ true }
+    ensures worked { IfOk result (λ code. record { work = workspace work.new; code = code } ≡ packs_to (spec.numbers_packed image.now) (buffer_seen (context_of (workspace work.old)) (tree_at row.BUFFER text.now)) (each_of (number_of (context_of (workspace work.old))) (items_at row.COMMA_NUMBER row.SUM (drop 1 (after_phrase row.BUFFER text.now)))) (workspace work.old)) }
     ensures same_references { SameReferences work.old work.new }
 {
     let mut c = Cursor::over(text);
@@ -70,7 +70,7 @@ pub fn pack_numbers(
     work: &mut Workspace<'_>,
     unit: &[u8],
 ) -> Result<Option<Code>, NoMemory>
-    requires part { is_part row.PACK unit.now ≡ true }
+    requires phrase { is_phrase row.PACK unit.now ≡ true }
     ensures worked { IfOk result (λ code. record { work = workspace work.new; code = code } ≡ spec.packs (tree_at row.PACK unit.now) (workspace work.old)) }
     ensures same_references { SameReferences work.old work.new }
 {
@@ -84,7 +84,7 @@ pub fn pack_numbers(
 }
 
 /// The n numbers that a buffer holds, or the first code.
-fn numbers_of(
+fn numbers_held(
     alloc: Global,
     vars: &Vars,
     of: &Buffer,
@@ -108,10 +108,10 @@ fn unpack_at(
     image: &[u8],
     text: &[u8],
 ) -> Result<Option<Code>, NoMemory>
-    requires buffer { is_part row.BUFFER text.now ≡ true }
-    requires receiver { is_part row.NUMERIC_RECEIVER (drop 1 (after_part row.BUFFER text.now)) ≡ true }
-    requires list { is_list commas row.COMMA_NUMERIC_RECEIVER (after_part row.NUMERIC_RECEIVER (drop 1 (after_part row.BUFFER text.now))) ≡ true }
-    ensures worked { IfOk result (λ code. record { work = workspace work.new; code = code } ≡ all_taken takes_number (items_at row.COMMA_NUMERIC_RECEIVER row.NUMERIC_RECEIVER (drop 1 (after_part row.BUFFER text.now))) (read_from (numbers_by_rows (image_row image.now) (length (items_at row.COMMA_NUMERIC_RECEIVER row.NUMERIC_RECEIVER (drop 1 (after_part row.BUFFER text.now))))) (buffer_seen (context_of (workspace work.old)) (tree_at row.BUFFER text.now)) (seen_by (workspace work.old))) (workspace work.old)) }
+    requires buffer { is_phrase row.BUFFER text.now ≡ true }
+    requires receiver { is_phrase row.NUMERIC_RECEIVER (drop 1 (after_phrase row.BUFFER text.now)) ≡ true }
+    requires list { is_list commas row.COMMA_NUMERIC_RECEIVER (after_phrase row.NUMERIC_RECEIVER (drop 1 (after_phrase row.BUFFER text.now))) ≡ true }
+    ensures worked { IfOk result (λ code. record { work = workspace work.new; code = code } ≡ all_taken takes_number (items_at row.COMMA_NUMERIC_RECEIVER row.NUMERIC_RECEIVER (drop 1 (after_phrase row.BUFFER text.now))) (read_from (numbers_by_rows (image_row image.now) (length (items_at row.COMMA_NUMERIC_RECEIVER row.NUMERIC_RECEIVER (drop 1 (after_phrase row.BUFFER text.now))))) (buffer_seen (context_of (workspace work.old)) (tree_at row.BUFFER text.now)) (seen_by (workspace work.old))) (workspace work.old)) }
     ensures same_references { SameReferences work.old work.new }
 {
     let mut c = Cursor::over(text);
@@ -124,7 +124,7 @@ fn unpack_at(
         Ok(vars) => vars,
         Err(code) => return Ok(Some(code)),
     };
-    match numbers_of(alloc, vars, &of, image, count_at(receivers)) {
+    match numbers_held(alloc, vars, &of, image, count_at(receivers)) {
         Ok(xs) => give_numbers(work, receivers, &xs),
         Err(fault) => code_of_fault(fault),
     }
@@ -137,7 +137,7 @@ pub fn unpack_numbers(
     work: &mut Workspace<'_>,
     unit: &[u8],
 ) -> Result<Option<Code>, NoMemory>
-    requires part { is_part row.UNPACK unit.now ≡ true }
+    requires phrase { is_phrase row.UNPACK unit.now ≡ true }
     ensures worked { IfOk result (λ code. record { work = workspace work.new; code = code } ≡ spec.unpacks (tree_at row.UNPACK unit.now) (workspace work.old)) }
     ensures same_references { SameReferences work.old work.new }
 {

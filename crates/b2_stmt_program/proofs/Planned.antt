@@ -26,7 +26,7 @@ use Rattle.b2_access.specs.declared.planned.Planned.{Planned}
 use Rattle.b2_access.specs.declared.planned.Planned.TheVariants as planned
 use Rattle.b2_access.specs.declared.private.Private.{Private}
 use Rattle.b2_access.proofs.Choice.{either}
-use Rattle.b2_access.proofs.Courses.{each_course}
+use Rattle.b2_access.proofs.Dispatch.{each_dispatch}
 use Rattle.b2_drive.specs.Asking.{asks_or_fails}
 use Rattle.b2_drive.specs.Drives.{DrivesSeen, drives_of}
 use Rattle.b2_drive.specs.FileNames.{name_given}
@@ -82,5 +82,5 @@ module _ (devices : List Device) (me : Private) (s : SeenLent) (F : Planned → 
   pub each_planned : F (planned_of (works devices me s))
   unfolding Each
   each_planned =
-      each_course is_refused stops (does devices me s) me s Each ready (failed S26_PROGRAM_ONLY)
+      each_dispatch is_refused stops (does devices me s) me s Each ready (failed S26_PROGRAM_ONLY)
       (λ p is u. each_asked F devices me failed (homes_entered me.stack) asks (context_of (work_in (setting_of me) s.home me.vars s.globals)) me.declared (is_some p.line) u.row u.tree)

@@ -16,8 +16,8 @@ use Rattle.b2_atom.specs.declared.forms.Leaf.TheVariants as leaf
 use Rattle.b2_atom.specs.declared.forms.Item.{Item}
 use Rattle.b2_atom.specs.declared.forms.Item.TheVariants.{Word, Sign, Ignored, Typed, Part, Maybe, Nest}
 use Rattle.b2_rows.specs.Leaves.{is_leaf}
-use Rattle.b2_rows.specs.Rows.{is_part, tree_at, after_part, When}
-use Rattle.b2_rows.specs.Optional.{maybe_part, maybe_tree, after_maybe}
+use Rattle.b2_rows.specs.Rows.{is_phrase, tree_at, after_phrase, When}
+use Rattle.b2_rows.specs.Optional.{maybe_phrase, maybe_tree, after_maybe}
 use Rattle.b2_rows.specs.Values.{line_of}
 use Rattle.b2_rows.specs.LineNumbers.{lines_from, second_line}
 use Rattle.b2_rows.proofs.Optional.{maybe_stands, begun_part, begun_tree, begun_rest, left_out_tree, left_out_rest}
@@ -49,15 +49,15 @@ unfolding row_items
 file_row = refl
 
 abbrev HasOld : Text → Type 0
-HasOld t = maybe_part (start.Code byte.opening) row.SCRATCHED_AND_COMMA t ≡ true
+HasOld t = maybe_phrase (start.Code byte.opening) row.SCRATCHED_AND_COMMA t ≡ true
 
-old_part : (t : Text) → HasOld t → (first t == byte.opening) ≡ true → is_part row.SCRATCHED_AND_COMMA t ≡ true
+old_part : (t : Text) → HasOld t → (first t == byte.opening) ≡ true → is_phrase row.SCRATCHED_AND_COMMA t ≡ true
 old_part t ok is = begun_part (start.Code byte.opening) row.SCRATCHED_AND_COMMA t ok (begins byte.opening t true is)
 
-file_part : (t : Text) → HasOld t → (first t == byte.opening) ≡ true → is_part row.SCRATCHED_FILE t ≡ true
+file_part : (t : Text) → HasOld t → (first t == byte.opening) ≡ true → is_phrase row.SCRATCHED_FILE t ≡ true
 file_part t ok is = (stands_of row.SCRATCHED_AND_COMMA old_items t old_row (old_part t ok is)).0.0
 
-pub old_here : (t : Text) → HasOld t → (first t == byte.opening) ≡ true → is_part row.ALPHA (drop 1 t) ≡ true
+pub old_here : (t : Text) → HasOld t → (first t == byte.opening) ≡ true → is_phrase row.ALPHA (drop 1 t) ≡ true
 old_here t ok is = (stands_of row.SCRATCHED_FILE file_items t file_row (file_part t ok is)).0.1.0
 
 abbrev branch : Trees → Trees
@@ -76,7 +76,7 @@ old_is e t ok is =
 pub no_old : (e : Context) (t : Text) → (first t == byte.opening) ≡ false → old_named e (maybe_tree (start.Code byte.opening) row.SCRATCHED_AND_COMMA t) ≡ Ok None
 no_old e t is = ap (old_named e) (left_out_tree (start.Code byte.opening) row.SCRATCHED_AND_COMMA t (begins byte.opening t false is))
 
-pub after_old : (t : Text) → HasOld t → (first t == byte.opening) ≡ true → after_maybe (start.Code byte.opening) row.SCRATCHED_AND_COMMA t ≡ drop 1 (drop 1 (after_part row.ALPHA (drop 1 t)))
+pub after_old : (t : Text) → HasOld t → (first t == byte.opening) ≡ true → after_maybe (start.Code byte.opening) row.SCRATCHED_AND_COMMA t ≡ drop 1 (drop 1 (after_phrase row.ALPHA (drop 1 t)))
 after_old t ok is =
     begun_rest (start.Code byte.opening) row.SCRATCHED_AND_COMMA t (begins byte.opening t true is)
     ∙ (stands_of row.SCRATCHED_AND_COMMA old_items t old_row (old_part t ok is)).2
@@ -101,9 +101,9 @@ unfolding row_items
 second_row = refl
 
 abbrev HasLines : Text → Type 0
-HasLines t = maybe_part (start.Code byte.comma) row.COMMA_LINES t ≡ true
+HasLines t = maybe_phrase (start.Code byte.comma) row.COMMA_LINES t ≡ true
 
-lines_part : (t : Text) → HasLines t → (first t == byte.comma) ≡ true → is_part row.COMMA_LINES t ≡ true
+lines_part : (t : Text) → HasLines t → (first t == byte.comma) ≡ true → is_phrase row.COMMA_LINES t ≡ true
 lines_part t ok is = begun_part (start.Code byte.comma) row.COMMA_LINES t ok (begins byte.comma t true is)
 
 pub first_here : (t : Text) → HasLines t → (first t == byte.comma) ≡ true → is_leaf leaf.LineNumber (drop 1 t) ≡ true
@@ -112,7 +112,7 @@ first_here t ok is = (stands_of row.COMMA_LINES lines_items t lines_row (lines_p
 abbrev pub second_text : Text → Text
 second_text t = drop 3 (drop 1 t)
 
-second_part : (t : Text) → HasLines t → (first t == byte.comma) ≡ true → (first (second_text t) == byte.comma) ≡ true → is_part row.COMMA_LINE (second_text t) ≡ true
+second_part : (t : Text) → HasLines t → (first t == byte.comma) ≡ true → (first (second_text t) == byte.comma) ≡ true → is_phrase row.COMMA_LINE (second_text t) ≡ true
 second_part t ok is comma =
     begun_part (start.Code byte.comma) row.COMMA_LINE (second_text t) (maybe_stands _ _ _ (stands_of row.COMMA_LINES lines_items t lines_row (lines_part t ok is)).0.1.1) (begins byte.comma (second_text t) true comma)
 
@@ -159,7 +159,7 @@ unfolding row_items
 save_row = refl
 
 abbrev pub old_text : Text → Text
-old_text t = after_part row.DRIVE_COMMA (drop 1 t)
+old_text t = after_phrase row.DRIVE_COMMA (drop 1 t)
 
 abbrev pub name_text : Text → Text
 name_text t = after_maybe (start.Code byte.opening) row.SCRATCHED_AND_COMMA (old_text t)
@@ -175,28 +175,28 @@ after_either false P Q x y h = h
 
 -- the name, and lines or none
 abbrev lines_text : Text → Text
-lines_text u = after_part row.ALPHA u
+lines_text u = after_phrase row.ALPHA u
 
 abbrev Named : Text → Type 0
-Named u = (is_part row.ALPHA u ≡ true) × When (starts Atoms (start.Code byte.comma) (lines_text u)) ((is_part row.COMMA_LINES (lines_text u) ≡ true) × Unit {0}) (Unit {0})
+Named u = (is_phrase row.ALPHA u ≡ true) × When (starts Atoms (start.Code byte.comma) (lines_text u)) ((is_phrase row.COMMA_LINES (lines_text u) ≡ true) × Unit {0}) (Unit {0})
 
-pub save_drive : (t : Text) → is_part row.SAVE t ≡ true → is_part row.DRIVE_COMMA (drop 1 t) ≡ true
+pub save_drive : (t : Text) → is_phrase row.SAVE t ≡ true → is_phrase row.DRIVE_COMMA (drop 1 t) ≡ true
 save_drive t ok = (stands_of row.SAVE save_items t save_row ok).0.1.0
 
-pub save_old : (t : Text) → is_part row.SAVE t ≡ true → HasOld (old_text t)
-unfolding maybe_part
+pub save_old : (t : Text) → is_phrase row.SAVE t ≡ true → HasOld (old_text t)
+unfolding maybe_phrase
 save_old t ok = maybe_here (starts Atoms (start.Code byte.opening) (old_text t)) _ _ _ (stands_of row.SAVE save_items t save_row ok).0.1.1
 
-named : (t : Text) → is_part row.SAVE t ≡ true → Named (name_text t)
+named : (t : Text) → is_phrase row.SAVE t ≡ true → Named (name_text t)
 unfolding after_maybe
 named t ok =
-    after_either (starts Atoms (start.Code byte.opening) (old_text t)) (is_part row.SCRATCHED_AND_COMMA (old_text t) ≡ true) Named (after_part row.SCRATCHED_AND_COMMA (old_text t)) (old_text t)
+    after_either (starts Atoms (start.Code byte.opening) (old_text t)) (is_phrase row.SCRATCHED_AND_COMMA (old_text t) ≡ true) Named (after_phrase row.SCRATCHED_AND_COMMA (old_text t)) (old_text t)
     (stands_of row.SAVE save_items t save_row ok).0.1.1
 
-pub save_name : (t : Text) → is_part row.SAVE t ≡ true → is_part row.ALPHA (name_text t) ≡ true
+pub save_name : (t : Text) → is_phrase row.SAVE t ≡ true → is_phrase row.ALPHA (name_text t) ≡ true
 save_name t ok = (named t ok).0
 
-pub save_lines : (t : Text) → is_part row.SAVE t ≡ true → HasLines (after_part row.ALPHA (name_text t))
+pub save_lines : (t : Text) → is_phrase row.SAVE t ≡ true → HasLines (after_phrase row.ALPHA (name_text t))
 save_lines t ok = maybe_stands _ _ _ (named t ok).1
 
 -- what it asks for
@@ -212,9 +212,9 @@ asked_by : (d : DrivesSeen) (e : Context) (drive a : Trees) (x y : Text) (b : Bo
 asked_by d e drive a x y true = refl
 asked_by d e drive a x y false = refl
 
-pub save_is : (d : DrivesSeen) (e : Context) (t : Text) → is_part row.SAVE t ≡ true
+pub save_is : (d : DrivesSeen) (e : Context) (t : Text) → is_phrase row.SAVE t ≡ true
     → asks_to_save d e (tree_at row.SAVE t) ≡ asked d e (tree_at row.DRIVE_COMMA (drop 1 t)) (maybe_tree (start.Code byte.opening) row.SCRATCHED_AND_COMMA (old_text t)) (name_text t)
 unfolding maybe_tree after_maybe
 save_is d e t ok =
     ap (asks_to_save d e) (stands_of row.SAVE save_items t save_row ok).1
-    ∙ asked_by d e (tree_at row.DRIVE_COMMA (drop 1 t)) (tree_at row.SCRATCHED_AND_COMMA (old_text t)) (after_part row.SCRATCHED_AND_COMMA (old_text t)) (old_text t) (starts Atoms (start.Code byte.opening) (old_text t))
+    ∙ asked_by d e (tree_at row.DRIVE_COMMA (drop 1 t)) (tree_at row.SCRATCHED_AND_COMMA (old_text t)) (after_phrase row.SCRATCHED_AND_COMMA (old_text t)) (old_text t) (starts Atoms (start.Code byte.opening) (old_text t))

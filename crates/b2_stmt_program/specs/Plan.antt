@@ -8,7 +8,7 @@ use Rattle.b2_expr.specs.Value.{context_of}
 use Rattle.b2_expr.specs.Workspace.{work_in}
 use Rattle.b2_text.specs.Program.{Lines}
 use Rattle.b2_access.specs.Borrowers.{homes_entered}
-use Rattle.b2_access.specs.Courses.{Here, course}
+use Rattle.b2_access.specs.Dispatch.{Here, dispatch}
 use Rattle.b2_access.specs.Lending.{SeenLent}
 use Rattle.b2_access.specs.Partition.{setting_of}
 use Rattle.b2_access.specs.Placed.{Statement}
@@ -42,7 +42,7 @@ does_by listed me s u h =
 
 -- what the statement at a partition's place plans, by the platters that are listed for it
 abbrev pub works_by : (List ℕ → Bool) → Private → SeenLent → Working
-works_by listed me s = course is_refused stops (does_by listed me s) me.place me s
+works_by listed me s = dispatch is_refused stops (does_by listed me s) me.place me s
 
 abbrev pub plan_by : (List ℕ → Bool) → Private → SeenLent → Planning
 plan_by listed me s = plans_by (works_by listed) me s

@@ -4,7 +4,7 @@ ghost use Rattle.b2_access.specs.Answering.{can_answer};
 ghost use Rattle.b2_access.specs.Steering.{steered};
 ghost use Rattle.b2_access.specs.Views.{program_came};
 ghost use Rattle.b2_atom.specs.declared.rows.TheConstants as row;
-ghost use Rattle.b2_rows.specs.Rows.{after_part, is_part, tree_at};
+ghost use Rattle.b2_rows.specs.Rows.{after_phrase, is_phrase, tree_at};
 ghost use Rattle.b2_expr.specs.Scope.{surroundings};
 ghost use Rattle.b2_expr.specs.Value.{in_statement};
 ghost use Rattle.b2_drive.specs.Drives.{drives_seen};
@@ -38,9 +38,9 @@ fn ask_for(
     replace: bool,
     text: &[u8],
 ) -> Result<Access, Code>
-    requires drive { is_part row.DRIVE_COMMA text.now ≡ true }
-    requires name { is_part row.ALPHA (after_part row.DRIVE_COMMA text.now) ≡ true }
-    ensures { result ≡ spec.asks_for (drives_seen d.now) (in_statement (surroundings e.now)) declared homes replace (tree_at row.DRIVE_COMMA text.now) (tree_at row.ALPHA (after_part row.DRIVE_COMMA text.now)) }
+    requires drive { is_phrase row.DRIVE_COMMA text.now ≡ true }
+    requires name { is_phrase row.ALPHA (after_phrase row.DRIVE_COMMA text.now) ≡ true }
+    ensures { result ≡ spec.asks_for (drives_seen d.now) (in_statement (surroundings e.now)) declared homes replace (tree_at row.DRIVE_COMMA text.now) (tree_at row.ALPHA (after_phrase row.DRIVE_COMMA text.now)) }
 {
     let addr = match drive(d, text) {
         Ok(addr) => addr,
@@ -68,7 +68,7 @@ pub fn ask_to_load(
     program: bool,
     unit: &[u8],
 ) -> Result<Access, Code>
-    requires part { is_part row.LOAD unit.now ≡ true }
+    requires phrase { is_phrase row.LOAD unit.now ≡ true }
     ensures { result ≡ spec.asks_to_load (drives_seen d.now) (in_statement (surroundings e.now)) declared homes program (tree_at row.LOAD unit.now) }
 {
     let text = rest_after(unit, 1);

@@ -31,7 +31,7 @@ pub fn is_built(row: u16) -> bool
 }
 
 /// What a statement asks for, in a line of the program or in an immediate line, or the first code from the left.
-fn ask(
+fn ask_on_programs(
     d: &Drives<'_>,
     e: &Env<'_>,
     declared: Option<Name8>,
@@ -81,7 +81,7 @@ pub fn plan(
         home: lent.home,
     };
     let e = surroundings_of(&work);
-    Ok(asks_or_fails(ask(&d, &e, declared, homes, place.line.is_some(), &unit)))
+    Ok(asks_or_fails(ask_on_programs(&d, &e, declared, homes, place.line.is_some(), &unit)))
 }
 
 /// How a statement finishes, by the access that it asked for and its answer, which is one that the access can have.

@@ -3,8 +3,8 @@ ghost use Rattle.std.specs.Prelude.{◌≡◌, true};
 ghost use Rattle.b2_base.specs.Byte as byte;
 ghost use Rattle.b2_atom.specs.declared.forms.Start.TheVariants as start;
 ghost use Rattle.b2_atom.specs.declared.rows.TheConstants as row;
-ghost use Rattle.b2_rows.specs.Optional.{after_maybe, maybe_part, maybe_tree};
-ghost use Rattle.b2_rows.specs.Rows.{is_part, tree_at};
+ghost use Rattle.b2_rows.specs.Optional.{after_maybe, maybe_phrase, maybe_tree};
+ghost use Rattle.b2_rows.specs.Rows.{is_phrase, tree_at};
 ghost use Rattle.b2_expr.specs.Scope.{surroundings};
 ghost use Rattle.b2_expr.specs.Value.{in_statement};
 ghost use Rattle.b2_drive.specs.Drives.{drives_seen};
@@ -20,7 +20,7 @@ use b2_rows::{is_at, line_at};
 /// The name of a scratched file, where one is written in parentheses at a text.
 #[tactic(auto, using(crate::proofs::SaveRows::old_here, crate::proofs::SaveRows::old_is, crate::proofs::SaveRows::no_old))]
 fn old_at(e: &Env<'_>, text: &[u8]) -> Result<Option<Name8>, Code>
-    requires part { maybe_part (start.Code byte.opening) row.SCRATCHED_AND_COMMA text.now ≡ true }
+    requires phrase { maybe_phrase (start.Code byte.opening) row.SCRATCHED_AND_COMMA text.now ≡ true }
     ensures { result ≡ spec.old_named (in_statement (surroundings e.now)) (maybe_tree (start.Code byte.opening) row.SCRATCHED_AND_COMMA text.now) }
 {
     if !is_at(b'(', text) {
@@ -35,7 +35,7 @@ fn old_at(e: &Env<'_>, text: &[u8]) -> Result<Option<Name8>, Code>
 /// What stands after the name of a scratched file and its comma, where one is written.
 #[tactic(auto, using(crate::proofs::SaveRows::old_here, crate::proofs::SaveRows::after_old, crate::proofs::SaveRows::after_none))]
 fn past_old(text: &[u8]) -> &[u8]
-    requires part { maybe_part (start.Code byte.opening) row.SCRATCHED_AND_COMMA text.now ≡ true }
+    requires phrase { maybe_phrase (start.Code byte.opening) row.SCRATCHED_AND_COMMA text.now ≡ true }
     ensures { result.now ≡ after_maybe (start.Code byte.opening) row.SCRATCHED_AND_COMMA text.now }
 {
     if !is_at(b'(', text) {
@@ -47,7 +47,7 @@ fn past_old(text: &[u8]) -> &[u8]
 /// The first and the last of the lines that are named after a comma, or of all lines.
 #[tactic(auto, using(crate::proofs::SaveRows::first_here, crate::proofs::SaveRows::second_here, crate::proofs::SaveRows::two_lines, crate::proofs::SaveRows::one_line, crate::proofs::SaveRows::all_lines))]
 fn lines_at(text: &[u8]) -> (u16, u16)
-    requires part { maybe_part (start.Code byte.comma) row.COMMA_LINES text.now ≡ true }
+    requires phrase { maybe_phrase (start.Code byte.comma) row.COMMA_LINES text.now ≡ true }
     ensures { result ≡ spec.lines_saved (maybe_tree (start.Code byte.comma) row.COMMA_LINES text.now) }
 {
     if !is_at(b',', text) {
@@ -66,7 +66,7 @@ fn lines_at(text: &[u8]) -> (u16, u16)
 /// What SAVE asks for: its drive first, then the name of a scratched file, where one is written, and then the name.
 #[tactic(auto, using(crate::proofs::SaveRows::save_drive, crate::proofs::SaveRows::save_old, crate::proofs::SaveRows::save_name, crate::proofs::SaveRows::save_lines, crate::proofs::SaveRows::save_is))]
 pub fn ask_to_save(d: &Drives<'_>, e: &Env<'_>, unit: &[u8]) -> Result<Access, Code>
-    requires part { is_part row.SAVE unit.now ≡ true }
+    requires phrase { is_phrase row.SAVE unit.now ≡ true }
     ensures { result ≡ spec.asks_to_save (drives_seen d.now) (in_statement (surroundings e.now)) (tree_at row.SAVE unit.now) }
 {
     let text = rest_after(unit, 1);

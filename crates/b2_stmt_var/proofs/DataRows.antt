@@ -19,7 +19,7 @@ use Rattle.b2_atom.specs.declared.forms.Item.{Item}
 use Rattle.b2_atom.specs.declared.forms.Item.TheVariants.{Word, Typed, Part, Many}
 use Rattle.b2_rows.specs.Choices.{ReadAs, first_branch, second_branch}
 use Rattle.b2_rows.specs.Leaves.{is_leaf}
-use Rattle.b2_rows.specs.Rows.{is_part, tree_at, after_part, is_list}
+use Rattle.b2_rows.specs.Rows.{is_phrase, tree_at, after_phrase, is_list}
 use Rattle.b2_rows.proofs.Choices.{either_first, either_second}
 use Rattle.b2_expr.specs.Answers.{◌>>=◌}
 use Rattle.b2_expr.specs.Value.{literal_value}
@@ -33,11 +33,11 @@ loop_begins : (t : Text) (b : Bool) → (first t == byte.quote) ≡ b → starts
 unfolding starts
 loop_begins t b is = is
 
-quoted : (t : Text) → is_part row.DATUM t ≡ true → (first t == byte.quote) ≡ true → ReadAs row.DATUM row.LITERAL first_branch t
+quoted : (t : Text) → is_phrase row.DATUM t ≡ true → (first t == byte.quote) ≡ true → ReadAs row.DATUM row.LITERAL first_branch t
 unfolding row_items
 quoted t ok is = either_first row.DATUM row.LITERAL row.NUMBER_DATUM (start.Code byte.quote) t refl ok (loop_begins t true is)
 
-numbered : (t : Text) → is_part row.DATUM t ≡ true → (first t == byte.quote) ≡ false → ReadAs row.DATUM row.NUMBER_DATUM second_branch t
+numbered : (t : Text) → is_phrase row.DATUM t ≡ true → (first t == byte.quote) ≡ false → ReadAs row.DATUM row.NUMBER_DATUM second_branch t
 unfolding row_items
 numbered t ok is = either_second row.DATUM row.LITERAL row.NUMBER_DATUM (start.Code byte.quote) t refl ok (loop_begins t false is)
 
@@ -49,7 +49,7 @@ literal_row : row_items row.LITERAL ≡ literal_items
 unfolding row_items
 literal_row = refl
 
-pub literal_here : (t : Text) → is_part row.LITERAL t ≡ true → is_leaf leaf.Literal t ≡ true
+pub literal_here : (t : Text) → is_phrase row.LITERAL t ≡ true → is_leaf leaf.Literal t ≡ true
 literal_here t ok = (stands_of row.LITERAL literal_items t literal_row ok).0.0
 
 taken : (n : ℕ) (t : Text) → length (take n t) ≤ length t
@@ -65,18 +65,18 @@ after_first (suc m) (b ∷ t) short = let e = taken m t in omega (arith, e, shor
 within : (n m : ℕ) (t : Text) → length t ≤ 256 → length (take n (drop 1 (take m t))) ≤ 255
 within n m t short = let e = taken n (drop 1 (take m t)) in let f = after_first m t short in omega (arith, e, f)
 
-pub literal_short : (t : Text) → is_part row.LITERAL t ≡ true → length (literal_bytes_at t) ≤ 255
+pub literal_short : (t : Text) → is_phrase row.LITERAL t ≡ true → length (literal_bytes_at t) ≤ 255
 literal_short t ok = within _ _ t (part_short row.LITERAL t ok)
 
-pub quoted_here : (t : Text) → is_part row.DATUM t ≡ true → (first t == byte.quote) ≡ true → is_part row.LITERAL t ≡ true
+pub quoted_here : (t : Text) → is_phrase row.DATUM t ≡ true → (first t == byte.quote) ≡ true → is_phrase row.LITERAL t ≡ true
 quoted_here t ok is = ReadAs.part (quoted t ok is)
 
-pub quoted_is : (t : Text) → is_part row.DATUM t ≡ true → (first t == byte.quote) ≡ true → datum_value (tree_at row.DATUM t) ≡ Ok (value.Alpha (literal_bytes_at t))
+pub quoted_is : (t : Text) → is_phrase row.DATUM t ≡ true → (first t == byte.quote) ≡ true → datum_value (tree_at row.DATUM t) ≡ Ok (value.Alpha (literal_bytes_at t))
 quoted_is t ok is =
     let q = quoted t ok is in
     ap datum_value (ReadAs.tree q) ∙ ap (λ (a : Trees). datum_value (In 1 a Done)) (stands_of row.LITERAL literal_items t literal_row (ReadAs.part q)).1
 
-pub quoted_rest : (t : Text) → is_part row.DATUM t ≡ true → (first t == byte.quote) ≡ true → after_part row.DATUM t ≡ drop (leaf_width Atoms leaf.Literal t) t
+pub quoted_rest : (t : Text) → is_phrase row.DATUM t ≡ true → (first t == byte.quote) ≡ true → after_phrase row.DATUM t ≡ drop (leaf_width Atoms leaf.Literal t) t
 quoted_rest t ok is = let q = quoted t ok is in ReadAs.rest q ∙ (stands_of row.LITERAL literal_items t literal_row (ReadAs.part q)).2
 
 -- a number
@@ -87,13 +87,13 @@ number_row : row_items row.NUMBER_DATUM ≡ number_items
 unfolding row_items
 number_row = refl
 
-pub number_is : (t : Text) → is_part row.DATUM t ≡ true → (first t == byte.quote) ≡ false
+pub number_is : (t : Text) → is_phrase row.DATUM t ≡ true → (first t == byte.quote) ≡ false
     → datum_value (tree_at row.DATUM t) ≡ (literal_value (take (leaf_width Atoms leaf.SignedNumber t) t) >>= (λ x. Ok (value.Number x)))
 number_is t ok is =
     let n = numbered t ok is in
     ap datum_value (ReadAs.tree n) ∙ ap (λ (a : Trees). datum_value (In 0 a Done)) (stands_of row.NUMBER_DATUM number_items t number_row (ReadAs.part n)).1
 
-pub number_rest : (t : Text) → is_part row.DATUM t ≡ true → (first t == byte.quote) ≡ false → after_part row.DATUM t ≡ drop (leaf_width Atoms leaf.SignedNumber t) t
+pub number_rest : (t : Text) → is_phrase row.DATUM t ≡ true → (first t == byte.quote) ≡ false → after_phrase row.DATUM t ≡ drop (leaf_width Atoms leaf.SignedNumber t) t
 number_rest t ok is = let n = numbered t ok is in ReadAs.rest n ∙ (stands_of row.NUMBER_DATUM number_items t number_row (ReadAs.part n)).2
 
 -- further literals
@@ -105,9 +105,9 @@ abbrev Others : Text → Type 0
 Others t = is_list commas row.COMMA_DATUM t ≡ true
 
 abbrev past : Text → Text
-past t = after_part row.DATUM t
+past t = after_phrase row.DATUM t
 
-pub other_part : (t : Text) → Others t → (first t == byte.comma) ≡ true → is_part row.DATUM (drop 1 t) ≡ true
+pub other_part : (t : Text) → Others t → (first t == byte.comma) ≡ true → is_phrase row.DATUM (drop 1 t) ≡ true
 other_part t ok is = Other.part (other row.COMMA_DATUM row.DATUM S13_SEPARATOR t comma_row ok is)
 
 pub other_list : (t : Text) → Others t → (first t == byte.comma) ≡ true → Others (past (drop 1 t))
@@ -143,11 +143,11 @@ data_row : row_items row.DATA ≡ data_items
 unfolding row_items
 data_row = refl
 
-pub data_first : (t : Text) → is_part row.DATA t ≡ true → is_part row.DATUM (drop 1 t) ≡ true
+pub data_first : (t : Text) → is_phrase row.DATA t ≡ true → is_phrase row.DATUM (drop 1 t) ≡ true
 data_first t ok = (stands_of row.DATA data_items t data_row ok).0.1.0
 
-pub data_list : (t : Text) → is_part row.DATA t ≡ true → Others (past (drop 1 t))
+pub data_list : (t : Text) → is_phrase row.DATA t ≡ true → Others (past (drop 1 t))
 data_list t ok = (stands_of row.DATA data_items t data_row ok).0.1.1.0
 
-pub data_is : (t : Text) → is_part row.DATA t ≡ true → literals_listed (tree_at row.DATA t) ≡ data_at (drop 1 t)
+pub data_is : (t : Text) → is_phrase row.DATA t ≡ true → literals_listed (tree_at row.DATA t) ≡ data_at (drop 1 t)
 data_is t ok = ap literals_listed (stands_of row.DATA data_items t data_row ok).1

@@ -16,7 +16,7 @@ use Rattle.b2_atom.specs.declared.forms.Start.TheVariants as start
 use Rattle.b2_atom.specs.declared.forms.Leaf.TheVariants as leaf
 use Rattle.b2_atom.specs.declared.forms.Item.{Item}
 use Rattle.b2_atom.specs.declared.forms.Item.TheVariants.{Word, Sign, Among, ProgramWord, Ignored, Comma, LeftOut, End, Typed, Part, Maybe, Either, Many, Nest, Statement}
-use Rattle.b2_rows.specs.Rows.{reading_row, tree_of, fits_unit, is_part, tree_at, after_part}
+use Rattle.b2_rows.specs.Rows.{reading_row, tree_of, fits_unit, is_phrase, tree_at, after_phrase}
 use Rattle.b2_rows.proofs.Levels.{no_statement, in_parentheses, at_level, up_level, Up}
 use Rattle.b2_rows.proofs.ListEnds.{also_done}
 use Rattle.b2_expr.specs.Value.{value}
@@ -265,9 +265,9 @@ read_by f b (Ok p) u h is = let e = h p refl in (ap (λ (v : Outcome). b && is_o
 read_by f true (Err e) u h is = cc
 read_by f false (Err e) u h is = cc
 
-pub length_read : (t : Text) → (first t == byte.opening) ≡ false → is_part row.LENGTH t ≡ true
-    → (is_part row.SUM t ≡ true) × (tree_at row.SUM t ≡ as_sum (tree_at row.LENGTH t)) × (after_part row.SUM t ≡ after_part row.LENGTH t)
-unfolding is_part tree_at after_part reading_row
+pub length_read : (t : Text) → (first t == byte.opening) ≡ false → is_phrase row.LENGTH t ≡ true
+    → (is_phrase row.SUM t ≡ true) × (tree_at row.SUM t ≡ as_sum (tree_at row.LENGTH t)) × (after_phrase row.SUM t ≡ after_phrase row.LENGTH t)
+unfolding is_phrase tree_at after_phrase reading_row
 length_read t alone ok = read_by as_sum (fits_unit t) (reading_row row.LENGTH t) (reading_row row.SUM t) (sum_as t alone) ok
 
 pub lengths_are_sums : LengthsAreSums

@@ -5,7 +5,7 @@
 -- of DIM and COM. LengthRows: a length is read as a sum is.
 -- ReadingOrder: READ takes the literals of DATA in their order. Reached: the `@` variables that a statement changes; LeftAlone: what
 -- every statement leaves. PlainAssignment: an assignment of a number to one scalar, by its bytes; OneReceiver: an
--- assignment of either kind to one receiver; PassedOn: what one leaves and where it leads, done in passing.
+-- assignment of either kind to one receiver; PassedOn: what one leaves and where it leads, done fast.
 pub mod NumberRows
 pub mod SideRows
 pub mod Assigned
@@ -22,4 +22,4 @@ pub mod Reached
 pub mod LeftAlone
 pub mod PlainAssignment
 pub mod OneReceiver
-pub mod PassedOn
+pub mod FastLed

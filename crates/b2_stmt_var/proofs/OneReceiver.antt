@@ -14,7 +14,7 @@ use Rattle.b2_atom.specs.Grammar.{starts}
 use Rattle.b2_atom.specs.declared.words.Origin.TheVariants.{Atoms}
 use Rattle.b2_atom.specs.declared.rows.TheConstants as row
 use Rattle.b2_atom.specs.declared.forms.Start.TheVariants as start
-use Rattle.b2_rows.specs.Rows.{is_part, tree_at, after_part, list_at}
+use Rattle.b2_rows.specs.Rows.{is_phrase, tree_at, after_phrase, list_at}
 use Rattle.b2_rows.specs.CommaLists.{after_all_listed, all_listed}
 use Rattle.b2_expr.specs.Answers.{Answer, TextAnswer, ◌>>=◌}
 use Rattle.b2_expr.specs.Scope.{Context}
@@ -29,7 +29,7 @@ use Rattle.b2_receiver.specs.RightSide.{Side, further_operations, is_right_side,
 use Rattle.b2_receiver.specs.declared.receiver.AlphaReceiver.{AlphaReceiver}
 use Rattle.b2_receiver.proofs.OperationRows.{first_is, first_operand, no_more_is, right_first_here, right_first_is}
 use Rattle.b2_stmt_var.specs.Assignments.{assign_each, assigns, numbers_by, side_of_assignment, sides_by, sum_of_assignment}
-use Rattle.b2_stmt_var.specs.InPassing.{assigned, one_value}
+use Rattle.b2_stmt_var.specs.Fast.{assigned, one_value}
 use Rattle.b2_stmt_var.proofs.Assigned.{alpha_here, alpha_is, number_here, number_is}
 use Rattle.b2_stmt_var.proofs.NumberRows as number
 use Rattle.b2_stmt_var.proofs.SideRows as side
@@ -53,18 +53,18 @@ refused_alone (Some x) old after new (fault.Code c) h = h.1
 refused_alone o old after new fault.NoMemory h = h
 
 -- A NUMBER
-pub number_part : (t : Text) → is_part row.ASSIGNMENT t ≡ true → starts Atoms start.Alpha t ≡ false → is_part row.NUMERIC_RECEIVER t ≡ true
+pub number_part : (t : Text) → is_phrase row.ASSIGNMENT t ≡ true → starts Atoms start.Alpha t ≡ false → is_phrase row.NUMERIC_RECEIVER t ≡ true
 number_part t ok kind = number.first_part t (number_here t ok kind)
 
-module _ (t rest : Text) (ok : is_part row.ASSIGNMENT t ≡ true) (kind : starts Atoms start.Alpha t ≡ false) (after : rest ≡ after_part row.NUMERIC_RECEIVER t) (equals : (first rest == byte.equals) ≡ true) where
-  numeric : is_part row.NUMERIC_ASSIGNMENT t ≡ true
+module _ (t rest : Text) (ok : is_phrase row.ASSIGNMENT t ≡ true) (kind : starts Atoms start.Alpha t ≡ false) (after : rest ≡ after_phrase row.NUMERIC_RECEIVER t) (equals : (first rest == byte.equals) ≡ true) where
+  numeric : is_phrase row.NUMERIC_ASSIGNMENT t ≡ true
   numeric = number_here t ok kind
 
   no_further : (first (number.past_first t) == byte.comma) ≡ false
   no_further = ap (λ (u : Text). first u == byte.comma) (sym after) ∙ not_comma (first rest) equals
 
-  pub sum_part : is_part row.SUM (drop 1 rest) ≡ true
-  sum_part = ap (λ (u : Text). is_part row.SUM (drop 1 u)) after ∙ number.found_part t (number.past_first t) numeric no_further refl
+  pub sum_part : is_phrase row.SUM (drop 1 rest) ≡ true
+  sum_part = ap (λ (u : Text). is_phrase row.SUM (drop 1 u)) after ∙ number.found_part t (number.past_first t) numeric no_further refl
 
   one_number : all_listed (tree_at row.NUMERIC_ASSIGNMENT t) ≡ tree_at row.NUMERIC_RECEIVER t ∷ []
   one_number = sym (number.whole_items t numeric) ∙ ap (λ (ts : List Trees). tree_at row.NUMERIC_RECEIVER t ∷ ts) (number.no_items (number.end_at (number.past_first t)) (number.past_first t) no_further)
@@ -72,8 +72,8 @@ module _ (t rest : Text) (ok : is_part row.ASSIGNMENT t ≡ true) (kind : starts
   sum_tree : sum_of_assignment (after_all_listed (tree_at row.NUMERIC_ASSIGNMENT t)) ≡ tree_at row.SUM (drop 1 rest)
   sum_tree = number.found_tree t (number.past_first t) no_further refl (number.whole_end t numeric) ∙ ap (λ (u : Text). tree_at row.SUM (drop 1 u)) (sym after)
 
-pub number_assigned : (w : WorkState) (t rest : Text) (to : Element) (n : Answer) (x : Number) (after : VarsState) → is_part row.ASSIGNMENT t ≡ true → starts Atoms start.Alpha t ≡ false
-    → number_receiver (context_of w) (tree_at row.NUMERIC_RECEIVER t) ≡ Ok to → rest ≡ after_part row.NUMERIC_RECEIVER t → to.global ≡ false → (first rest == byte.equals) ≡ true
+pub number_assigned : (w : WorkState) (t rest : Text) (to : Element) (n : Answer) (x : Number) (after : VarsState) → is_phrase row.ASSIGNMENT t ≡ true → starts Atoms start.Alpha t ≡ false
+    → number_receiver (context_of w) (tree_at row.NUMERIC_RECEIVER t) ≡ Ok to → rest ≡ after_phrase row.NUMERIC_RECEIVER t → to.global ≡ false → (first rest == byte.equals) ≡ true
     → n ≡ value (context_of w) level.Sum (tree_at row.SUM (drop 1 rest)) → n ≡ Ok x → (assigned_number to x w.own).code ≡ None → after ≡ (assigned_number to x w.own).vars
     → assigns (tree_at row.ASSIGNMENT t) w ≡ assigned w after
 number_assigned w t rest to n x after ok kind is past own equals worth some none left =
@@ -85,11 +85,11 @@ number_assigned w t rest to n x after ok kind is past own equals worth some none
     (ap (λ (p : Result Element ℕ). number_to p (Ok x) w) is ∙ own_ended w to.global (assigned_number to x) after own none left)
 
 -- BYTES
-pub text_part : (t : Text) → is_part row.ASSIGNMENT t ≡ true → starts Atoms start.Alpha t ≡ true → is_part row.ALPHA_RECEIVER t ≡ true
+pub text_part : (t : Text) → is_phrase row.ASSIGNMENT t ≡ true → starts Atoms start.Alpha t ≡ true → is_phrase row.ALPHA_RECEIVER t ≡ true
 text_part t ok kind = side.first_part t (alpha_here t ok kind)
 
-module _ (t rest : Text) (ok : is_part row.ASSIGNMENT t ≡ true) (kind : starts Atoms start.Alpha t ≡ true) (after : rest ≡ after_part row.ALPHA_RECEIVER t) (equals : (first rest == byte.equals) ≡ true) (operand : starts Atoms start.Alpha (drop 1 rest) ≡ true) where
-  alpha : is_part row.ALPHA_ASSIGNMENT t ≡ true
+module _ (t rest : Text) (ok : is_phrase row.ASSIGNMENT t ≡ true) (kind : starts Atoms start.Alpha t ≡ true) (after : rest ≡ after_phrase row.ALPHA_RECEIVER t) (equals : (first rest == byte.equals) ≡ true) (operand : starts Atoms start.Alpha (drop 1 rest) ≡ true) where
+  alpha : is_phrase row.ALPHA_ASSIGNMENT t ≡ true
   alpha = alpha_here t ok kind
 
   no_other : (first (side.past_first t) == byte.comma) ≡ false
@@ -98,7 +98,7 @@ module _ (t rest : Text) (ok : is_part row.ASSIGNMENT t ≡ true) (kind : starts
   right_here : is_right_side (drop 1 rest) ≡ true
   right_here = ap (λ (u : Text). is_right_side (drop 1 u)) after ∙ side.found_part t (side.past_first t) alpha no_other refl
 
-  pub side_part : is_part row.ALPHA (drop 1 rest) ≡ true
+  pub side_part : is_phrase row.ALPHA (drop 1 rest) ≡ true
   side_part = first_operand (drop 1 rest) (right_first_here (drop 1 rest) right_here operand)
 
   one_text : all_listed (tree_at row.ALPHA_ASSIGNMENT t) ≡ tree_at row.ALPHA_RECEIVER t ∷ []
@@ -107,17 +107,17 @@ module _ (t rest : Text) (ok : is_part row.ASSIGNMENT t ≡ true) (kind : starts
   side_tree : side_of_assignment (after_all_listed (tree_at row.ALPHA_ASSIGNMENT t)) ≡ right_side_tree (drop 1 rest)
   side_tree = side.found_tree t (side.past_first t) no_other refl (side.whole_end t alpha) ∙ ap (λ (u : Text). right_side_tree (drop 1 u)) (sym after)
 
-  side_is : (e : Context) (bytes : List ℕ) → text e (tree_at row.ALPHA (drop 1 rest)) ≡ Ok bytes → starts Atoms operation_start (after_part row.ALPHA (drop 1 rest)) ≡ false
+  side_is : (e : Context) (bytes : List ℕ) → text e (tree_at row.ALPHA (drop 1 rest)) ≡ Ok bytes → starts Atoms operation_start (after_phrase row.ALPHA (drop 1 rest)) ≡ false
       → right_side e (right_side_tree (drop 1 rest)) ≡ Ok (one_value bytes)
   side_is e bytes worth none =
       right_first_is e (drop 1 rest) operand
       ∙ first_is e (drop 1 rest) (right_first_here (drop 1 rest) right_here operand)
-      ∙ ap (λ (a : TextAnswer). a >>= (λ x. side_of (Some x) (further_operations e (Ok []) (list_at operation_start row.OPERATION (after_part row.ALPHA (drop 1 rest)))))) worth
-      ∙ ap (side_of (Some bytes)) (no_more_is e (Ok []) (after_part row.ALPHA (drop 1 rest)) none)
+      ∙ ap (λ (a : TextAnswer). a >>= (λ x. side_of (Some x) (further_operations e (Ok []) (list_at operation_start row.OPERATION (after_phrase row.ALPHA (drop 1 rest)))))) worth
+      ∙ ap (side_of (Some bytes)) (no_more_is e (Ok []) (after_phrase row.ALPHA (drop 1 rest)) none)
 
-pub text_assigned : (w : WorkState) (t rest left : Text) (to : AlphaReceiver) (bytes : List ℕ) (after : VarsState) → is_part row.ASSIGNMENT t ≡ true → starts Atoms start.Alpha t ≡ true
-    → alpha_receiver (context_of w) (tree_at row.ALPHA_RECEIVER t) ≡ Ok to → rest ≡ after_part row.ALPHA_RECEIVER t → to.element.global ≡ false → (first rest == byte.equals) ≡ true
-    → starts Atoms start.Alpha (drop 1 rest) ≡ true → text (context_of w) (tree_at row.ALPHA (drop 1 rest)) ≡ Ok bytes → left ≡ after_part row.ALPHA (drop 1 rest) → starts Atoms operation_start left ≡ false
+pub text_assigned : (w : WorkState) (t rest left : Text) (to : AlphaReceiver) (bytes : List ℕ) (after : VarsState) → is_phrase row.ASSIGNMENT t ≡ true → starts Atoms start.Alpha t ≡ true
+    → alpha_receiver (context_of w) (tree_at row.ALPHA_RECEIVER t) ≡ Ok to → rest ≡ after_phrase row.ALPHA_RECEIVER t → to.element.global ≡ false → (first rest == byte.equals) ≡ true
+    → starts Atoms start.Alpha (drop 1 rest) ≡ true → text (context_of w) (tree_at row.ALPHA (drop 1 rest)) ≡ Ok bytes → left ≡ after_phrase row.ALPHA (drop 1 rest) → starts Atoms operation_start left ≡ false
     → (assigned_side to (one_value bytes) w.own).code ≡ None → after ≡ (assigned_side to (one_value bytes) w.own).vars
     → assigns (tree_at row.ASSIGNMENT t) w ≡ assigned w after
 text_assigned w t rest left to bytes after ok kind is past own equals operand worth gone none ended left_is =

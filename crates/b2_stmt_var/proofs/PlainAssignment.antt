@@ -21,7 +21,7 @@ use Rattle.b2_atom.specs.declared.words.TheConstants as word
 use Rattle.b2_atom.specs.declared.words.Origin.TheVariants.{Atoms}
 use Rattle.b2_atom.specs.declared.rows.TheConstants as row
 use Rattle.b2_atom.specs.declared.forms.Start.TheVariants as start
-use Rattle.b2_rows.specs.Rows.{is_part, tree_at}
+use Rattle.b2_rows.specs.Rows.{is_phrase, tree_at}
 use Rattle.b2_rows.specs.CommaLists.{after_all_listed, all_listed}
 use Rattle.b2_expr.specs.Answers.{Answer, ◌>>=◌, unless}
 use Rattle.b2_expr.specs.Named.{Cell, counted_digit, number_there, plain_width}
@@ -36,7 +36,7 @@ use Rattle.b2_receiver.specs.Receivers.{number_receiver}
 use Rattle.b2_receiver.specs.Receiving.{assign_number_at, number_to}
 use Rattle.b2_receiver.proofs.ReceiverRows.{number_is as number_is_there}
 use Rattle.b2_stmt_var.specs.Assignments.{assign_each, assigns, numbers_by, sum_of_assignment}
-use Rattle.b2_stmt_var.specs.InPassing.{assigned}
+use Rattle.b2_stmt_var.specs.Fast.{assigned}
 use Rattle.b2_stmt_var.proofs.Assigned.{number_here, number_is}
 use Rattle.b2_stmt_var.proofs.NumberRows.{end_at, first_part, found_part, found_tree, no_items, past_first, whole_end, whole_items}
 
@@ -77,11 +77,11 @@ scalar_of t = scalar_named (first t) (counted_digit (get_or t 1 0))
 abbrev element_of : Text → Element
 element_of t = record { global = false; var = scalar_of t; row = 0; column = 0 }
 
-module _ (t : Text) (ok : is_part row.ASSIGNMENT t ≡ true) (h : is_letter (first t) ≡ true) (is : get_or t (plain_width t) 0 ≡ byte.equals) where
+module _ (t : Text) (ok : is_phrase row.ASSIGNMENT t ≡ true) (h : is_letter (first t) ≡ true) (is : get_or t (plain_width t) 0 ≡ byte.equals) where
   after_name : first (drop (plain_width t) t) ≡ byte.equals
   after_name = first_there (plain_width t) t ∙ is
 
-  number : is_part row.NUMERIC_ASSIGNMENT t ≡ true
+  number : is_phrase row.NUMERIC_ASSIGNMENT t ≡ true
   number = number_here t ok (no_alpha t h is)
 
   alone : (first (drop (plain_width t) t) == byte.opening) ≡ false
@@ -96,8 +96,8 @@ module _ (t : Text) (ok : is_part row.ASSIGNMENT t ≡ true) (h : is_letter (fir
   rest_is : drop 1 (past_first t) ≡ drop (plain_width t + 1) t
   rest_is = ap (λ (u : Text). drop 1 u) past ∙ drop-drop 1 (plain_width t) t
 
-  pub sum_part : is_part row.SUM (drop (plain_width t + 1) t) ≡ true
-  sum_part = ap (λ (u : Text). is_part row.SUM u) (sym rest_is) ∙ found_part t (past_first t) number no_comma refl
+  pub sum_part : is_phrase row.SUM (drop (plain_width t + 1) t) ≡ true
+  sum_part = ap (λ (u : Text). is_phrase row.SUM u) (sym rest_is) ∙ found_part t (past_first t) number no_comma refl
 
   receivers : all_listed (tree_at row.NUMERIC_ASSIGNMENT t) ≡ tree_at row.NUMERIC_RECEIVER t ∷ []
   receivers = sym (whole_items t number) ∙ ap (λ (ts : List Trees). tree_at row.NUMERIC_RECEIVER t ∷ ts) (no_items (end_at (past_first t)) (past_first t) no_comma)
@@ -128,13 +128,13 @@ reached v s h = front (no_array v s.table) (no_cell v 0 0 s.table) (full s.area 
 abbrev with_number_in : Var → Number → VarsState → VarsState
 with_number_in v x s = with_change v (with_number (cell_at (shape_at v s.table) 0 0) x) (with_scalar v s)
 
-one_assigned : (w : WorkState) (t : Text) (x : Number) → is_part row.ASSIGNMENT t ≡ true → is_letter (first t) ≡ true → get_or t (plain_width t) 0 ≡ byte.equals → set_code (scalar_of t) 0 0 w.own ≡ None
+one_assigned : (w : WorkState) (t : Text) (x : Number) → is_phrase row.ASSIGNMENT t ≡ true → is_letter (first t) ≡ true → get_or t (plain_width t) 0 ≡ byte.equals → set_code (scalar_of t) 0 0 w.own ≡ None
     → assign_number_at (Ok x) (tree_at row.NUMERIC_RECEIVER t) w ≡ assigned w (with_number_in (scalar_of t) x w.own)
 one_assigned w t x ok h is none =
     ap (λ (to : Result Element ℕ). number_to to (Ok x) w) (receiver t ok h is (context_of w) (reached (scalar_of t) w.own none))
     ∙ ap (λ (code : Option ℕ). on_own (unless_refused code w.own (record { vars = with_number_in (scalar_of t) x w.own; code = None })) w) none
 
-pub scalar_assigned : (w : WorkState) (t : Text) (n : Answer) (x : Number) (vars : VarsState) → is_part row.ASSIGNMENT t ≡ true → is_letter (first t) ≡ true → get_or t (plain_width t) 0 ≡ byte.equals
+pub scalar_assigned : (w : WorkState) (t : Text) (n : Answer) (x : Number) (vars : VarsState) → is_phrase row.ASSIGNMENT t ≡ true → is_letter (first t) ≡ true → get_or t (plain_width t) 0 ≡ byte.equals
     → n ≡ value (context_of w) level.Sum (tree_at row.SUM (drop (plain_width t + 1) t)) → n ≡ Ok x → set_code (scalar_of t) 0 0 w.own ≡ None
     → vars ≡ with_number_in (scalar_of t) x w.own → assigns (tree_at row.ASSIGNMENT t) w ≡ assigned w vars
 scalar_assigned w t n x vars ok h is worth some none left =

@@ -7,7 +7,7 @@ use Rattle.b2_atom.specs.declared.words.TheConstants as word
 use Rattle.b2_atom.specs.declared.rows.TheConstants as row
 use Rattle.b2_atom.specs.declared.forms.Item.{Item}
 use Rattle.b2_atom.specs.declared.forms.Item.TheVariants.{Word, Part, Many}
-use Rattle.b2_rows.specs.Rows.{is_part, tree_at}
+use Rattle.b2_rows.specs.Rows.{is_phrase, tree_at}
 use Rattle.b2_text.specs.Program.{Lines}
 use Rattle.b2_text.specs.declared.spots.Spot.{Spot}
 use Rattle.b2_expr.specs.Workspace.{WorkState}
@@ -24,13 +24,13 @@ read_row : row_items row.READ ≡ read_items
 unfolding row_items
 read_row = refl
 
-pub read_receiver : (t : Text) → is_part row.READ t ≡ true → is_part row.RECEIVER (drop 1 t) ≡ true
+pub read_receiver : (t : Text) → is_phrase row.READ t ≡ true → is_phrase row.RECEIVER (drop 1 t) ≡ true
 read_receiver t ok = (stands_of row.READ read_items t read_row ok).0.1.0
 
-pub read_list : (t : Text) → is_part row.READ t ≡ true → are_others (past_first (drop 1 t)) ≡ true
+pub read_list : (t : Text) → is_phrase row.READ t ≡ true → are_others (past_first (drop 1 t)) ≡ true
 read_list t ok = (stands_of row.READ read_items t read_row ok).0.1.1.0
 
-pub read_is : (own : Lines) (t : Text) (w : WorkState) (next : Option (Spot × ℕ)) → is_part row.READ t ≡ true
+pub read_is : (own : Lines) (t : Text) (w : WorkState) (next : Option (Spot × ℕ)) → is_phrase row.READ t ≡ true
     → reads_data own (tree_at row.READ t) w next ≡ read_each (reads_one own) (receivers_at (drop 1 t)) w next
 read_is own t w next ok = ap (λ (u : Trees). reads_data own u w next) (stands_of row.READ read_items t read_row ok).1
 

@@ -23,7 +23,7 @@ use Rattle.b2_atom.specs.Grammar.{row_items}
 use Rattle.b2_atom.specs.declared.rows.TheConstants as row
 use Rattle.b2_rows.specs.Following.{tree_units}
 use Rattle.b2_rows.specs.Laws.{IsRow, IsRowOnTree}
-use Rattle.b2_rows.specs.Rows.{after_part, is_list, is_part, list_at, tree_at}
+use Rattle.b2_rows.specs.Rows.{after_phrase, is_list, is_phrase, list_at, tree_at}
 use Rattle.b2_rows.specs.Takes.{takes_byte}
 use Rattle.b2_rows.proofs.Lengths.{part_shorter}
 use Rattle.b2_rows.proofs.LineTrees.{LineCut, line_cut}
@@ -52,7 +52,7 @@ further_few n t bound ok = by_test n t (first t == byte.comma) bound ok refl
         omega (arith, e)
     by_test zero t true bound ok is = let e = other_shorter row.DATUM t is in absurd (omega (arith, e, bound))
     by_test (suc n) t true bound ok is =
-        let u : Text = after_part row.DATUM (drop 1 t) in
+        let u : Text = after_phrase row.DATUM (drop 1 t) in
         let shorter = other_shorter row.DATUM t is in
         let more : length (further_listed (also (list_at commas row.COMMA_DATUM t) Done)) ≡ suc (length (further_listed (also (list_at commas row.COMMA_DATUM u) Done))) =
         ap length (items_of_other row.COMMA_DATUM row.DATUM _ Done t comma_row ok is) in
@@ -69,9 +69,9 @@ pub record IsSome (ts : List Trees) : Type 0 where
   pub is : ts ≡ head ∷ tail
   pub few : length ts ≤ 255
 
-data_few : (t : Text) → is_part row.DATA t ≡ true → length (data_at (drop 1 t)) ≤ 255
+data_few : (t : Text) → is_phrase row.DATA t ≡ true → length (data_at (drop 1 t)) ≤ 255
 data_few t ok =
-    let u : Text = after_part row.DATUM (drop 1 t) in
+    let u : Text = after_phrase row.DATUM (drop 1 t) in
     let short = part_short row.DATA t ok in
     let shorter = part_shorter row.DATUM (drop 1 t) datum_takes (data_first t ok) in
     let rest = further_few (length u) u (omega arith) (data_list t ok) in
@@ -91,12 +91,12 @@ data_few t ok =
 equal : (a b : ℕ) → (a == b) ≡ true → a ≡ b
 equal a b h = grind (arith, nat_tests)
 
-some_of_data : (bytes : Text) (t : Trees) → is_part row.DATA bytes ≡ true → tree_at row.DATA bytes ≡ t → IsSome (literals_listed t)
+some_of_data : (bytes : Text) (t : Trees) → is_phrase row.DATA bytes ≡ true → tree_at row.DATA bytes ≡ t → IsSome (literals_listed t)
 some_of_data bytes t ok is =
     let same : literals_listed t ≡ data_at (drop 1 bytes) = sym (ap literals_listed is) ∙ listed_is bytes ok in
     record {
       head = tree_at row.DATUM (drop 1 bytes);
-      tail = further_listed (also (list_at commas row.COMMA_DATUM (after_part row.DATUM (drop 1 bytes))) Done);
+      tail = further_listed (also (list_at commas row.COMMA_DATUM (after_phrase row.DATUM (drop 1 bytes))) Done);
       is = same;
       few = subst (λ (ts : List Trees). length ts ≤ 255) (sym same) (data_few bytes ok);
     }
@@ -104,7 +104,7 @@ some_of_data bytes t ok is =
 unit_some : (u : TreeUnit) → IsRowOnTree u → (u.row == row.DATA) ≡ true → IsSome (literals_of u.row u.tree)
 unit_some u h is =
     let same = equal u.row row.DATA is in
-    let some = some_of_data (atoms u.tree) u.tree (subst (λ (n : ℕ). is_part n (atoms u.tree) ≡ true) same (IsRow.part h)) (sym (ap (λ (n : ℕ). tree_at n (atoms u.tree)) same) ∙ IsRow.tree h) in
+    let some = some_of_data (atoms u.tree) u.tree (subst (λ (n : ℕ). is_phrase n (atoms u.tree) ≡ true) same (IsRow.part h)) (sym (ap (λ (n : ℕ). tree_at n (atoms u.tree)) same) ∙ IsRow.tree h) in
     subst IsSome (sym (ap (λ (b : Bool). if b then literals_listed u.tree else []) is)) some
 
 -- the DATA among the units of a line

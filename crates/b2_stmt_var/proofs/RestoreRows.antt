@@ -14,7 +14,7 @@ use Rattle.b2_atom.specs.declared.forms.Leaf.TheVariants as leaf
 use Rattle.b2_atom.specs.declared.forms.Item.{Item}
 use Rattle.b2_atom.specs.declared.forms.Item.TheVariants.{Word, Typed, Maybe}
 use Rattle.b2_rows.specs.Leaves.{is_leaf}
-use Rattle.b2_rows.specs.Rows.{When, is_part, tree_at}
+use Rattle.b2_rows.specs.Rows.{When, is_phrase, tree_at}
 use Rattle.b2_rows.specs.Values.{line_of}
 use Rattle.b2_rows.proofs.RowsRead.{stands_of}
 use Rattle.b2_stmt_var.specs.Restoring.{line_to_restore}
@@ -37,7 +37,7 @@ data_row : row_items row.LINE_OF_DATA ≡ data_items
 unfolding row_items
 data_row = refl
 
-pub restore_line : (t : Text) → is_part row.RESTORE t ≡ true → (first (drop 1 t) == word.LINE) ≡ true → is_leaf leaf.LineNumber (drop 1 (drop 1 t)) ≡ true
+pub restore_line : (t : Text) → is_phrase row.RESTORE t ≡ true → (first (drop 1 t) == word.LINE) ≡ true → is_leaf leaf.LineNumber (drop 1 (drop 1 t)) ≡ true
 unfolding starts
 restore_line t ok is = (stands_of row.LINE_OF_DATA data_items (drop 1 t) data_row (taken_way (first (drop 1 t) == word.LINE) _ _ is (stands_of row.RESTORE restore_items t restore_row ok).0.1).0).0.1.0
 
@@ -47,7 +47,7 @@ restore_by false false a is = refl
 restore_by true false a is = cc
 restore_by false true a is = cc
 
-pub restore_with : (t : Text) → is_part row.RESTORE t ≡ true → (first (drop 1 t) == word.LINE) ≡ true
+pub restore_with : (t : Text) → is_phrase row.RESTORE t ≡ true → (first (drop 1 t) == word.LINE) ≡ true
     → line_to_restore (tree_at row.RESTORE t) ≡ Some (line_of (get_or (drop 1 (drop 1 t)) 1 0) (get_or (drop 1 (drop 1 t)) 2 0))
 unfolding starts
 restore_with t ok is =
@@ -56,6 +56,6 @@ restore_with t ok is =
     ap line_to_restore r.1 ∙ restore_by (first (drop 1 t) == word.LINE) true (tree_at row.LINE_OF_DATA (drop 1 t)) is
     ∙ ap (λ (a : Trees). line_to_restore (Put (Coded word.RESTORE) (In 1 a Done))) (stands_of row.LINE_OF_DATA data_items (drop 1 t) data_row part).1
 
-pub restore_without : (t : Text) → is_part row.RESTORE t ≡ true → (first (drop 1 t) == word.LINE) ≡ false → line_to_restore (tree_at row.RESTORE t) ≡ None
+pub restore_without : (t : Text) → is_phrase row.RESTORE t ≡ true → (first (drop 1 t) == word.LINE) ≡ false → line_to_restore (tree_at row.RESTORE t) ≡ None
 unfolding starts
 restore_without t ok is = ap line_to_restore (stands_of row.RESTORE restore_items t restore_row ok).1 ∙ restore_by (first (drop 1 t) == word.LINE) false (tree_at row.LINE_OF_DATA (drop 1 t)) is

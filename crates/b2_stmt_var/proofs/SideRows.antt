@@ -12,7 +12,7 @@ use Rattle.b2_atom.specs.declared.rows.TheConstants as row
 use Rattle.b2_atom.specs.declared.forms.Start.TheVariants as start
 use Rattle.b2_atom.specs.declared.forms.Item.{Item}
 use Rattle.b2_atom.specs.declared.forms.Item.TheVariants.{Sign, Part, Either, Many}
-use Rattle.b2_rows.specs.Rows.{is_part, tree_at, after_part, is_list, after_list, Ends}
+use Rattle.b2_rows.specs.Rows.{is_phrase, tree_at, after_phrase, is_list, after_list, Ends}
 use Rattle.b2_rows.proofs.RowsRead.{stands_of}
 use Rattle.b2_receiver.specs.RightSide.{is_right_side, right_side_tree}
 use Rattle.b2_receiver.proofs.OperationRows.{right_side_stands}
@@ -32,7 +32,7 @@ unfolding row_items
 comma_row = refl
 
 abbrev pub past_first : Text → Text
-past_first t = after_part row.ALPHA_RECEIVER t
+past_first t = after_phrase row.ALPHA_RECEIVER t
 
 abbrev pub are_others : Text → Bool
 are_others t = is_list commas row.COMMA_ALPHA_RECEIVER t
@@ -48,54 +48,54 @@ end_at t = Put (Coded byte.equals) (right_side_tree (drop 1 (after_others t)))
 abbrev pub left_at : Trees → Text → Trees
 left_at e t = tail_at row.COMMA_ALPHA_RECEIVER e t
 
-pub first_part : (t : Text) → is_part row.ALPHA_ASSIGNMENT t ≡ true → is_part row.ALPHA_RECEIVER t ≡ true
+pub first_part : (t : Text) → is_phrase row.ALPHA_ASSIGNMENT t ≡ true → is_phrase row.ALPHA_RECEIVER t ≡ true
 first_part t ok = (stands_of row.ALPHA_ASSIGNMENT items t row_is ok).0.0
 
-pub first_list : (t : Text) → is_part row.ALPHA_ASSIGNMENT t ≡ true → are_others (past_first t) ≡ true
+pub first_list : (t : Text) → is_phrase row.ALPHA_ASSIGNMENT t ≡ true → are_others (past_first t) ≡ true
 first_list t ok = (stands_of row.ALPHA_ASSIGNMENT items t row_is ok).0.1.0
 
-pub other_part : (t : Text) → are_others t ≡ true → (first t == byte.comma) ≡ true → is_part row.ALPHA_RECEIVER (drop 1 t) ≡ true
+pub other_part : (t : Text) → are_others t ≡ true → (first t == byte.comma) ≡ true → is_phrase row.ALPHA_RECEIVER (drop 1 t) ≡ true
 other_part t ok is = Other.part (other row.COMMA_ALPHA_RECEIVER row.ALPHA_RECEIVER S13_SEPARATOR t comma_row ok is)
 
-pub other_list : (t : Text) → are_others t ≡ true → (first t == byte.comma) ≡ true → are_others (after_part row.ALPHA_RECEIVER (drop 1 t)) ≡ true
+pub other_list : (t : Text) → are_others t ≡ true → (first t == byte.comma) ≡ true → are_others (after_phrase row.ALPHA_RECEIVER (drop 1 t)) ≡ true
 other_list t ok is = Other.list (other row.COMMA_ALPHA_RECEIVER row.ALPHA_RECEIVER S13_SEPARATOR t comma_row ok is)
 
-pub other_rest : (t : Text) → are_others t ≡ true → (first t == byte.comma) ≡ true → after_others (after_part row.ALPHA_RECEIVER (drop 1 t)) ≡ after_others t
+pub other_rest : (t : Text) → are_others t ≡ true → (first t == byte.comma) ≡ true → after_others (after_phrase row.ALPHA_RECEIVER (drop 1 t)) ≡ after_others t
 other_rest t ok is = sym (Other.rest (other row.COMMA_ALPHA_RECEIVER row.ALPHA_RECEIVER S13_SEPARATOR t comma_row ok is))
 
-pub other_end : (e : Trees) (t : Text) → are_others t ≡ true → (first t == byte.comma) ≡ true → after_further_listed (left_at e (after_part row.ALPHA_RECEIVER (drop 1 t))) ≡ after_further_listed (left_at e t)
+pub other_end : (e : Trees) (t : Text) → are_others t ≡ true → (first t == byte.comma) ≡ true → after_further_listed (left_at e (after_phrase row.ALPHA_RECEIVER (drop 1 t))) ≡ after_further_listed (left_at e t)
 other_end e t ok is = sym (end_of_other row.COMMA_ALPHA_RECEIVER row.ALPHA_RECEIVER S13_SEPARATOR e t comma_row ok is)
 
 pub other_items : (e : Trees) (t : Text) → are_others t ≡ true → (first t == byte.comma) ≡ true
-    → further_listed (left_at e t) ≡ tree_at row.ALPHA_RECEIVER (drop 1 t) ∷ further_listed (left_at e (after_part row.ALPHA_RECEIVER (drop 1 t)))
+    → further_listed (left_at e t) ≡ tree_at row.ALPHA_RECEIVER (drop 1 t) ∷ further_listed (left_at e (after_phrase row.ALPHA_RECEIVER (drop 1 t)))
 other_items e t ok is = items_of_other row.COMMA_ALPHA_RECEIVER row.ALPHA_RECEIVER S13_SEPARATOR e t comma_row ok is
 
 pub no_items : (e : Trees) (t : Text) → (first t == byte.comma) ≡ false → further_listed (left_at e t) ≡ []
 no_items e t is = no_items_left row.COMMA_ALPHA_RECEIVER e t is
 
-pub other_shorter : (t : Text) → (first t == byte.comma) ≡ true → length (after_part row.ALPHA_RECEIVER (drop 1 t)) < length t
+pub other_shorter : (t : Text) → (first t == byte.comma) ≡ true → length (after_phrase row.ALPHA_RECEIVER (drop 1 t)) < length t
 other_shorter t is = shorter row.ALPHA_RECEIVER t is
 
-pub receiver_shorter : (t : Text) → (first (after_part row.ALPHA_RECEIVER t) == byte.comma) ≡ true → length (drop 1 (after_part row.ALPHA_RECEIVER t)) < length t
+pub receiver_shorter : (t : Text) → (first (after_phrase row.ALPHA_RECEIVER t) == byte.comma) ≡ true → length (drop 1 (after_phrase row.ALPHA_RECEIVER t)) < length t
 receiver_shorter t is = item_shorter row.ALPHA_RECEIVER t is
 
-whole : (t : Text) → is_part row.ALPHA_ASSIGNMENT t ≡ true → tree_at row.ALPHA_ASSIGNMENT t ≡ In 2 (tree_at row.ALPHA_RECEIVER t) (left_at (end_at (past_first t)) (past_first t))
+whole : (t : Text) → is_phrase row.ALPHA_ASSIGNMENT t ≡ true → tree_at row.ALPHA_ASSIGNMENT t ≡ In 2 (tree_at row.ALPHA_RECEIVER t) (left_at (end_at (past_first t)) (past_first t))
 unfolding right_side_tree
 whole t ok = (stands_of row.ALPHA_ASSIGNMENT items t row_is ok).1
 
-pub whole_items : (t : Text) → is_part row.ALPHA_ASSIGNMENT t ≡ true → tree_at row.ALPHA_RECEIVER t ∷ further_listed (left_at (end_at (past_first t)) (past_first t)) ≡ all_listed (tree_at row.ALPHA_ASSIGNMENT t)
+pub whole_items : (t : Text) → is_phrase row.ALPHA_ASSIGNMENT t ≡ true → tree_at row.ALPHA_RECEIVER t ∷ further_listed (left_at (end_at (past_first t)) (past_first t)) ≡ all_listed (tree_at row.ALPHA_ASSIGNMENT t)
 whole_items t ok = sym (ap all_listed (whole t ok))
 
-pub whole_end : (t : Text) → is_part row.ALPHA_ASSIGNMENT t ≡ true → after_further_listed (left_at (end_at (past_first t)) (past_first t)) ≡ after_all_listed (tree_at row.ALPHA_ASSIGNMENT t)
+pub whole_end : (t : Text) → is_phrase row.ALPHA_ASSIGNMENT t ≡ true → after_further_listed (left_at (end_at (past_first t)) (past_first t)) ≡ after_all_listed (tree_at row.ALPHA_ASSIGNMENT t)
 whole_end t ok = sym (ap after_all_listed (whole t ok))
 
 last_rest : (t : Text) → (first t == byte.comma) ≡ false → after_others t ≡ t
 last_rest t is = Ends.rest (no_other row.COMMA_ALPHA_RECEIVER t is)
 
-end_part : (t : Text) → is_part row.ALPHA_ASSIGNMENT t ≡ true → is_right_side (drop 1 (after_others (past_first t))) ≡ true
+end_part : (t : Text) → is_phrase row.ALPHA_ASSIGNMENT t ≡ true → is_right_side (drop 1 (after_others (past_first t))) ≡ true
 end_part t ok = right_side_stands (drop 1 (after_others (past_first t))) (stands_of row.ALPHA_ASSIGNMENT items t row_is ok).0.1.1.1
 
-pub found_part : (t left : Text) → is_part row.ALPHA_ASSIGNMENT t ≡ true → (first left == byte.comma) ≡ false → after_others left ≡ after_others (past_first t) → is_right_side (drop 1 left) ≡ true
+pub found_part : (t left : Text) → is_phrase row.ALPHA_ASSIGNMENT t ≡ true → (first left == byte.comma) ≡ false → after_others left ≡ after_others (past_first t) → is_right_side (drop 1 left) ≡ true
 found_part t left ok is same = ap (λ (u : Text). is_right_side (drop 1 u)) (sym (last_rest left is) ∙ same) ∙ end_part t ok
 
 pub found_tree : (t left : Text) → (first left == byte.comma) ≡ false → after_others left ≡ after_others (past_first t) → after_further_listed (left_at (end_at (past_first t)) left) ≡ after_all_listed (tree_at row.ALPHA_ASSIGNMENT t)

@@ -11,7 +11,7 @@ use Rattle.b2_atom.specs.Tree.Trees.{Done, Put, In}
 use Rattle.b2_atom.specs.declared.rows.TheConstants as row
 use Rattle.b2_atom.specs.declared.forms.Leaf.TheVariants as leaf
 use Rattle.b2_rows.specs.Leaves.{leaf_bytes}
-use Rattle.b2_rows.specs.Rows.{after_part, list_at, tree_at}
+use Rattle.b2_rows.specs.Rows.{after_phrase, list_at, tree_at}
 use Rattle.b2_rows.specs.Values.{literal_of}
 use Rattle.b2_text.specs.Program.{Lines, line_at}
 use Rattle.b2_text.specs.Spots.{data_from, or_else}
@@ -36,7 +36,7 @@ literal_bytes_at t = literal_of (leaf_bytes leaf.Literal t)
 
 -- the literals at a text, with commas between them
 abbrev pub data_at : Text → List Trees
-data_at t = tree_at row.DATUM t ∷ further_listed (also (list_at commas row.COMMA_DATUM (after_part row.DATUM t)) Done)
+data_at t = tree_at row.DATUM t ∷ further_listed (also (list_at commas row.COMMA_DATUM (after_phrase row.DATUM t)) Done)
 
 -- the literals of a unit; none where it is no DATA
 abbrev pub literals_listed : Trees → List Trees

@@ -7,7 +7,7 @@ use Rattle.b2_atom.specs.Words.{Text}
 use Rattle.b2_atom.specs.Tree.{Trees}
 use Rattle.b2_atom.specs.Tree.Trees.{Done, In}
 use Rattle.b2_atom.specs.declared.rows.TheConstants as row
-use Rattle.b2_rows.specs.Rows.{after_part, is_part, tree_at}
+use Rattle.b2_rows.specs.Rows.{after_phrase, is_phrase, tree_at}
 use Rattle.b2_expr.specs.Answers.{Answer}
 use Rattle.b2_expr.specs.Scope.{Context}
 use Rattle.b2_expr.specs.Value.{value}
@@ -42,5 +42,5 @@ length_value s t = value s level.Sum (as_sum t)
 -- where no parenthesis stands first, a length is read where a sum is, has its value and leaves the same rest
 abbrev pub LengthsAreSums : Type 0
 LengthsAreSums =
-    (s : Context) (t : Text) → (first t == byte.opening) ≡ false → is_part row.LENGTH t ≡ true
-    → (is_part row.SUM t ≡ true) × (length_value s (tree_at row.LENGTH t) ≡ value s level.Sum (tree_at row.SUM t)) × (after_part row.LENGTH t ≡ after_part row.SUM t)
+    (s : Context) (t : Text) → (first t == byte.opening) ≡ false → is_phrase row.LENGTH t ≡ true
+    → (is_phrase row.SUM t ≡ true) × (length_value s (tree_at row.LENGTH t) ≡ value s level.Sum (tree_at row.SUM t)) × (after_phrase row.LENGTH t ≡ after_phrase row.SUM t)

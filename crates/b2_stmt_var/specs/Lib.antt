@@ -8,4 +8,4 @@ pub mod Reading
 pub mod ReadingOrder
 pub mod Restoring
 pub mod Plan
-pub mod InPassing
+pub mod Fast

@@ -6,7 +6,7 @@ use Rattle.b2_atom.specs.declared.rows.TheConstants as row
 use Rattle.b2_text.specs.Program.{Lines}
 use Rattle.b2_text.specs.declared.spots.Spot.{Spot}
 use Rattle.b2_expr.specs.Workspace.{WorkState, work_in}
-use Rattle.b2_access.specs.Courses.{Here, course}
+use Rattle.b2_access.specs.Dispatch.{Here, dispatch}
 use Rattle.b2_access.specs.Lending.{SeenLent}
 use Rattle.b2_access.specs.Partition.{setting_of}
 use Rattle.b2_access.specs.Placed.{Statement}
@@ -60,7 +60,7 @@ is_refused r program = false
 
 -- what the statement at a partition's place plans
 abbrev pub works : Private → SeenLent → Working
-works me s = course is_refused stops (does me s) me.place me s
+works me s = dispatch is_refused stops (does me s) me.place me s
 
 abbrev pub plan : Private → SeenLent → Planning
 plan me s = plans_by works me s

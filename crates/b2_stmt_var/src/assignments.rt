@@ -1,7 +1,7 @@
 // Assignments.
 ghost use Rattle.std.specs.Prelude.{◌≡◌, true, IfOk, Ok};
 ghost use Rattle.b2_atom.specs.declared.rows.TheConstants as row;
-ghost use Rattle.b2_rows.specs.Rows.{is_part, tree_at};
+ghost use Rattle.b2_rows.specs.Rows.{is_phrase, tree_at};
 ghost use Rattle.b2_receiver.specs.Receiving.{assign_number_at, assign_side_at as side_assigned_at};
 ghost use Rattle.b2_receiver.specs.RightSide.{is_right_side, right_side_tree, side_seen};
 ghost use Rattle.b2_receiver.specs.RightSide.{right_side as side_of};
@@ -26,8 +26,8 @@ use std::alloc::Global;
 /// The expression of an assignment of a number.
 #[tactic(auto, using(crate::proofs::NumberRows::first_part, crate::proofs::NumberRows::first_list, crate::proofs::NumberRows::other_part, crate::proofs::NumberRows::other_list, crate::proofs::NumberRows::other_rest, crate::proofs::NumberRows::other_end, crate::proofs::NumberRows::other_shorter, crate::proofs::NumberRows::whole_end, crate::proofs::NumberRows::found_part, crate::proofs::NumberRows::found_tree))]
 fn expression_after(text: &[u8]) -> &[u8]
-    requires part { is_part row.NUMERIC_ASSIGNMENT text.now ≡ true }
-    ensures part { is_part row.SUM result.now ≡ true }
+    requires phrase { is_phrase row.NUMERIC_ASSIGNMENT text.now ≡ true }
+    ensures part { is_phrase row.SUM result.now ≡ true }
     ensures tree { sum_of_assignment (after_all_listed (tree_at row.NUMERIC_ASSIGNMENT text.now)) ≡ tree_at row.SUM result.now }
 {
     let mut left = past_number_receiver(text);
@@ -40,7 +40,7 @@ fn expression_after(text: &[u8]) -> &[u8]
 /// Assigns a number to the receivers of an assignment, from left to right.
 #[tactic(auto, using(crate::proofs::NumberRows::first_part, crate::proofs::NumberRows::first_list, crate::proofs::NumberRows::other_part, crate::proofs::NumberRows::other_list, crate::proofs::NumberRows::other_items, crate::proofs::NumberRows::no_items, crate::proofs::NumberRows::receiver_shorter, crate::proofs::NumberRows::whole_items, crate::proofs::Assigned::one_more, crate::proofs::Assigned::one_coded))]
 fn assign_all(work: &mut Workspace<'_>, x: Dec, text: &[u8]) -> Result<Option<Code>, NoMemory>
-    requires part { is_part row.NUMERIC_ASSIGNMENT text.now ≡ true }
+    requires phrase { is_phrase row.NUMERIC_ASSIGNMENT text.now ≡ true }
     ensures worked { IfOk result (λ code. record { work = workspace work.new; code = code } ≡ spec.assign_each (assign_number_at (Ok x)) (all_listed (tree_at row.NUMERIC_ASSIGNMENT text.now)) (workspace work.old)) }
     ensures same_references { SameReferences work.old work.new }
 {
@@ -60,7 +60,7 @@ fn assign_all(work: &mut Workspace<'_>, x: Dec, text: &[u8]) -> Result<Option<Co
 
 /// Assigns a number.
 fn assign_numbers(work: &mut Workspace<'_>, text: &[u8]) -> Result<Option<Code>, NoMemory>
-    requires part { is_part row.NUMERIC_ASSIGNMENT text.now ≡ true }
+    requires phrase { is_phrase row.NUMERIC_ASSIGNMENT text.now ≡ true }
     ensures worked { IfOk result (λ code. record { work = workspace work.new; code = code } ≡ spec.assign_numbers (tree_at row.NUMERIC_ASSIGNMENT text.now) (workspace work.old)) }
     ensures same_references { SameReferences work.old work.new }
 {
@@ -74,7 +74,7 @@ fn assign_numbers(work: &mut Workspace<'_>, text: &[u8]) -> Result<Option<Code>,
 /// The right side of an alpha assignment.
 #[tactic(auto, using(crate::proofs::SideRows::first_part, crate::proofs::SideRows::first_list, crate::proofs::SideRows::other_part, crate::proofs::SideRows::other_list, crate::proofs::SideRows::other_rest, crate::proofs::SideRows::other_end, crate::proofs::SideRows::other_shorter, crate::proofs::SideRows::whole_end, crate::proofs::SideRows::found_part, crate::proofs::SideRows::found_tree))]
 fn side_after(text: &[u8]) -> &[u8]
-    requires part { is_part row.ALPHA_ASSIGNMENT text.now ≡ true }
+    requires phrase { is_phrase row.ALPHA_ASSIGNMENT text.now ≡ true }
     ensures part { is_right_side result.now ≡ true }
     ensures tree { side_of_assignment (after_all_listed (tree_at row.ALPHA_ASSIGNMENT text.now)) ≡ right_side_tree result.now }
 {
@@ -92,7 +92,7 @@ fn assign_side_to_all(
     side: &RightSide,
     text: &[u8],
 ) -> Result<Option<Code>, NoMemory>
-    requires part { is_part row.ALPHA_ASSIGNMENT text.now ≡ true }
+    requires phrase { is_phrase row.ALPHA_ASSIGNMENT text.now ≡ true }
     ensures worked { IfOk result (λ code. record { work = workspace work.new; code = code } ≡ spec.assign_each (side_assigned_at (side_seen side.now)) (all_listed (tree_at row.ALPHA_ASSIGNMENT text.now)) (workspace work.old)) }
     ensures same_references { SameReferences work.old work.new }
 {
@@ -118,7 +118,7 @@ fn assign_side_of(
     text: &[u8],
 ) -> Result<Option<Code>, NoMemory>
     requires side { is_right_side side.now ≡ true }
-    requires part { is_part row.ALPHA_ASSIGNMENT text.now ≡ true }
+    requires phrase { is_phrase row.ALPHA_ASSIGNMENT text.now ≡ true }
     ensures worked { IfOk result (λ code. record { work = workspace work.new; code = code } ≡ spec.sides_by (side_of (context_of (workspace work.old)) (right_side_tree side.now)) (all_listed (tree_at row.ALPHA_ASSIGNMENT text.now)) (workspace work.old)) }
     ensures same_references { SameReferences work.old work.new }
 {
@@ -134,7 +134,7 @@ fn assign_sides(
     work: &mut Workspace<'_>,
     text: &[u8],
 ) -> Result<Option<Code>, NoMemory>
-    requires part { is_part row.ALPHA_ASSIGNMENT text.now ≡ true }
+    requires phrase { is_phrase row.ALPHA_ASSIGNMENT text.now ≡ true }
     ensures worked { IfOk result (λ code. record { work = workspace work.new; code = code } ≡ spec.assign_sides (tree_at row.ALPHA_ASSIGNMENT text.now) (workspace work.old)) }
     ensures same_references { SameReferences work.old work.new }
 {
@@ -148,7 +148,7 @@ pub fn assign(
     work: &mut Workspace<'_>,
     text: &[u8],
 ) -> Result<Option<Code>, NoMemory>
-    requires part { is_part row.ASSIGNMENT text.now ≡ true }
+    requires phrase { is_phrase row.ASSIGNMENT text.now ≡ true }
     ensures worked { IfOk result (λ code. record { work = workspace work.new; code = code } ≡ spec.assigns (tree_at row.ASSIGNMENT text.now) (workspace work.old)) }
     ensures same_references { SameReferences work.old work.new }
 {

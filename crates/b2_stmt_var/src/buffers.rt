@@ -2,7 +2,7 @@
 ghost use Rattle.std.specs.Prelude.{◌≡◌, ◌≤ℤ◌, pos, negsuc, true, IfOk, Ok};
 ghost use Rattle.b2_alpha.specs.Bits.{rotated};
 ghost use Rattle.b2_atom.specs.declared.rows.TheConstants as row;
-ghost use Rattle.b2_rows.specs.Rows.{is_part, tree_at};
+ghost use Rattle.b2_rows.specs.Rows.{is_phrase, tree_at};
 ghost use Rattle.b2_receiver.specs.Assigning.{Ends, bytes_changed};
 ghost use Rattle.b2_receiver.specs.Receivers.{IsAlpha, IsBuffer};
 ghost use Rattle.b2_receiver.specs.declared.receiver.Buffer.TheVariants as buffer_kind;
@@ -62,7 +62,7 @@ fn fill_buffer(work: &mut Workspace<'_>, to: &Buffer, byte: u8) -> Result<Option
 /// The byte that INIT fills with.
 #[tactic(auto, using(crate::proofs::BufferRows::init_pair, crate::proofs::BufferRows::init_byte))]
 fn byte_of_init(unit: &[u8]) -> u8
-    requires part { is_part row.INIT unit.now ≡ true }
+    requires phrase { is_phrase row.INIT unit.now ≡ true }
     ensures { result ≡ spec.byte_of_init (tree_at row.INIT unit.now) }
 {
     hex_byte_at(rest_after(unit, 1))
@@ -71,7 +71,7 @@ fn byte_of_init(unit: &[u8]) -> u8
 /// INIT: fills buffers with a byte, from left to right. The code with which that ended, or none.
 #[tactic(auto, using(crate::proofs::BufferRows::first_part, crate::proofs::BufferRows::first_list, crate::proofs::BufferRows::other_part, crate::proofs::BufferRows::other_list, crate::proofs::BufferRows::other_items, crate::proofs::BufferRows::no_items, crate::proofs::BufferRows::buffer_shorter, crate::proofs::BufferRows::whole_items, crate::proofs::Assigned::one_more, crate::proofs::Assigned::one_coded))]
 pub fn init(work: &mut Workspace<'_>, unit: &[u8]) -> Result<Option<Code>, NoMemory>
-    requires part { is_part row.INIT unit.now ≡ true }
+    requires phrase { is_phrase row.INIT unit.now ≡ true }
     ensures worked { IfOk result (λ code. record { work = workspace work.new; code = code } ≡ spec.inits (tree_at row.INIT unit.now) (workspace work.old)) }
     ensures same_references { SameReferences work.old work.new }
 {
@@ -110,7 +110,7 @@ fn bits_of(n: Option<i64>) -> Result<i8, Code>
 /// What ROTATE and ROTATEC ask for: the receiver, and then by how many bits; or the first code from the left.
 #[tactic(auto, using(crate::proofs::TurnRows::turn_receiver, crate::proofs::TurnRows::turn_sum, crate::proofs::TurnRows::turn_is))]
 fn turn_at(e: &Env<'_>, unit: &[u8]) -> Result<Turn, Code>
-    requires part { is_part row.ROTATE unit.now ≡ true }
+    requires phrase { is_phrase row.ROTATE unit.now ≡ true }
     ensures turn { result ≡ spec.turn_in (in_statement (surroundings e.now)) (tree_at row.ROTATE unit.now) }
     ensures named { IfOk result (λ turn. IsAlpha turn.to.element.var) }
     ensures low { IfOk result (λ turn. negsuc 7 ≤ℤ turn.bits) }
@@ -173,7 +173,7 @@ fn turn_bits(work: &mut Workspace<'_>, asked: &Turn) -> Result<Option<Code>, NoM
 
 /// ROTATE and ROTATEC: turns the bits of a receiver. The code with which that ended, or none.
 pub fn rotate_bits(work: &mut Workspace<'_>, unit: &[u8]) -> Result<Option<Code>, NoMemory>
-    requires part { is_part row.ROTATE unit.now ≡ true }
+    requires phrase { is_phrase row.ROTATE unit.now ≡ true }
     ensures worked { IfOk result (λ code. record { work = workspace work.new; code = code } ≡ spec.rotates (tree_at row.ROTATE unit.now) (workspace work.old)) }
     ensures same_references { SameReferences work.old work.new }
 {

@@ -2,7 +2,7 @@
 ghost use Rattle.std.specs.Prelude.{◌≡◌, true, IfSome, option_map, slice_get};
 ghost use Rattle.b2_atom.specs.declared.rows.TheConstants as row;
 ghost use Rattle.b2_rows.specs.Laws.{IsRow};
-ghost use Rattle.b2_rows.specs.Rows.{after_part, is_list, is_part, tree_at};
+ghost use Rattle.b2_rows.specs.Rows.{after_phrase, is_list, is_phrase, tree_at};
 ghost use Rattle.b2_stmt_var.specs.Data as spec;
 ghost use Rattle.b2_stmt_var.specs.Data.{data_at};
 ghost use Rattle.b2_rows.specs.CommaLists.{commas};
@@ -42,7 +42,7 @@ fn number_spelled(bytes: &[u8]) -> Result<Dec, Code>
 #[tactic(auto, using(crate::proofs::DataRows::literal_here, crate::proofs::DataRows::literal_short))]
 #[inline(always)]
 fn quoted_bytes(text: &[u8]) -> Bytes
-    requires part { is_part row.LITERAL text.now ≡ true }
+    requires phrase { is_phrase row.LITERAL text.now ≡ true }
     ensures { result ≡ spec.literal_bytes_at text.now }
 {
     match Bytes::of(quoted_at(text)) {
@@ -55,7 +55,7 @@ fn quoted_bytes(text: &[u8]) -> Bytes
 #[tactic(auto, using(crate::proofs::DataRows::quoted_here, crate::proofs::DataRows::quoted_is, crate::proofs::DataRows::number_is))]
 #[inline(always)]
 fn datum(text: &[u8]) -> Result<Value, Code>
-    requires part { is_part row.DATUM text.now ≡ true }
+    requires phrase { is_phrase row.DATUM text.now ≡ true }
     ensures { result ≡ spec.datum_value (tree_at row.DATUM text.now) }
 {
     if is_at(b'"', text) {
@@ -70,8 +70,8 @@ fn datum(text: &[u8]) -> Result<Value, Code>
 /// What stands after the literal at a text.
 #[tactic(auto, using(crate::proofs::DataRows::quoted_rest, crate::proofs::DataRows::number_rest))]
 fn past_datum(text: &[u8]) -> &[u8]
-    requires part { is_part row.DATUM text.now ≡ true }
-    ensures { result.now ≡ after_part row.DATUM text.now }
+    requires phrase { is_phrase row.DATUM text.now ≡ true }
+    ensures { result.now ≡ after_phrase row.DATUM text.now }
 {
     if is_at(b'"', text) {
         rest_after(text, literal_width(text))
@@ -84,10 +84,10 @@ fn past_datum(text: &[u8]) -> &[u8]
 #[tactic(auto, using(crate::proofs::DataRows::other_part, crate::proofs::DataRows::other_list, crate::proofs::DataRows::on_datum, crate::proofs::DataRows::no_datum, crate::proofs::DataRows::here_datum))]
 #[inline(always)]
 fn nth_datum(text: &[u8], k: usize) -> Option<&[u8]>
-    requires first { is_part row.DATUM text.now ≡ true }
-    requires list { is_list commas row.COMMA_DATUM (after_part row.DATUM text.now) ≡ true }
+    requires first { is_phrase row.DATUM text.now ≡ true }
+    requires list { is_list commas row.COMMA_DATUM (after_phrase row.DATUM text.now) ≡ true }
     ensures tree { option_map (λ t. tree_at row.DATUM t.now) result ≡ slice_get (data_at text.now) k }
-    ensures part { IfSome result (λ t. is_part row.DATUM t.now ≡ true) }
+    ensures part { IfSome result (λ t. is_phrase row.DATUM t.now ≡ true) }
 {
     let mut left = text;
     for _ in 0..k {
@@ -104,7 +104,7 @@ fn nth_datum(text: &[u8], k: usize) -> Option<&[u8]>
 #[tactic(auto, using(crate::proofs::DataRows::data_first, crate::proofs::DataRows::data_list, crate::proofs::DataRows::data_is))]
 #[inline(always)]
 fn nth_value(unit: &[u8], k: usize) -> Option<Result<Value, Code>>
-    requires part { is_part row.DATA unit.now ≡ true }
+    requires phrase { is_phrase row.DATA unit.now ≡ true }
     ensures { result ≡ option_map spec.datum_value (slice_get (spec.literals_listed (tree_at row.DATA unit.now)) k) }
 {
     match nth_datum(rest_after(unit, 1), k) {
@@ -115,7 +115,7 @@ fn nth_value(unit: &[u8], k: usize) -> Option<Result<Value, Code>>
 
 /// The value of the k-th literal of a unit, where it is a DATA.
 #[inline(always)]
-fn value_in(unit: &RowUnit<'_>, k: usize) -> Option<Result<Value, Code>>
+fn data_value_in(unit: &RowUnit<'_>, k: usize) -> Option<Result<Value, Code>>
     requires read { IsRow unit.now.row unit.now.bytes.now (tree_at unit.now.row unit.now.bytes.now) }
     ensures { result ≡ option_map spec.datum_value (slice_get (spec.literals_of unit.now.row (tree_at unit.now.row unit.now.bytes.now)) k) }
 {
@@ -136,7 +136,7 @@ fn literal_of(own: &Text, spot: Spot, k: u8) -> Option<Literal>
     let Some(unit) = statement_on(&line.lend(), usize::from(spot.unit)) else {
         return None;
     };
-    match value_in(&unit, usize::from(k)) {
+    match data_value_in(&unit, usize::from(k)) {
         Some(value) => Some(Literal {
             value,
             after: (spot, k.saturating_add(1)),

@@ -4,8 +4,8 @@ ghost use Rattle.b2_base.specs.Byte as byte;
 ghost use Rattle.b2_base.specs.Lexical.{first};
 ghost use Rattle.b2_atom.specs.declared.forms.Start.TheVariants as start;
 ghost use Rattle.b2_atom.specs.declared.rows.TheConstants as row;
-ghost use Rattle.b2_rows.specs.Optional.{after_maybe, maybe_part, maybe_tree};
-ghost use Rattle.b2_rows.specs.Rows.{after_part, is_part, tree_at};
+ghost use Rattle.b2_rows.specs.Optional.{after_maybe, maybe_phrase, maybe_tree};
+ghost use Rattle.b2_rows.specs.Rows.{after_phrase, is_phrase, tree_at};
 ghost use Rattle.b2_vars.specs.Names.{is_legal_name};
 ghost use Rattle.b2_receiver.specs.Assigning.{Ends};
 ghost use Rattle.b2_expr.specs.Reads.{Gives};
@@ -55,7 +55,7 @@ fn shape_of_length(len: u8) -> Shape
 /// The shape of an alpha scalar, and what stands after its length.
 #[tactic(auto, using(crate::proofs::LoneRows::lone_is, crate::proofs::LoneRows::lone_usual, crate::proofs::LoneRows::lone_rest, crate::proofs::LoneRows::no_lone_rest, crate::proofs::LoneRows::lone_sum))]
 fn lone_shape_at<'t>(e: &Env<'_>, text: &'t [u8]) -> Result<(Shape, &'t [u8]), Code>
-    requires part { maybe_part start.Numeric row.LENGTH text.now ≡ true }
+    requires phrase { maybe_phrase start.Numeric row.LENGTH text.now ≡ true }
     requires alone { (first text.now == byte.opening) ≡ false }
     ensures { Gives (spec.lone_shape (in_statement (surroundings e.now)) true (maybe_tree start.Numeric row.LENGTH text.now)) (after_maybe start.Numeric row.LENGTH text.now) result }
 {
@@ -82,8 +82,8 @@ fn has_variables(e: &Env<'_>, name: Name) -> bool
 /// The entry of an alpha name, and what stands after it. X77 comes at the name.
 #[tactic(auto, using(crate::proofs::EntryRows::alpha_here, crate::proofs::EntryRows::alpha_shape, crate::proofs::EntryRows::alpha_length, crate::proofs::EntryRows::alpha_global, crate::proofs::EntryRows::alpha_array_is, crate::proofs::EntryRows::alpha_array_rest, crate::proofs::EntryRows::alpha_lone_is, crate::proofs::EntryRows::alpha_lone_rest, b2_expr::proofs::Names::legal_name))]
 fn alpha_entry_at<'t>(e: &Env<'_>, text: &'t [u8]) -> Result<(Entry, &'t [u8]), Code>
-    requires part { is_part row.DIMENSIONED_ALPHA text.now ≡ true }
-    ensures entry { Gives (spec.entry_named (in_statement (surroundings e.now)) true (tree_at row.DIMENSIONED_ALPHA text.now)) (after_part row.DIMENSIONED_ALPHA text.now) result }
+    requires phrase { is_phrase row.DIMENSIONED_ALPHA text.now ≡ true }
+    ensures entry { Gives (spec.entry_named (in_statement (surroundings e.now)) true (tree_at row.DIMENSIONED_ALPHA text.now)) (after_phrase row.DIMENSIONED_ALPHA text.now) result }
     ensures named { IfOk result (λ p. is_legal_name p.0.var ≡ true) }
 {
     let (name, width) = alpha_name(text);
@@ -113,8 +113,8 @@ fn alpha_entry_at<'t>(e: &Env<'_>, text: &'t [u8]) -> Result<(Entry, &'t [u8]), 
 /// The entry of the name of a number, and what stands after it. X77 comes at the name.
 #[tactic(auto, using(crate::proofs::EntryRows::number_here, crate::proofs::EntryRows::number_shape, crate::proofs::EntryRows::number_global, crate::proofs::EntryRows::number_array_is, crate::proofs::EntryRows::number_array_rest, crate::proofs::EntryRows::number_lone_is, crate::proofs::EntryRows::number_lone_rest, b2_expr::proofs::Names::legal_name))]
 fn number_entry_at<'t>(e: &Env<'_>, text: &'t [u8]) -> Result<(Entry, &'t [u8]), Code>
-    requires part { is_part row.DIMENSIONED_NUMERIC text.now ≡ true }
-    ensures entry { Gives (spec.entry_named (in_statement (surroundings e.now)) false (tree_at row.DIMENSIONED_NUMERIC text.now)) (after_part row.DIMENSIONED_NUMERIC text.now) result }
+    requires phrase { is_phrase row.DIMENSIONED_NUMERIC text.now ≡ true }
+    ensures entry { Gives (spec.entry_named (in_statement (surroundings e.now)) false (tree_at row.DIMENSIONED_NUMERIC text.now)) (after_phrase row.DIMENSIONED_NUMERIC text.now) result }
     ensures named { IfOk result (λ p. is_legal_name p.0.var ≡ true) }
 {
     let (name, width) = numeric_name(text);
@@ -140,8 +140,8 @@ fn number_entry_at<'t>(e: &Env<'_>, text: &'t [u8]) -> Result<(Entry, &'t [u8]),
 /// The entry at a text, and what stands after it.
 #[tactic(auto, using(crate::proofs::EntryRows::by_alpha, crate::proofs::EntryRows::by_alpha_is, crate::proofs::EntryRows::by_alpha_rest, crate::proofs::EntryRows::by_number, crate::proofs::EntryRows::by_number_is, crate::proofs::EntryRows::by_number_rest))]
 fn dimensioned_at<'t>(e: &Env<'_>, text: &'t [u8]) -> Result<(Entry, &'t [u8]), Code>
-    requires part { is_part row.DIMENSIONED text.now ≡ true }
-    ensures entry { Gives (spec.entry_in (in_statement (surroundings e.now)) (tree_at row.DIMENSIONED text.now)) (after_part row.DIMENSIONED text.now) result }
+    requires phrase { is_phrase row.DIMENSIONED text.now ≡ true }
+    ensures entry { Gives (spec.entry_in (in_statement (surroundings e.now)) (tree_at row.DIMENSIONED text.now)) (after_phrase row.DIMENSIONED text.now) result }
     ensures named { IfOk result (λ p. is_legal_name p.0.var ≡ true) }
 {
     if is_alpha_at(text) {
@@ -185,7 +185,7 @@ fn make_entry(
 /// DIM and COM: makes variables, from left to right. The code with which that ended, or none.
 #[tactic(auto, using(crate::proofs::EntryRows::common_is, crate::proofs::EntryRows::first_part, crate::proofs::EntryRows::first_list, crate::proofs::EntryRows::other_part, crate::proofs::EntryRows::other_list, crate::proofs::EntryRows::other_items, crate::proofs::EntryRows::no_items, crate::proofs::EntryRows::entry_shorter, crate::proofs::EntryRows::whole_items, crate::proofs::Assigned::one_more, crate::proofs::Assigned::one_coded))]
 pub fn dim(work: &mut Workspace<'_>, unit: &[u8]) -> Result<Option<Code>, NoMemory>
-    requires part { is_part row.DIM unit.now ≡ true }
+    requires phrase { is_phrase row.DIM unit.now ≡ true }
     ensures worked { IfOk result (λ code. record { work = workspace work.new; code = code } ≡ spec.dimensions (tree_at row.DIM unit.now) (workspace work.old)) }
     ensures same_references { SameReferences work.old work.new }
 {

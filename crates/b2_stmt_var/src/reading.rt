@@ -1,7 +1,7 @@
 // READ: each receiver takes the next literal of the own text.
 ghost use Rattle.std.specs.Prelude.{◌≡◌, true, IfOk, Some};
 ghost use Rattle.b2_atom.specs.declared.rows.TheConstants as row;
-ghost use Rattle.b2_rows.specs.Rows.{is_part, tree_at};
+ghost use Rattle.b2_rows.specs.Rows.{is_phrase, tree_at};
 ghost use Rattle.b2_vars.specs.Variables.{is_alpha};
 ghost use Rattle.b2_receiver.specs.Assigning.{is_alpha_receiver};
 ghost use Rattle.b2_receiver.specs.Receivers.{IsNamed};
@@ -76,7 +76,7 @@ fn read_one(
     own: &Text,
     text: &[u8],
 ) -> Result<Option<Code>, NoMemory>
-    requires part { is_part row.RECEIVER text.now ≡ true }
+    requires phrase { is_phrase row.RECEIVER text.now ≡ true }
     ensures worked { IfOk result (λ code. record { work = workspace work.new; next = next.new; code = code } ≡ spec.reads_one own.now.lines (tree_at row.RECEIVER text.now) (workspace work.old) next.old) }
     ensures same_references { SameReferences work.old work.new }
 {
@@ -98,7 +98,7 @@ fn read_all(
     own: &Text,
     text: &[u8],
 ) -> Result<Option<Code>, NoMemory>
-    requires part { is_part row.RECEIVER text.now ≡ true }
+    requires phrase { is_phrase row.RECEIVER text.now ≡ true }
     requires list { are_others (past_first text.now) ≡ true }
     ensures worked { IfOk result (λ code. record { work = workspace work.new; next = next.new; code = code } ≡ spec.read_each (spec.reads_one own.now.lines) (receivers_at text.now) (workspace work.old) next.old) }
     ensures same_references { SameReferences work.old work.new }
@@ -125,7 +125,7 @@ pub fn read(
     own: &Text,
     unit: &[u8],
 ) -> Result<Option<Code>, NoMemory>
-    requires part { is_part row.READ unit.now ≡ true }
+    requires phrase { is_phrase row.READ unit.now ≡ true }
     ensures worked { IfOk result (λ code. record { work = workspace work.new; next = next.new; code = code } ≡ spec.reads_data own.now.lines (tree_at row.READ unit.now) (workspace work.old) next.old) }
     ensures same_references { SameReferences work.old work.new }
 {

@@ -1,7 +1,7 @@
 // RESTORE, and CLEAR V and CLEAR N.
 ghost use Rattle.std.specs.Prelude.{◌≡◌, true};
 ghost use Rattle.b2_atom.specs.declared.rows.TheConstants as row;
-ghost use Rattle.b2_rows.specs.Rows.{is_part, tree_at};
+ghost use Rattle.b2_rows.specs.Rows.{is_phrase, tree_at};
 ghost use Rattle.b2_expr.specs.Workspace.{WorkState};
 ghost use Rattle.b2_stmt_var.specs.Restoring as spec;
 
@@ -31,7 +31,7 @@ pub fn restore(next: &mut Option<(Spot, u8)>, own: &Text, n: Option<u16>) -> Opt
 /// The line that RESTORE names.
 #[tactic(auto, using(crate::proofs::RestoreRows::restore_line, crate::proofs::RestoreRows::restore_with, crate::proofs::RestoreRows::restore_without))]
 pub fn line_to_restore(unit: &[u8]) -> Option<u16>
-    requires part { is_part row.RESTORE unit.now ≡ true }
+    requires phrase { is_phrase row.RESTORE unit.now ≡ true }
     ensures { result ≡ spec.line_to_restore (tree_at row.RESTORE unit.now) }
 {
     let line = rest_after(unit, 1);

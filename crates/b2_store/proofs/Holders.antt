@@ -10,7 +10,7 @@ use Rattle.b2_access.specs.Sharing.{Gives}
 use Rattle.b2_access.specs.Store.{StoreState, content, put}
 use Rattle.b2_access.specs.Task.{wider}
 use Rattle.b2_access.proofs.Holders.{also_first, performs_on, performs_same, wider_same}
-use Rattle.b2_access.proofs.Told.{of_freeing, of_taking, tells_wider}
+use Rattle.b2_access.proofs.RowAnswers.{of_freeing, of_taking, tells_wider}
 use Rattle.b2_store.specs.Holders.{all_held, own_among}
 
 abbrev done : StoreState → Gives StoreState

@@ -32,7 +32,7 @@ fn take_last(parts: &mut Vec<Part>, p: Part)
 }
 
 /// Takes a partition out of some, at each of its places.
-fn take_each(parts: &mut Vec<Part>, p: Part)
+fn take_out_each(parts: &mut Vec<Part>, p: Part)
     ensures { parts.new.items ≡ without p parts.old.items }
 {
     parts.retain(|x| *x != p);
@@ -72,6 +72,6 @@ impl Insiders {
     pub fn remove_all(&mut self, p: Part)
         ensures { self.new ≡ without p self.old }
     {
-        take_each(&mut self.parts, p);
+        take_out_each(&mut self.parts, p);
     }
 }

@@ -51,7 +51,7 @@ impl Key for Addr {
 }
 
 /// The bytes of a name as one word, by which names are compared.
-fn word_of(name: &Name8) -> u64
+fn name_word(name: &Name8) -> u64
     ensures word { result ≡ from_be_bytes w64 name.now }
     ensures whole { AreEight name.now }
 {
@@ -65,7 +65,7 @@ impl Key for Name8 {
 
     #[tactic(auto, using(crate::proofs::NameWords::words_tell))]
     fn finds(self, other: Name8) -> bool {
-        word_of(&other) == word_of(&self)
+        name_word(&other) == name_word(&self)
     }
 }
 

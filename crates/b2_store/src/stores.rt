@@ -72,7 +72,11 @@ fn homes_of(alloc: Global, b: &StoreBoot) -> Result<Homes, NoMemory>
     })
 }
 
-fn devices_of(alloc: Global, b: &StoreBoot, platters: Vec<Platter>) -> Result<Devices, NoMemory>
+fn devices_at_start(
+    alloc: Global,
+    b: &StoreBoot,
+    platters: Vec<Platter>,
+) -> Result<Devices, NoMemory>
     requires as_many { length b.now.platters.items ≡ length platters.items }
     requires orders { list_all has_order b.now.terminals.items ≡ true }
     ensures terminals { IfOk result (λ d. d.terminals ≡ map idle_row b.now.terminals.items) }
@@ -250,7 +254,7 @@ impl Ends for Stores {
 
     fn new(alloc: Global, b: &StoreBoot, platters: Vec<Platter>) -> Result<Stores, NoMemory> {
         let homes = homes_of(alloc, b)?;
-        let devices = devices_of(alloc, b, platters)?;
+        let devices = devices_at_start(alloc, b, platters)?;
         Ok(Stores {
             alloc,
             texts: homes.texts,

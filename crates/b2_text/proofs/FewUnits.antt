@@ -83,10 +83,10 @@ after_word n s c is h (In m t ts) few fits long = absurd fits
 fewer : (n s : ℕ) (is : List Item) → Spares (suc n) s is → Spares n s is
 fewer n s is h t few fits long = h t (omega (arith, few)) fits long
 
-after_part : (n s r : ℕ) (is : List Item) → whole (row_items r) ≡ true → Spares n s is → Spares n s (Part r ∷ is)
-after_part n s r is plain h Done few fits long = cc
-after_part n s r is plain h (Put x ts) few fits long = cc
-after_part n s r is plain h (In m t ts) few fits long =
+after_phrase : (n s r : ℕ) (is : List Item) → whole (row_items r) ≡ true → Spares n s is → Spares n s (Part r ∷ is)
+after_phrase n s r is plain h Done few fits long = cc
+after_phrase n s r is plain h (Put x ts) few fits long = cc
+after_phrase n s r is plain h (In m t ts) few fits long =
     let none = (all_own t (row_items r) plain).units in
     let both = length-append (atoms t) (atoms ts) in
     let units : units_in (Part r ∷ is) (In m t ts) ≡ units_in is ts = ap (λ (us : List TreeUnit). us ++ units_in is ts) none in
@@ -156,7 +156,7 @@ part_following n all (In m t ts) few fits long = branch_alone n (row_items row.F
 -- the rows in which a statement may follow: IF has two words before it, ELSE and ERROR have one and stand after a `:`
 if_counted : (n : ℕ) → AreCounted n → IsCounted (suc n) row.IF
 if_counted n all p t allowed few fits own_long long =
-    let items = after_word n 2 word.IF _ (after_part n 2 row.CONDITION _ condition (fewer n 2 _ (after_word n 0 word.THEN _ (line_or_statement n all)))) in
+    let items = after_word n 2 word.IF _ (after_phrase n 2 row.CONDITION _ condition (fewer n 2 _ (after_word n 0 word.THEN _ (line_or_statement n all)))) in
     let row_spares = subst (λ (is : List Item). Spares (suc n) 4 is) (sym if_is) items in
     let it = row_spares t few fits long in
     omega (arith, it)

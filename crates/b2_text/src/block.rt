@@ -151,7 +151,7 @@ fn put_place(places: &mut Vec<LinePlace>, i: usize, place: LinePlace, by: u16, m
 }
 
 /// Puts bytes in before a line, after what stands before its atoms.
-fn put_bytes(block: &mut Vec<u8>, start: usize, heading: &[u8], atoms: &[u8])
+fn put_line_bytes(block: &mut Vec<u8>, start: usize, heading: &[u8], atoms: &[u8])
     requires place { start ≤ vec_len block.old }
     requires room { vec_len block.old + (length heading.now + length atoms.now) ≤ vec_capacity block.old }
     ensures items { block.new.items ≡ splice (splice block.old.items start start atoms.now) start start heading.now }
@@ -198,7 +198,7 @@ pub fn put_line<U: Copy>(
         width: atoms.len() as u8,
         units: spans.len() as u8,
     };
-    put_bytes(block, start, heading, atoms);
+    put_line_bytes(block, start, heading, atoms);
     put_place(places, i, place, atoms.len() as u16 + 5, spans.len() as u16);
     put_in(units, first, spans);
 }

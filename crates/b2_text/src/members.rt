@@ -16,7 +16,7 @@ pub fn rank(numbers: &Vec<u16>, n: u32) -> usize
 }
 
 /// Whether a number stands at a place of a list.
-fn stands_at(numbers: &Vec<u16>, i: usize, n: u16) -> bool
+fn number_stands_at(numbers: &Vec<u16>, i: usize, n: u16) -> bool
     ensures { result ≡ option_map_or (λ m. m == n) (slice_get numbers.now.items i) false }
 {
     match numbers.get(i) {
@@ -33,7 +33,7 @@ fn add_member(numbers: &mut Vec<u16>, n: u16)
     ensures capacity { vec_capacity numbers.old ≤ vec_capacity numbers.new }
 {
     let i = rank(numbers, u32::from(n));
-    if stands_at(numbers, i, n) {
+    if number_stands_at(numbers, i, n) {
         return;
     }
     put_in(numbers, i, &[n]);
@@ -46,7 +46,7 @@ fn remove_member(numbers: &mut Vec<u16>, n: u16)
     ensures capacity { vec_capacity numbers.old ≤ vec_capacity numbers.new }
 {
     let i = rank(numbers, u32::from(n));
-    if stands_at(numbers, i, n) {
+    if number_stands_at(numbers, i, n) {
         take_out(numbers, i, i + 1);
     }
 }

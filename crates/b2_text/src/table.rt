@@ -35,7 +35,7 @@ pub fn seek(table: &Vec<u16>, n: u16) -> usize
 }
 
 /// Puts a place under a number.
-fn set_place(table: &mut Vec<u16>, n: u16, place: u16)
+fn put_place_under(table: &mut Vec<u16>, n: u16, place: u16)
     requires { n < length table.old.items }
     ensures { table.new.items ≡ slice_set table.old.items n place }
 {
@@ -52,7 +52,7 @@ pub fn number_lines(table: &mut Vec<u16>, places: &Vec<LinePlace>, from: usize)
 {
     for i in from..places.len() {
         let place = places[i];
-        set_place(table, place.number, (i + 1) as u16);
+        put_place_under(table, place.number, (i + 1) as u16);
     }
 }
 
@@ -64,6 +64,6 @@ pub fn forget_lines(table: &mut Vec<u16>, gone: &[LinePlace])
 {
     for i in 0..gone.len() {
         let place = gone[i];
-        set_place(table, place.number, 0);
+        put_place_under(table, place.number, 0);
     }
 }

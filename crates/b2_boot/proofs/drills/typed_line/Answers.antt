@@ -13,4 +13,4 @@ pub returns : goal.returns
 unfolding typed_line
 returns c =
     five_added (codes "DATASAVE DC OPEN T,#1,") (decimal (c.args.n + 2)) (codes ",\"F\":FOR I=1 TO ") (decimal c.args.n) _ _ _ _ _ _ _ c.new-line.ensures.items
-    c.in_ok-extend_from_slice.ensures.items c.in_ok-push_number.ensures c.in_ok-extend_from_slice-2.ensures.items c.in_ok-push_number-2.ensures c.in_ok-extend_from_slice-3.ensures.items
+    c.in_ok-extend_from_slice.ensures.items c.in_ok-push_digits.ensures c.in_ok-extend_from_slice-2.ensures.items c.in_ok-push_digits-2.ensures c.in_ok-extend_from_slice-3.ensures.items

@@ -2,7 +2,7 @@ use Rattle.std.proofs.Common.{ℕ, List, length, sym, ap, subst, ◌∙◌, arit
 use Rattle.std.specs.Option.{option_copied}
 use Rattle.std.proofs.lemmas.Grind.{common_steps}
 use Rattle.b2_boot.specs.LogLines.{text_lines, lines_beyond}
-use Rattle.b2_boot.specs.Logs.{Passes}
+use Rattle.b2_boot.specs.Logs.{LineHolds}
 use Rattle.b2_boot.proofs.Lines.{length-text_lines}
 use Rattle.b2_boot.proofs.LogSteps.{kept, after_failure}
 use Rattle.b2_boot.proofs.FirstFailing.{first_told}
@@ -17,7 +17,7 @@ pub loop-left-preserved : goal.loop-left-preserved
 loop-left-preserved c =
     let cut_is = ap (λ o. lines_beyond (option_copied o)) c.in-Some.is ∙ c.first_line.ensures.lines in
     let says = sym c.in-Asks.is ∙ c.read_log_line.ensures.value in
-    let passes = subst (Passes c.args.boot.now c.loop-left.granted) c.in-Asks.is c.read_log_line.ensures.passes in
+    let passes = subst (LineHolds c.args.boot.now c.loop-left.granted) c.in-Asks.is c.read_log_line.ensures.holds in
     let shorter = ap (λ (ps : List (List ℕ)). length ps) cut_is in
     let (told, granted, in_all, fit) =
     kept c.args.boot.now c.loop-left.number c.loop-left.granted c.steps_asked-granted.result c.loop-left.events.items c.push_events.new.events.items c.in-Asks.asked _ _ _ _

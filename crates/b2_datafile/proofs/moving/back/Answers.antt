@@ -1,6 +1,6 @@
 use Rattle.std.proofs.Common.{◌≡◌, ◌+◌, ◌-◌, ℕ, suc, subst, arith}
 use Rattle.b2_datafile.specs.Moving.{Behind, NoneBehind}
-use Rattle.b2_datafile.proofs.Passing.{behind-stop, behind-step, none-behind-step, none-behind-here}
+use Rattle.b2_datafile.proofs.SkippedRecords.{behind-stop, behind-step, none-behind-step, none-behind-here}
 use Rattle.b2_platter.proofs.Reading.{unspelled-more}
 use Rattle.b2_datafile.proofs.moving.back.Goals as goal
 

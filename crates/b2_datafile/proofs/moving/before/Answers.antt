@@ -1,5 +1,5 @@
 use Rattle.std.proofs.Common.{◌∙◌, get_or, sym, ap, arith}
-use Rattle.b2_datafile.proofs.Passing.{before-some, before-number, no-before, no-such}
+use Rattle.b2_datafile.proofs.SkippedRecords.{before-some, before-number, no-before, no-such}
 use Rattle.b2_platter.proofs.Reading.{unspelled-more}
 use Rattle.b2_datafile.proofs.moving.before.Goals as goal
 

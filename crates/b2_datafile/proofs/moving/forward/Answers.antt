@@ -1,7 +1,7 @@
 use Rattle.std.proofs.Common.{◌≡◌, ◌+◌, ◌-◌, suc, true, false, refl, arith}
 use Rattle.b2_datafile.specs.Files.{IsEndOfRecords}
 use Rattle.b2_datafile.specs.Loading.{IsRecordAt}
-use Rattle.b2_datafile.proofs.Passing.{ahead-stop, ahead-step, none-step, none-here}
+use Rattle.b2_datafile.proofs.SkippedRecords.{ahead-stop, ahead-step, none-step, none-here}
 use Rattle.b2_platter.proofs.Reading.{unspelled-more}
 use Rattle.b2_datafile.proofs.moving.forward.Goals as goal
 

@@ -7,11 +7,11 @@ use Rattle.b2_expr.proofs.conditions.truth.Goals as goal
 
 pub returns-then-is_code : goal.returns-then-is_code
 returns-then-is_code c =
-    condition_coded (in_statement (surroundings c.args.e.now)) c.args.text.now c.comparison-start.result c.requires.part c.comparison-start.ensures (sym c.is_code.ensures ∙ c.if-is_code.true)
+    condition_coded (in_statement (surroundings c.args.e.now)) c.args.text.now c.comparison-start.result c.requires.phrase c.comparison-start.ensures (sym c.is_code.ensures ∙ c.if-is_code.true)
 
 pub loop-word-init : goal.loop-word-init
 loop-word-init c =
-    condition_started (in_statement (surroundings c.args.e.now)) c.args.text.now c.comparison-start.result c.holds-holds.result c.last_bytes-left.result.now c.requires.part c.comparison-start.ensures
+    condition_started (in_statement (surroundings c.args.e.now)) c.args.text.now c.comparison-start.result c.holds-holds.result c.last_bytes-left.result.now c.requires.phrase c.comparison-start.ensures
     (sym c.is_code.ensures ∙ c.if-is_code.false) c.holds-holds.ensures c.last_bytes-left.ensures
 
 pub comparison-other-requires : goal.comparison-other-requires

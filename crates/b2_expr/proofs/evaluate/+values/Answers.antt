@@ -4,7 +4,7 @@ use Rattle.b2_base.specs.Lexical.{first}
 use Rattle.b2_dec.specs.Number.{Number}
 use Rattle.b2_atom.specs.Words.{Text}
 use Rattle.b2_atom.specs.declared.rows.TheConstants as row
-use Rattle.b2_rows.specs.Rows.{is_part, tree_at, after_part}
+use Rattle.b2_rows.specs.Rows.{is_phrase, tree_at, after_phrase}
 use Rattle.b2_rows.specs.Leaves.{leaf_bytes}
 use Rattle.b2_expr.specs.Further.{further_tree}
 use Rattle.b2_expr.specs.Answers.{Answer, ◌>>=◌}
@@ -51,7 +51,7 @@ located-returns-clause-name t c = (
 pub call-sum-found-requires : goal.call-sum-found-requires
 call-sum-found-requires t c = (
   let few = length_after c.in-Some.unit.now c.rest_after-named.result.now c.rest_after-body.result.now _ c.rest_after-named.ensures c.rest_after-body.ensures c.in-Some.ensures.short in omega (arith, few, c.decreases, c.if-s-eq0.false),
-  subst (λ (u : Text). is_part row.SUM u ≡ true) (sym (c.rest_after-body.ensures ∙ body_is c.in-Some.unit.now c.rest_after-named.result.now c.numeric_name-width.result.1 c.rest_after-named.ensures c.numeric_name-width.ensures.width))
+  subst (λ (u : Text). is_phrase row.SUM u ≡ true) (sym (c.rest_after-body.ensures ∙ body_is c.in-Some.unit.now c.rest_after-named.result.now c.numeric_name-width.result.1 c.rest_after-named.ensures c.numeric_name-width.ensures.width))
       (body_part c.args.name c.in-Some.unit.now c.in-Some.ensures.part c.requires.named c.in-Some.ensures.found),
 )
 
@@ -74,7 +74,7 @@ further_numbers-returns-then-is_code t c =
     finds_code _ _ c.sum-other.result
     (sym c.loop.invariant.value
     ∙ further.step_value (context c.args.s.now) c.args.word c.loop.number (7 - c.loop.counter) (7 - (c.loop.counter + 1)) c.loop.left.now c.rest_after-item.result.now c.sum-other.result.number (let less = c.loop-test.true in omega (arith, less)) (sym c.if-not-is_at.ensures) c.rest_after-item.ensures (sym c.sum-other.ensures.number)
-    ∙ further.code_refused (context c.args.s.now) c.args.word c.sum-other.result.number c.loop.number (further_tree (7 - (c.loop.counter + 1)) (after_part row.SUM c.rest_after-item.result.now)) coded)
+    ∙ further.code_refused (context c.args.s.now) c.args.word c.sum-other.result.number c.loop.number (further_tree (7 - (c.loop.counter + 1)) (after_phrase row.SUM c.rest_after-item.result.now)) coded)
     coded
 
 pub further_numbers-loop-preserved : goal.further_numbers-loop-preserved
@@ -82,7 +82,7 @@ further_numbers-loop-preserved t c =
     record {
       part = further.step_further (7 - c.loop.counter) (7 - (c.loop.counter + 1)) c.loop.left.now c.rest_after-item.result.now c.after_sum-left.result.now c.loop.invariant.part (let less = c.loop-test.true in omega (arith, less)) (sym c.if-not-is_at.ensures) c.rest_after-item.ensures c.after_sum-left.ensures;
       value = ap (λ (u : Text). extremes (context c.args.s.now) c.args.word (Ok c.extreme-number.result) (further_tree (7 - (c.loop.counter + 1)) u)) c.after_sum-left.ensures
-          ∙ ap (λ (x : Number). extremes (context c.args.s.now) c.args.word (Ok x) (further_tree (7 - (c.loop.counter + 1)) (after_part row.SUM c.rest_after-item.result.now))) c.extreme-number.ensures
+          ∙ ap (λ (x : Number). extremes (context c.args.s.now) c.args.word (Ok x) (further_tree (7 - (c.loop.counter + 1)) (after_phrase row.SUM c.rest_after-item.result.now))) c.extreme-number.ensures
           ∙ sym (further.step_value (context c.args.s.now) c.args.word c.loop.number (7 - c.loop.counter) (7 - (c.loop.counter + 1)) c.loop.left.now c.rest_after-item.result.now (Ok c.get.result) (let less = c.loop-test.true in omega (arith, less)) (sym c.if-not-is_at.ensures) c.rest_after-item.ensures (sym c.sum-other.ensures.number ∙ c.get.ensures))
           ∙ c.loop.invariant.value;
       rest = further.step_rest (7 - c.loop.counter) (7 - (c.loop.counter + 1)) c.loop.left.now c.rest_after-item.result.now c.after_sum-left.result.now (let less = c.loop-test.true in omega (arith, less)) (sym c.if-not-is_at.ensures) c.rest_after-item.ensures c.after_sum-left.ensures ∙ c.loop.invariant.rest;
@@ -97,17 +97,17 @@ further_numbers-returns t c =
     (sym (further.none_rest (7 - c.loop.counter) c.loop.left.now (let more = c.loop-test.false in omega (arith, more))) ∙ c.loop.invariant.rest)
 
 pub sum-product-start-requires : goal.sum-product-start-requires
-sum-product-start-requires t c = (omega (arith, c.decreases), chain_item level.Sum c.args.text.now refl c.requires.part)
+sum-product-start-requires t c = (omega (arith, c.decreases), chain_item level.Sum c.args.text.now refl c.requires.phrase)
 
 pub sum-returns-then-start-eq0 : goal.sum-returns-then-start-eq0
-sum-returns-then-start-eq0 t c = ended (context c.args.s.now) level.Sum c.args.text.now c.product-start.result refl c.requires.part c.product-start.ensures c.if-start-eq0.true refl
+sum-returns-then-start-eq0 t c = ended (context c.args.s.now) level.Sum c.args.text.now c.product-start.result refl c.requires.phrase c.product-start.ensures c.if-start-eq0.true refl
 
 pub sum-returns-then-is_code : goal.sum-returns-then-is_code
-sum-returns-then-is_code t c = start_refused (context c.args.s.now) level.Sum c.args.text.now c.product-start.result refl c.requires.part c.product-start.ensures (sym c.is_code.ensures ∙ c.if-is_code.true)
+sum-returns-then-is_code t c = start_refused (context c.args.s.now) level.Sum c.args.text.now c.product-start.result refl c.requires.phrase c.product-start.ensures (sym c.is_code.ensures ∙ c.if-is_code.true)
 
 pub sum-loop-item-init : goal.sum-loop-item-init
 sum-loop-item-init t c =
-    started (context c.args.s.now) level.Sum c.args.text.now c.product-start.result c.get-number.result c.last_bytes-left.result.now refl c.requires.part c.product-start.ensures
+    started (context c.args.s.now) level.Sum c.args.text.now c.product-start.result c.get-number.result c.last_bytes-left.result.now refl c.requires.phrase c.product-start.ensures
     (sym c.is_code.ensures ∙ c.if-is_code.false) c.get-number.ensures c.last_bytes-left.ensures
 
 pub sum-product-other-requires : goal.sum-product-other-requires
@@ -132,19 +132,19 @@ pub sum-returns : goal.sum-returns
 sum-returns t c = off (context c.args.s.now) level.Sum c.args.text.now c.loop-item.number c.loop-item.left.now c.loop-item.invariant refl (sym c.goes_on.ensures ∙ c.loop-item-test.false) (length c.loop-item.left.now) refl c.with.result c.with.ensures
 
 pub product-factor-start-requires : goal.product-factor-start-requires
-product-factor-start-requires t c = (omega (arith, c.decreases), chain_item level.Product c.args.text.now refl c.requires.part)
+product-factor-start-requires t c = (omega (arith, c.decreases), chain_item level.Product c.args.text.now refl c.requires.phrase)
 
 pub product-returns-then-is_code : goal.product-returns-then-is_code
-product-returns-then-is_code t c = start_refused (context c.args.s.now) level.Product c.args.text.now c.factor-start.result refl c.requires.part c.factor-start.ensures (sym c.is_code.ensures ∙ c.if-is_code.true)
+product-returns-then-is_code t c = start_refused (context c.args.s.now) level.Product c.args.text.now c.factor-start.result refl c.requires.phrase c.factor-start.ensures (sym c.is_code.ensures ∙ c.if-is_code.true)
 
 pub product-returns-then-not-goes_on : goal.product-returns-then-not-goes_on
 product-returns-then-not-goes_on t c =
-    alone (context c.args.s.now) level.Product c.args.text.now c.factor-start.result c.last_bytes.result.now refl c.requires.part c.factor-start.ensures
+    alone (context c.args.s.now) level.Product c.args.text.now c.factor-start.result c.last_bytes.result.now refl c.requires.phrase c.factor-start.ensures
     (sym c.is_code.ensures ∙ c.if-is_code.false) c.last_bytes.ensures (sym c.if-not-goes_on.ensures)
 
 pub factors_from-loop-item-init : goal.factors_from-loop-item-init
 factors_from-loop-item-init t c =
-    started (context c.args.s.now) level.Product c.args.text.now c.args.start c.get-number.result c.last_bytes-left.result.now refl c.requires.part c.requires.start
+    started (context c.args.s.now) level.Product c.args.text.now c.args.start c.get-number.result c.last_bytes-left.result.now refl c.requires.phrase c.requires.start
     c.requires.some c.get-number.ensures c.last_bytes-left.ensures
 
 pub factors_from-factor-other-requires : goal.factors_from-factor-other-requires
@@ -169,19 +169,19 @@ pub factors_from-returns : goal.factors_from-returns
 factors_from-returns t c = off (context c.args.s.now) level.Product c.args.text.now c.loop-item.number c.loop-item.left.now c.loop-item.invariant refl (sym c.goes_on.ensures ∙ c.loop-item-test.false) (length c.loop-item.left.now) refl c.with.result c.with.ensures
 
 pub power-operand-start-requires : goal.power-operand-start-requires
-power-operand-start-requires t c = (omega (arith, c.decreases), chain_item level.Power c.args.text.now refl c.requires.part)
+power-operand-start-requires t c = (omega (arith, c.decreases), chain_item level.Power c.args.text.now refl c.requires.phrase)
 
 pub power-returns-then-is_code : goal.power-returns-then-is_code
-power-returns-then-is_code t c = start_refused (context c.args.s.now) level.Power c.args.text.now c.operand-start.result refl c.requires.part c.operand-start.ensures (sym c.is_code.ensures ∙ c.if-is_code.true)
+power-returns-then-is_code t c = start_refused (context c.args.s.now) level.Power c.args.text.now c.operand-start.result refl c.requires.phrase c.operand-start.ensures (sym c.is_code.ensures ∙ c.if-is_code.true)
 
 pub power-returns-then-not-goes_on : goal.power-returns-then-not-goes_on
 power-returns-then-not-goes_on t c =
-    alone (context c.args.s.now) level.Power c.args.text.now c.operand-start.result c.last_bytes.result.now refl c.requires.part c.operand-start.ensures
+    alone (context c.args.s.now) level.Power c.args.text.now c.operand-start.result c.last_bytes.result.now refl c.requires.phrase c.operand-start.ensures
     (sym c.is_code.ensures ∙ c.if-is_code.false) c.last_bytes.ensures (sym c.if-not-goes_on.ensures)
 
 pub powers_from-loop-item-init : goal.powers_from-loop-item-init
 powers_from-loop-item-init t c =
-    started (context c.args.s.now) level.Power c.args.text.now c.args.start c.get-number.result c.last_bytes-left.result.now refl c.requires.part c.requires.start
+    started (context c.args.s.now) level.Power c.args.text.now c.args.start c.get-number.result c.last_bytes-left.result.now refl c.requires.phrase c.requires.start
     c.requires.some c.get-number.ensures c.last_bytes-left.ensures
 
 pub powers_from-operand-other-requires : goal.powers_from-operand-other-requires
@@ -206,44 +206,44 @@ pub powers_from-returns : goal.powers_from-returns
 powers_from-returns t c = off (context c.args.s.now) level.Power c.args.text.now c.loop-item.number c.loop-item.left.now c.loop-item.invariant refl (sym c.goes_on.ensures ∙ c.loop-item-test.false) (length c.loop-item.left.now) refl c.with.result c.with.ensures
 
 pub factor-power-requires : goal.factor-power-requires
-factor-power-requires t c = (omega (arith, c.decreases), each.plain_part c.args.text.now c.requires.part (sym c.if-not-has_sign.ensures))
+factor-power-requires t c = (omega (arith, c.decreases), each.plain_part c.args.text.now c.requires.phrase (sym c.if-not-has_sign.ensures))
 
 pub factor-returns-then-not-has_sign : goal.factor-returns-then-not-has_sign
 factor-returns-then-not-has_sign t c =
-    finds_same _ _ _ _ c.power.result (plain_value (context c.args.s.now) c.args.text.now c.requires.part (sym c.if-not-has_sign.ensures))
-    (each.plain_rest c.args.text.now c.requires.part (sym c.if-not-has_sign.ensures)) c.power.ensures
+    finds_same _ _ _ _ c.power.result (plain_value (context c.args.s.now) c.args.text.now c.requires.phrase (sym c.if-not-has_sign.ensures))
+    (each.plain_rest c.args.text.now c.requires.phrase (sym c.if-not-has_sign.ensures)) c.power.ensures
 
 pub factor-power-found-requires : goal.factor-power-found-requires
 factor-power-found-requires t c = (
   let a = each.signed_shorter c.args.text.now (sym c.if-not-has_sign.ensures) in let b = ap length c.rest_after.ensures in omega (arith, a, b, c.decreases),
-  subst (λ (u : Text). is_part row.POWER u ≡ true) (sym c.rest_after.ensures) (each.signed_part c.args.text.now c.requires.part (sym c.if-not-has_sign.ensures)),
+  subst (λ (u : Text). is_phrase row.POWER u ≡ true) (sym c.rest_after.ensures) (each.signed_part c.args.text.now c.requires.phrase (sym c.if-not-has_sign.ensures)),
 )
 
 pub factor-returns-then-is_code : goal.factor-returns-then-is_code
 factor-returns-then-is_code t c =
     bound_code (under_sign c.args.s.now.env.now.mode (first c.args.text.now)) _ _ _ _ c.power-found.result
-    (subst (λ (u : Text). Finds (value (context c.args.s.now) level.Power (tree_at row.POWER u)) (after_part row.POWER u) c.power-found.result) c.rest_after.ensures c.power-found.ensures)
-    (signed_value (context c.args.s.now) c.args.text.now c.requires.part (sym c.if-not-has_sign.ensures)) (sym c.is_code.ensures ∙ c.if-is_code.true)
+    (subst (λ (u : Text). Finds (value (context c.args.s.now) level.Power (tree_at row.POWER u)) (after_phrase row.POWER u) c.power-found.result) c.rest_after.ensures c.power-found.ensures)
+    (signed_value (context c.args.s.now) c.args.text.now c.requires.phrase (sym c.if-not-has_sign.ensures)) (sym c.is_code.ensures ∙ c.if-is_code.true)
 
 pub factor-returns : goal.factor-returns
 factor-returns t c =
     bound_number (under_sign c.args.s.now.env.now.mode (first c.args.text.now)) _ _ _ _ c.power-found.result c.get.result _
-    (subst (λ (u : Text). Finds (value (context c.args.s.now) level.Power (tree_at row.POWER u)) (after_part row.POWER u) c.power-found.result) c.rest_after.ensures c.power-found.ensures)
-    (signed_value (context c.args.s.now) c.args.text.now c.requires.part (sym c.if-not-has_sign.ensures)) (sym c.is_code.ensures ∙ c.if-is_code.false) c.get.ensures
+    (subst (λ (u : Text). Finds (value (context c.args.s.now) level.Power (tree_at row.POWER u)) (after_phrase row.POWER u) c.power-found.result) c.rest_after.ensures c.power-found.ensures)
+    (signed_value (context c.args.s.now) c.args.text.now c.requires.phrase (sym c.if-not-has_sign.ensures)) (sym c.is_code.ensures ∙ c.if-is_code.false) c.get.ensures
     (c.under_sign.ensures ∙ ap (λ (b : ℕ). under_sign c.args.s.now.env.now.mode b c.get.result) c.first.ensures)
-    (λ is. is ∙ ap length (sym (each.signed_rest c.args.text.now c.requires.part (sym c.if-not-has_sign.ensures))))
+    (λ is. is ∙ ap length (sym (each.signed_rest c.args.text.now c.requires.phrase (sym c.if-not-has_sign.ensures))))
 
 pub call_at-returns : goal.call_at-returns
 call_at-returns t c =
     bound_number ((context c.args.s.now).call (get_or c.args.text.now 1 0)) _ _ _ _ c.sum-argument.result c.get.result _
-    (subst (λ (u : Text). Finds (value (context c.args.s.now) level.Sum (tree_at row.SUM u)) (after_part row.SUM u) c.sum-argument.result) c.rest_after.ensures c.sum-argument.ensures)
-    (call_is (context c.args.s.now) c.args.text.now c.requires.part) (sym c.is_code.ensures ∙ c.if-is_code.false) c.get.ensures
+    (subst (λ (u : Text). Finds (value (context c.args.s.now) level.Sum (tree_at row.SUM u)) (after_phrase row.SUM u) c.sum-argument.result) c.rest_after.ensures c.sum-argument.ensures)
+    (call_is (context c.args.s.now) c.args.text.now c.requires.phrase) (sym c.is_code.ensures ∙ c.if-is_code.false) c.get.ensures
     (c.call.ensures ∙ ap (λ (b : ℕ). (context c.args.s.now).call b c.get.result) c.at.ensures)
-    (λ is. c.saturating_sub.ensures ∙ ap (λ (n : ℕ). n - 1) is ∙ one_less (after_part row.SUM (drop 3 c.args.text.now)) ∙ ap length (sym (call_rest c.args.text.now c.requires.part)))
+    (λ is. c.saturating_sub.ensures ∙ ap (λ (n : ℕ). n - 1) is ∙ one_less (after_phrase row.SUM (drop 3 c.args.text.now)) ∙ ap length (sym (call_rest c.args.text.now c.requires.phrase)))
 
 pub variable-returns : goal.variable-returns
 variable-returns t c =
-    scalar_found (context c.args.s.now) c.args.text.now (scalar_named c.first-letter.result c.counted_digit-digit.result) c.scalar.result c.rest_after-rest.result.now c.with.result c.requires.part
+    scalar_found (context c.args.s.now) c.args.text.now (scalar_named c.first-letter.result c.counted_digit-digit.result) c.scalar.result c.rest_after-rest.result.now c.with.result c.requires.phrase
     c.requires.letter c.in-None.is
     (c.rest_after-rest.ensures ∙ ap (λ (n : ℕ). drop n c.args.text.now) c.plain_width.ensures) (sym c.is_at.ensures ∙ c.if-is_at.false)
     (ap₂ scalar_named c.first-letter.ensures (c.counted_digit-digit.ensures.digit ∙ ap counted_digit c.at.ensures))
@@ -254,15 +254,15 @@ pub element-returns : goal.element-returns
 element-returns t c =
     let e = context c.args.s.now in
     let text = c.args.text.now in
-    let after : c.after_sum-rest.result.now ≡ after_part row.SUM (inside text) = c.after_sum-rest.ensures ∙ ap (λ (u : Text). after_part row.SUM u) c.requires.inside in
-    let item : c.rest_after.result.now ≡ drop 1 (after_part row.SUM (inside text)) = c.rest_after.ensures ∙ ap (λ (u : Text). drop 1 u) after in
-    let comma : (first (after_part row.SUM (inside text)) == byte.comma) ≡ true = ap (λ (u : Text). first u == byte.comma) (sym after) ∙ sym c.if-not-is_at.ensures in
+    let after : c.after_sum-rest.result.now ≡ after_phrase row.SUM (inside text) = c.after_sum-rest.ensures ∙ ap (λ (u : Text). after_phrase row.SUM u) c.requires.inside in
+    let item : c.rest_after.result.now ≡ drop 1 (after_phrase row.SUM (inside text)) = c.rest_after.ensures ∙ ap (λ (u : Text). drop 1 u) after in
+    let comma : (first (after_phrase row.SUM (inside text)) == byte.comma) ≡ true = ap (λ (u : Text). first u == byte.comma) (sym after) ∙ sym c.if-not-is_at.ensures in
     let row_is : value e level.Sum (tree_at row.SUM (inside text)) ≡ Ok c.get.result = ap (λ (u : Text). value e level.Sum (tree_at row.SUM u)) (sym c.requires.inside) ∙ sym c.sum-row.ensures.number ∙ c.get.ensures in
     bound_number (λ (y : Number). number_in e text (subscript c.get.result) (subscript y)) _ _ _ _ c.sum-column.result c.get-2.result _ c.sum-column.ensures
-    (two_is text c.requires.part c.requires.letter c.requires.opening e comma
-    ∙ ap (λ (a : Answer). a >>= (λ r. value e level.Sum (tree_at row.SUM (drop 1 (after_part row.SUM (inside text)))) >>= (λ y. number_in e text (subscript r) (subscript y)))) row_is
+    (two_is text c.requires.phrase c.requires.letter c.requires.opening e comma
+    ∙ ap (λ (a : Answer). a >>= (λ r. value e level.Sum (tree_at row.SUM (drop 1 (after_phrase row.SUM (inside text)))) >>= (λ y. number_in e text (subscript r) (subscript y)))) row_is
     ∙ ap (λ (u : Text). value e level.Sum (tree_at row.SUM u) >>= (λ y. number_in e text (subscript c.get.result) (subscript y))) (sym item))
     (sym c.is_code-2.ensures ∙ c.if-is_code-2.false) c.get-2.ensures
     (c.element_number-2.ensures ∙ (λ i. number_there (record { vars = e.around.own; element = record { global = false; var = plain_array (c.first-2.ensures i) (c.at-2.ensures i); row = c.subscript-at_row.ensures i; column = c.subscript-at_column.ensures i } })))
-    (λ is. c.saturating_sub-2.ensures ∙ ap (λ (n : ℕ). n - 1) is ∙ one_less (after_part row.SUM c.rest_after.result.now)
-    ∙ ap length (ap (λ (u : Text). drop 1 (after_part row.SUM u)) item ∙ sym (two_rest text c.requires.part c.requires.letter c.requires.opening comma)))
+    (λ is. c.saturating_sub-2.ensures ∙ ap (λ (n : ℕ). n - 1) is ∙ one_less (after_phrase row.SUM c.rest_after.result.now)
+    ∙ ap length (ap (λ (u : Text). drop 1 (after_phrase row.SUM u)) item ∙ sym (two_rest text c.requires.phrase c.requires.letter c.requires.opening comma)))

@@ -73,8 +73,8 @@ decreases-alpha l = 6000 * l.s.now.room + (20 * length l.text.now + 10)
 abbrev pub decreases-alpha_operand : goal.decreases-alpha_operand
 decreases-alpha_operand l = 6000 * l.s.now.room + (20 * length l.text.now + 7)
 
-abbrev pub decreases-part_at : goal.decreases-part_at
-decreases-part_at l = 6000 * l.s.now.room + (20 * length l.text.now + 6)
+abbrev pub decreases-str_part_at : goal.decreases-str_part_at
+decreases-str_part_at l = 6000 * l.s.now.room + (20 * length l.text.now + 6)
 
 abbrev pub decreases-binary_at : goal.decreases-binary_at
 decreases-binary_at l = 6000 * l.s.now.room + (20 * length l.text.now + 6)

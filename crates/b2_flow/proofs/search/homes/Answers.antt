@@ -1,7 +1,7 @@
 use Rattle.std.specs.List.{list_any}
 use Rattle.std.proofs.Common.{take, sym}
 use Rattle.std.proofs.lemmas.List.Folds.{list_any_more}
-use Rattle.b2_flow.proofs.Marks.{either_bit}
+use Rattle.b2_flow.proofs.HomeMask.{either_bit}
 use Rattle.b2_flow.specs.Frames.{enters}
 use Rattle.b2_flow.proofs.search.homes.Goals as goal
 

@@ -1,7 +1,7 @@
 use Rattle.std.proofs.Common.{refl, subst}
 use Rattle.b2_access.specs.Lending.{SeenLent}
 use Rattle.b2_access.specs.declared.lending.At.TheVariants as at
-use Rattle.b2_machine.specs.Running.{RunsOn}
+use Rattle.b2_machine.specs.StraightLine.{RunsOn}
 use Rattle.b2_machine.specs.Statements.{texts_seen}
 use Rattle.b2_machine.proofs.Begins.{lent_is_seen}
 use Rattle.b2_machine.proofs.Results.{ok_map}

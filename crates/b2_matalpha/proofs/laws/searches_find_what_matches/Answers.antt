@@ -1,4 +1,4 @@
-use Rattle.b2_matalpha.proofs.Found.{found_rise, found_match, match_found}
+use Rattle.b2_matalpha.proofs.SearchPlaces.{found_rise, found_match, match_found}
 use Rattle.b2_matalpha.proofs.laws.searches_find_what_matches.Goals as goal
 
 pub returns-clause-ascending : goal.returns-clause-ascending

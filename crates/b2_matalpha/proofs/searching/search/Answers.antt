@@ -1,7 +1,7 @@
 use Rattle.std.proofs.Common.{◌≡◌, ◌+◌, ◌-◌, ◌%◌, ◌++◌, ℕ, List, length, min, take, drop, ap, sym, ◌∙◌, arith}
 use Rattle.b2_matalpha.specs.Locators.{received}
 use Rattle.b2_matalpha.proofs.Receiving.{goes_on}
-use Rattle.b2_matalpha.proofs.Found.{found_from, found_if, none_if, next_at}
+use Rattle.b2_matalpha.proofs.SearchPlaces.{found_from, found_if, none_if, next_at}
 use Rattle.b2_matalpha.proofs.searching.search.Goals.{then-stands_at, else-stands_at}
 use Rattle.b2_matalpha.proofs.searching.search.Goals as goal
 

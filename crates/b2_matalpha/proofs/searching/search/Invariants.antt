@@ -1,7 +1,7 @@
 use Rattle.std.proofs.Common.{◌≡◌, ◌<◌, ◌≤◌, ◌++◌, ◌-◌, ◌%◌, length, take, drop}
 use Rattle.b2_matalpha.specs.Locators.{received}
 use Rattle.b2_matalpha.specs.Searches.{found_places}
-use Rattle.b2_matalpha.proofs.Found.{found_from}
+use Rattle.b2_matalpha.proofs.SearchPlaces.{found_from}
 use Rattle.b2_matalpha.proofs.searching.search.Given as goal
 
 -- what is found from here leads to the whole receiver

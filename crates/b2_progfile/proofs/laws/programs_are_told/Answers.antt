@@ -1,4 +1,4 @@
-use Rattle.b2_progfile.proofs.Told.{programs-told}
+use Rattle.b2_progfile.proofs.ProgramReadBack.{programs-told}
 use Rattle.b2_progfile.proofs.laws.programs_are_told.Goals as goal
 
 pub returns : goal.returns

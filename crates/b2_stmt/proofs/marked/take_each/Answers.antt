@@ -4,7 +4,7 @@ use Rattle.b2_base.specs.Lexical.{first}
 use Rattle.b2_atom.specs.Words.{Text}
 use Rattle.b2_atom.specs.Tree.{Trees}
 use Rattle.b2_atom.specs.declared.rows.TheConstants as row
-use Rattle.b2_rows.specs.Rows.{is_part, tree_at}
+use Rattle.b2_rows.specs.Rows.{is_phrase, tree_at}
 use Rattle.b2_expr.specs.Workspace.{workspace}
 use Rattle.b2_stmt.specs.Marked.{take_each, takes_value}
 use Rattle.b2_rows.specs.CommaLists.{are_others, others_at, past_first, receivers_at}
@@ -37,7 +37,7 @@ loop-value-preserved c =
     let comma : (first (past_first left) == byte.comma) ≡ true = search rules in
     let next : drop 1 (past_first left) ≡ c.rest_after-left.result.now = search rules in
     record {
-      part = subst (λ (u : Text). is_part row.RECEIVER u ≡ true) next (other_part (past_first left) i.list comma);
+      part = subst (λ (u : Text). is_phrase row.RECEIVER u ≡ true) next (other_part (past_first left) i.list comma);
       list = subst (λ (u : Text). are_others (past_first u) ≡ true) next (other_list (past_first left) i.list comma);
       taken = sym (ap (λ (u : Text). take_each one (receivers_at u) xs (workspace c.take_value.new.work)) next)
           ∙ sym (ap (λ (ts : List Trees). take_each one ts xs (workspace c.take_value.new.work)) (other_items (past_first left) i.list comma))

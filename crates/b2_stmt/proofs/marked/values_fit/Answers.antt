@@ -4,7 +4,7 @@ use Rattle.b2_base.specs.Lexical.{first}
 use Rattle.b2_atom.specs.Words.{Text}
 use Rattle.b2_atom.specs.Tree.{Trees}
 use Rattle.b2_atom.specs.declared.rows.TheConstants as row
-use Rattle.b2_rows.specs.Rows.{is_part, tree_at}
+use Rattle.b2_rows.specs.Rows.{is_phrase, tree_at}
 use Rattle.b2_stmt.specs.Marked.{values_fit, takes_bytes}
 use Rattle.b2_expr.specs.Kinds.{suits}
 use Rattle.b2_rows.specs.CommaLists.{are_others, others_at, past_first, receivers_at}
@@ -39,7 +39,7 @@ loop-value-preserved c =
     let comma : (first (past_first left) == byte.comma) ≡ true = search rules in
     let next : drop 1 (past_first left) ≡ c.rest_after-left.result.now = search rules in
     record {
-      part = subst (λ (u : Text). is_part row.RECEIVER u ≡ true) next (other_part (past_first left) i.list comma);
+      part = subst (λ (u : Text). is_phrase row.RECEIVER u ≡ true) next (other_part (past_first left) i.list comma);
       list = subst (λ (u : Text). are_others (past_first u) ≡ true) next (other_list (past_first left) i.list comma);
       fit = sym (ap (λ (u : Text). values_fit (receivers_at u) xs) next)
           ∙ sym (ap (λ (ts : List Trees). values_fit ts xs) (other_items (past_first left) i.list comma))

@@ -2,7 +2,7 @@ use Rattle.std.proofs.Common.{rules, ◌≡◌, ◌∙◌, IfOk, Some, ap, subst
 use Rattle.b2_access.specs.Lending.{globals_lent, seen_lent}
 use Rattle.b2_access.specs.Placed.{line_named}
 use Rattle.b2_access.specs.Planning.{Planning}
-use Rattle.b2_access.proofs.Courses.{line_course}
+use Rattle.b2_access.proofs.Dispatch.{line_dispatch}
 use Rattle.b2_stmt.specs.Plan.{does, is_refused, stops}
 use Rattle.b2_stmt.proofs.planning.plan.Goals as goal
 
@@ -16,4 +16,4 @@ returns-in-Some-2-clause-planned c =
     let copied : me.immediate ≡ Some c.in-Some-2.line = search rules in
     let named : line_named me.immediate s.home.lines p.line ≡ Some line = ap (line_named me.immediate s.home.lines) c.in-None.is ∙ copied ∙ ap Some (sym c.lend-in-Some-2.ensures) in
     subst (λ (x : Planning). IfOk c.plan_on-in-Some-2.result (λ planned. ◌≡◌ {A = Planning} (record { me = c.plan_on-in-Some-2.new.me; globals = globals; planned = planned }) x))
-    (line_course is_refused (stops me s) (does me s) p me s (Some line) c.in-Some.is named) c.plan_on-in-Some-2.ensures.planned
+    (line_dispatch is_refused (stops me s) (does me s) p me s (Some line) c.in-Some.is named) c.plan_on-in-Some-2.ensures.planned

@@ -10,13 +10,13 @@ use Rattle.b2_stmt_disk.proofs.limits.give_file.Goals as goal
 pub has_fourth-requires : goal.has_fourth-requires
 has_fourth-requires c =
     let at : c.rest_after-receivers.result.now ≡ receivers_text c.args.text.now = c.rest_after-receivers.ensures ∙ ap (drop 1) c.past_alpha.ensures in
-    record { stand = subst (AreReceivers 3) (sym at) (file_three c.args.text.now c.requires.part) }
+    record { stand = subst (AreReceivers 3) (sym at) (file_three c.args.text.now c.requires.phrase) }
 
 pub give_each-requires : goal.give_each-requires
 give_each-requires c =
     let at : c.rest_after-receivers.result.now ≡ receivers_text c.args.text.now = c.rest_after-receivers.ensures ∙ ap (drop 1) c.past_alpha.ensures in
     let is : is_fourth_after (receivers_text c.args.text.now) ≡ true = ap is_fourth_after (sym at) ∙ sym c.if-has_fourth.ensures in
-    record { stand = subst (AreReceivers 4) (sym at) (file_four c.args.text.now c.requires.part is) }
+    record { stand = subst (AreReceivers 4) (sym at) (file_four c.args.text.now c.requires.phrase is) }
 
 pub returns-then-has_fourth-clause-worked : goal.returns-then-has_fourth-clause-worked
 returns-then-has_fourth-clause-worked c =
@@ -25,7 +25,7 @@ returns-then-has_fourth-clause-worked c =
     let n = numbers_told c.args.told in
     let same : gives_file n (receivers_in (after_name (tree_at row.FILE_LIMITS c.args.text.now))) (workspace c.args.work.now)
     ≡ gives_each (numbers_of n) (receivers_at 4 c.rest_after-receivers.result.now) (workspace c.args.work.now) =
-    four_given n c.args.text.now (workspace c.args.work.now) c.requires.part is
+    four_given n c.args.text.now (workspace c.args.work.now) c.requires.phrase is
     ∙ ap (λ (u : List ℕ). gives_each (numbers_of n) (receivers_at 4 u) (workspace c.args.work.now)) (sym at) in
     let first : to_z w64 (of_z w64 n.first) ≡ n.first = search rules in
     let second : to_z w64 (of_z w64 n.second) ≡ n.second = search rules in
@@ -46,12 +46,12 @@ returns-then-is_absent-clause-worked c =
     let at : c.rest_after-receivers.result.now ≡ receivers_text c.args.text.now = c.rest_after-receivers.ensures ∙ ap (drop 1) c.past_alpha.ensures in
     let is : is_fourth_after (receivers_text c.args.text.now) ≡ false = ap is_fourth_after (sym at) ∙ sym c.if-has_fourth.ensures in
     let with_code : ℕ → WorkLeft = λ code. record { work = workspace c.args.work.now; code = Some code } in
-    ap with_code c.known.ensures ∙ sym (none_given (numbers_told c.args.told) c.args.text.now (workspace c.args.work.now) c.requires.part is (sym c.if-is_absent.ensures))
+    ap with_code c.known.ensures ∙ sym (none_given (numbers_told c.args.told) c.args.text.now (workspace c.args.work.now) c.requires.phrase is (sym c.if-is_absent.ensures))
 
 pub give_each-requires-2 : goal.give_each-requires-2
 give_each-requires-2 c =
     let at : c.rest_after-receivers.result.now ≡ receivers_text c.args.text.now = c.rest_after-receivers.ensures ∙ ap (drop 1) c.past_alpha.ensures in
-    record { stand = subst (AreReceivers 3) (sym at) (file_three c.args.text.now c.requires.part) }
+    record { stand = subst (AreReceivers 3) (sym at) (file_three c.args.text.now c.requires.phrase) }
 
 pub returns-clause-worked : goal.returns-clause-worked
 returns-clause-worked c =
@@ -60,7 +60,7 @@ returns-clause-worked c =
     let n = numbers_told c.args.told in
     let same : gives_file n (receivers_in (after_name (tree_at row.FILE_LIMITS c.args.text.now))) (workspace c.args.work.now)
     ≡ gives_each (n.first ∷ n.second ∷ n.third ∷ []) (receivers_at 3 c.rest_after-receivers.result.now) (workspace c.args.work.now) =
-    three_given n c.args.text.now (workspace c.args.work.now) c.requires.part is (sym c.if-is_absent.ensures)
+    three_given n c.args.text.now (workspace c.args.work.now) c.requires.phrase is (sym c.if-is_absent.ensures)
     ∙ ap (λ (u : List ℕ). gives_each (n.first ∷ n.second ∷ n.third ∷ []) (receivers_at 3 u) (workspace c.args.work.now)) (sym at) in
     let first : to_z w64 (of_z w64 n.first) ≡ n.first = search rules in
     let second : to_z w64 (of_z w64 n.second) ≡ n.second = search rules in

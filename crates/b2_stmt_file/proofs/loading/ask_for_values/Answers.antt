@@ -23,7 +23,7 @@ returns-in-Ok-kinds_at c =
     let d = drives_seen c.args.d.now in
     let asks : Slot → List Kind → Result Access ℕ = λ file kinds. Ok (access.DataLoad file kinds) in
     let next : Slot → Result Access ℕ = λ file. all_kinds e (items_at (items_text c.args.text.now)) >>= asks file in
-    loads_are d c.args.slots.now (in_statement e) c.args.text.now c.requires.part
+    loads_are d c.args.slots.now (in_statement e) c.args.text.now c.requires.phrase
     ∙ ap (λ (n : ℕ). file_used d c.args.slots.now n >>= next) (sym c.slot_written.ensures.value)
     ∙ ap (λ (r : Result Slot ℕ). r >>= next) (sym c.file_used.ensures ∙ c.in-Ok.is)
     ∙ ap (λ (u : Text). all_kinds e (items_at u) >>= asks c.in-Ok.slot) (sym c.past_slot.ensures)
@@ -37,7 +37,7 @@ returns-in-Err-kinds_at c =
     let next : Slot → Result Access ℕ = λ file. all_kinds e (items_at (items_text c.args.text.now)) >>= asks file in
     refused_so (all_kinds e (items_at c.past_slot.result.now)) (loads_in d c.args.slots.now (in_statement e) (tree_at row.LOADED_VALUES c.args.text.now)) c.in-Err-kinds_at.fault
     (λ n is.
-    loads_are d c.args.slots.now (in_statement e) c.args.text.now c.requires.part
+    loads_are d c.args.slots.now (in_statement e) c.args.text.now c.requires.phrase
     ∙ ap (λ (n : ℕ). file_used d c.args.slots.now n >>= next) (sym c.slot_written.ensures.value)
     ∙ ap (λ (r : Result Slot ℕ). r >>= next) (sym c.file_used.ensures ∙ c.in-Ok.is)
     ∙ ap (λ (u : Text). all_kinds e (items_at u) >>= asks c.in-Ok.slot) (sym c.past_slot.ensures)
@@ -50,6 +50,6 @@ returns-in-Err c =
     let d = drives_seen c.args.d.now in
     let asks : Slot → List Kind → Result Access ℕ = λ file kinds. Ok (access.DataLoad file kinds) in
     let next : Slot → Result Access ℕ = λ file. all_kinds e (items_at (items_text c.args.text.now)) >>= asks file in
-    loads_are d c.args.slots.now (in_statement e) c.args.text.now c.requires.part
+    loads_are d c.args.slots.now (in_statement e) c.args.text.now c.requires.phrase
     ∙ ap (λ (n : ℕ). file_used d c.args.slots.now n >>= next) (sym c.slot_written.ensures.value)
     ∙ ap (λ (r : Result Slot ℕ). r >>= next) (sym c.file_used.ensures ∙ c.in-Err.is)

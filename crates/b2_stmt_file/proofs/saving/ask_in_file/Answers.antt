@@ -19,13 +19,13 @@ returns-in-Ok c =
     let next : Slot → Result Access ℕ = λ file. saved e file (what_at (what_text c.args.text.now)) in
     let used = ap (λ (n : ℕ). file_used d c.args.slots.now n >>= next) (sym c.slot_written.ensures.value) ∙ ap (λ (r : Result Slot ℕ). r >>= next) (sym c.file_used.ensures ∙ c.in-Ok.is) in
     let at = ap (λ (u : Text). saved e c.in-Ok.slot (what_at u)) c.past_slot.ensures in
-    subst (λ (r : Result Access ℕ). GivesAccess r c.ask_for_file.result) (at ∙ sym (saved_is d c.args.slots.now e c.args.text.now c.requires.part ∙ used)) c.ask_for_file.ensures
+    subst (λ (r : Result Access ℕ). GivesAccess r c.ask_for_file.result) (at ∙ sym (saved_is d c.args.slots.now e c.args.text.now c.requires.phrase ∙ used)) c.ask_for_file.ensures
 
 pub returns-in-Err : goal.returns-in-Err
 returns-in-Err c =
     let e = in_statement (surroundings c.args.e.now) in
     let d = drives_seen c.args.d.now in
     let next : Slot → Result Access ℕ = λ file. saved e file (what_at (what_text c.args.text.now)) in
-    saved_is d c.args.slots.now e c.args.text.now c.requires.part
+    saved_is d c.args.slots.now e c.args.text.now c.requires.phrase
     ∙ ap (λ (n : ℕ). file_used d c.args.slots.now n >>= next) (sym c.slot_written.ensures.value)
     ∙ ap (λ (r : Result Slot ℕ). r >>= next) (sym c.file_used.ensures ∙ c.in-Err.is)

@@ -16,4 +16,4 @@ returns-then-is_line_at c =
     let named = sym (c.if-is_line_at.ensures ∙ ap (λ (u : List ℕ). starts Atoms start.Line u) c.rest_after-text.ensures) in
     let number = c.line_at.ensures.value ∙ ap (λ (u : List ℕ). line_of (get_or u 1 0) (get_or u 2 0)) c.rest_after-text.ensures in
     subst (λ (r : TextAnswer). LendsOr r c.line_image.result)
-    (ap (λ (n : ℕ). line_image (line_at n lines)) number ∙ sym (line_is lines c.args.unit.now c.requires.part named)) c.line_image.ensures
+    (ap (λ (n : ℕ). line_image (line_at n lines)) number ∙ sym (line_is lines c.args.unit.now c.requires.phrase named)) c.line_image.ensures

@@ -19,10 +19,10 @@ loop-cell-preserved c =
     let cell = c.loop-cell.cell in
     let x = c.index-numbers-cell.result in
     let before = c.loop-cell.vars in
-    let is = c.put_number.ensures in
+    let is = c.put_cell_number.ensures in
     let at : x ≡ get_or c.args.numbers.now cell zero_number = c.index-numbers-cell.is ∙ any_default c.args.numbers.now cell x zero_number c.loop-cell-test.true in
     record {
-      put = next_put c.args.v cell c.args.numbers.now x c.args.vars.now before c.put_number.new.vars c.loop-cell.invariant.put is at c.loop-cell-test.true (c.requires.count ∙ sym (number_count c.args.v (variable_at c.args.v c.args.vars.now.table) c.requires.there.kind c.shape_of-shape.ensures.sound));
+      put = next_put c.args.v cell c.args.numbers.now x c.args.vars.now before c.put_cell_number.new.vars c.loop-cell.invariant.put is at c.loop-cell-test.true (c.requires.count ∙ sym (number_count c.args.v (variable_at c.args.v c.args.vars.now.table) c.requires.there.kind c.shape_of-shape.ensures.sound));
       there = subst (λ (s : VarsState). IsArrayOf false c.args.v s.table) (sym is) (there_after false c.args.v (with_number cell x (variable_at c.args.v before.table)) before.table c.loop-cell.invariant.there);
       shape = c.loop-cell.invariant.shape ∙ sym (ap (λ (s : VarsState). shape_at c.args.v s.table) is ∙ shape_after c.args.v cell x before);
     }

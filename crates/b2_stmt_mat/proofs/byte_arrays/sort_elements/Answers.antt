@@ -1,7 +1,7 @@
 use Rattle.std.proofs.Common.{subst, Err}
 use Rattle.b2_expr.specs.Scope.{Surroundings}
 use Rattle.b2_expr.specs.Workspace.{workspace, surroundings_of as seen_by}
-use Rattle.b2_access.proofs.Courses.{ok_map}
+use Rattle.b2_access.proofs.Dispatch.{ok_map}
 use Rattle.b2_stmt_mat.specs.Arrays.{AnswersBy, families}
 use Rattle.b2_stmt_mat.specs.ByteArrays.{byte_items, sorted_bytes}
 use Rattle.b2_stmt_mat.proofs.Put.{sort_refused}

@@ -10,5 +10,5 @@ use Rattle.b2_stmt_mat.proofs.formulas.assignment_at.Goals as goal
 
 pub returns-in-Err-clause-asked : goal.returns-in-Err-clause-asked
 returns-in-Err-clause-asked c =
-    sym (result_refused (in_statement (surroundings c.args.e.now)) c.args.unit.now c.in-Err.code c.requires.part
+    sym (result_refused (in_statement (surroundings c.args.e.now)) c.args.unit.now c.in-Err.code c.requires.phrase
     (ap (λ (u : Text). array_of (surroundings c.args.e.now) false (leaf_bytes leaf.Name u)) (sym c.rest_after.ensures) ∙ c.in-Err.ensures.array))

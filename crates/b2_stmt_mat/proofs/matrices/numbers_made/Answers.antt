@@ -2,7 +2,7 @@ use Rattle.std.proofs.Common.{◌∙◌, ap, sym, subst}
 use Rattle.b2_vars.specs.Shapes.{cells}
 use Rattle.b2_vars.specs.Tables.{VarsState, shape_at}
 use Rattle.b2_expr.specs.Scope.{surroundings}
-use Rattle.b2_access.proofs.Courses.{ok_map}
+use Rattle.b2_access.proofs.Dispatch.{ok_map}
 use Rattle.b2_stmt_mat.specs.Arrays.{AnswersBy, families, shape_in}
 use Rattle.b2_stmt_mat.specs.Matrices.{items_seen, numbers_made}
 use Rattle.b2_stmt_mat.specs.declared.formulas.Formula.{Formula}

@@ -3,8 +3,8 @@ use Rattle.b2_base.specs.Refusals.{IsRefused}
 use Rattle.b2_dec.specs.declared.values.Value.{Value}
 use Rattle.b2_atom.specs.Words.{Text}
 use Rattle.b2_atom.specs.declared.rows.TheConstants as row
-use Rattle.b2_access.proofs.Courses.{ok_map}
-use Rattle.b2_rows.specs.Rows.{after_part, tree_at}
+use Rattle.b2_access.proofs.Dispatch.{ok_map}
+use Rattle.b2_rows.specs.Rows.{after_phrase, tree_at}
 use Rattle.b2_expr.specs.Scope.{Surroundings, surroundings}
 use Rattle.b2_expr.specs.Value.{context_of, in_statement}
 use Rattle.b2_expr.specs.Workspace.{workspace}
@@ -17,17 +17,17 @@ use Rattle.b2_stmt_pack.proofs.fields.pack_at.Goals as goal
 pub returns-in-Err-values_at-clause-worked : goal.returns-in-Err-values_at-clause-worked
 returns-in-Err-values_at-clause-worked c =
     let found : buffer (context_of (workspace c.args.work.now)) (tree_at row.BUFFER c.args.text.now) ≡ Ok c.in-Ok.to = search rules in
-    let here : c.rest_after.result.now ≡ drop 1 (after_part row.BUFFER c.args.text.now) = search rules in
+    let here : c.rest_after.result.now ≡ drop 1 (after_phrase row.BUFFER c.args.text.now) = search rules in
     let refused =
-    subst (λ (s : Surroundings). IsRefused (each_of (value_of (in_statement s)) (items_at row.COMMA_OPERAND row.OPERAND_OF_ANY_KIND (drop 1 (after_part row.BUFFER c.args.text.now)))) c.in-Err-values_at.fault) c.surroundings_of-2.ensures
+    subst (λ (s : Surroundings). IsRefused (each_of (value_of (in_statement s)) (items_at row.COMMA_OPERAND row.OPERAND_OF_ANY_KIND (drop 1 (after_phrase row.BUFFER c.args.text.now)))) c.in-Err-values_at.fault) c.surroundings_of-2.ensures
     (subst (λ (t : Text). IsRefused (each_of (value_of (in_statement (surroundings c.surroundings_of-2.result))) (items_at row.COMMA_OPERAND row.OPERAND_OF_ANY_KIND t)) c.in-Err-values_at.fault) here c.in-Err-values_at.ensures.refused) in
     ok_map c.code_of_fault.result _ _ (λ code coded. packs_refused (values_packed c.args.pairs.now) _ c.in-Ok.to _ c.in-Err-values_at.fault code _ found refused coded) c.code_of_fault.ensures.code
 
 pub returns-in-Ok-values_at-clause-worked : goal.returns-in-Ok-values_at-clause-worked
 returns-in-Ok-values_at-clause-worked c =
     let found : buffer (context_of (workspace c.args.work.now)) (tree_at row.BUFFER c.args.text.now) ≡ Ok c.in-Ok.to = search rules in
-    let here : c.rest_after.result.now ≡ drop 1 (after_part row.BUFFER c.args.text.now) = search rules in
+    let here : c.rest_after.result.now ≡ drop 1 (after_phrase row.BUFFER c.args.text.now) = search rules in
     let all =
-    subst (λ (s : Surroundings). each_of (value_of (in_statement s)) (items_at row.COMMA_OPERAND row.OPERAND_OF_ANY_KIND (drop 1 (after_part row.BUFFER c.args.text.now))) ≡ Ok c.in-Ok-values_at.values.items) c.surroundings_of-2.ensures
+    subst (λ (s : Surroundings). each_of (value_of (in_statement s)) (items_at row.COMMA_OPERAND row.OPERAND_OF_ANY_KIND (drop 1 (after_phrase row.BUFFER c.args.text.now))) ≡ Ok c.in-Ok-values_at.values.items) c.surroundings_of-2.ensures
     (subst (λ (t : Text). each_of (value_of (in_statement (surroundings c.surroundings_of-2.result))) (items_at row.COMMA_OPERAND row.OPERAND_OF_ANY_KIND t) ≡ Ok c.in-Ok-values_at.values.items) here c.in-Ok-values_at.ensures.values) in
     ok_map c.put_values.result _ _ (λ code h. packs_done (values_packed c.args.pairs.now) _ c.in-Ok.to _ c.deref.result.now _ _ found (all ∙ ap (λ (xs : List Value). Ok xs) (sym c.deref.ensures.value)) h) c.put_values.ensures.worked

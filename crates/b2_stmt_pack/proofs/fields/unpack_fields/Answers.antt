@@ -1,8 +1,8 @@
 use Rattle.std.proofs.Common.{◌≡◌, true, List, ℕ, Ok, drop, ap, sym, ◌∙◌}
 use Rattle.b2_atom.specs.Words.{Text}
 use Rattle.b2_atom.specs.declared.rows.TheConstants as row
-use Rattle.b2_access.proofs.Courses.{ok_map}
-use Rattle.b2_rows.specs.Rows.{after_part, tree_at}
+use Rattle.b2_access.proofs.Dispatch.{ok_map}
+use Rattle.b2_rows.specs.Rows.{after_phrase, tree_at}
 use Rattle.b2_pack.specs.Specification.{is_specification}
 use Rattle.b2_expr.specs.Scope.{Surroundings, surroundings}
 use Rattle.b2_expr.specs.Value.{context_of, in_statement}
@@ -19,7 +19,7 @@ returns-then-is_specification-clause-worked c =
     ∙ c.in-Ok.ensures.0
     ∙ ap (λ (bytes : List ℕ). Ok bytes) (sym c.bytes-then-is_specification.ensures.value) in
     let rest : c.rest_after-then-is_specification.result.now ≡ buffer_text c.args.unit.now =
-    c.rest_after-then-is_specification.ensures ∙ ap (λ (t : Text). drop 1 t) (c.in-Ok.ensures.1 ∙ ap (λ (t : Text). after_part row.SPECIFICATION t) c.rest_after.ensures) in
+    c.rest_after-then-is_specification.ensures ∙ ap (λ (t : Text). drop 1 t) (c.in-Ok.ensures.1 ∙ ap (λ (t : Text). after_phrase row.SPECIFICATION t) c.rest_after.ensures) in
     let fine : is_specification c.bytes-then-is_specification.result.now ≡ true =
     ap (λ (bytes : List ℕ). is_specification bytes) (c.bytes-then-is_specification.ensures.value ∙ sym c.bytes.ensures.value) ∙ sym c.is_specification.ensures ∙ c.if-is_specification.true in
-    ok_map c.unpack_at.result _ _ (λ code h. unpack_fine c.args.unit.now c.bytes-then-is_specification.result.now c.rest_after-then-is_specification.result.now _ _ c.requires.part pairs rest fine h) c.unpack_at.ensures.worked
+    ok_map c.unpack_at.result _ _ (λ code h. unpack_fine c.args.unit.now c.bytes-then-is_specification.result.now c.rest_after-then-is_specification.result.now _ _ c.requires.phrase pairs rest fine h) c.unpack_at.ensures.worked

@@ -13,4 +13,4 @@ line_at-requires c =
     let at : c.rest_after-after.result.now ≡ second_text t = c.rest_after-after.ensures ∙ ap (drop 3) c.rest_after-line.ensures in
     let begins : (first t == byte.comma) ≡ true = sym c.if-not-is_at.ensures in
     let follows : (first (second_text t) == byte.comma) ≡ true = ap (λ (u : List ℕ). first u == byte.comma) (sym at) ∙ sym c.if-is_at.ensures in
-    subst (λ (u : List ℕ). is_leaf leaf.LineNumber u ≡ true) (sym (c.rest_after.ensures ∙ ap (drop 1) at)) (second_here t c.requires.part begins follows)
+    subst (λ (u : List ℕ). is_leaf leaf.LineNumber u ≡ true) (sym (c.rest_after.ensures ∙ ap (drop 1) at)) (second_here t c.requires.phrase begins follows)

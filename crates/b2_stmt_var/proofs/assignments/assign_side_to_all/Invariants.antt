@@ -1,6 +1,6 @@
 use Rattle.std.proofs.Common.{◌≡◌, ◌∷◌, true, length}
 use Rattle.b2_atom.specs.declared.rows.TheConstants as row
-use Rattle.b2_rows.specs.Rows.{is_part, tree_at}
+use Rattle.b2_rows.specs.Rows.{is_phrase, tree_at}
 use Rattle.b2_receiver.specs.RightSide.{side_seen}
 use Rattle.b2_receiver.specs.Receiving.{assign_side_at}
 use Rattle.b2_expr.specs.Workspace.{SameReferences, workspace}
@@ -12,7 +12,7 @@ use Rattle.b2_stmt_var.proofs.assignments.assign_side_to_all.Given as goal
 -- the receivers that are left are assigned from here as all of them were from the first on
 abbrev pub invariant-loop-code : goal.invariant-loop-code
 invariant-loop-code l = record {
-  part : is_part row.ALPHA_RECEIVER l.left ≡ true;
+  part : is_phrase row.ALPHA_RECEIVER l.left ≡ true;
   list : are_others (past_first l.left) ≡ true;
   assigned : assign_each (assign_side_at (side_seen l.side)) (tree_at row.ALPHA_RECEIVER l.left ∷ further_listed (left_at (end_at (past_first l.text)) (past_first l.left))) (workspace l.work)
       ≡ assign_each (assign_side_at (side_seen l.side)) (all_listed (tree_at row.ALPHA_ASSIGNMENT l.text)) (workspace l.fn.work);

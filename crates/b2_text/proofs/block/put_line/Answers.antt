@@ -25,8 +25,8 @@ overflow_cast-place-4 g c =
     let same = c.requires.spans in
     omega (arith, few, short, same)
 
-pub put_bytes-requires-clause-place : goal.put_bytes-requires-clause-place
-put_bytes-requires-clause-place g c =
+pub put_line_bytes-requires-clause-place : goal.put_line_bytes-requires-clause-place
+put_line_bytes-requires-clause-place g c =
     let inside = within_block c.args.i c.begin_of-start.result.0 c.args.block.now.items c.args.places.now.items c.requires.laid c.begin_of-start.ensures.start in
     omega (arith, inside)
 
@@ -54,10 +54,10 @@ returns-clause-laid g c =
     let whole = length_laid block places c.requires.laid in
     let some = units_few lines in
     let few = few_units c.args.atoms.now in
-    let put : Put c.args.i c.args.n c.args.atoms.now block c.put_bytes.new.block.items places c.put_place.new.places.items =
-    put_one c.args.i c.args.n p u c.args.atoms.now block c.put_bytes.new.block.items places c.put_place.new.places.items c.requires.laid
+    let put : Put c.args.i c.args.n c.args.atoms.now block c.put_line_bytes.new.block.items places c.put_place.new.places.items =
+    put_one c.args.i c.args.n p u c.args.atoms.now block c.put_line_bytes.new.block.items places c.put_place.new.places.items c.requires.laid
     c.begin_of-start.ensures.start c.begin_of-start.ensures.first (omega (arith, small)) (omega (arith, small, whole, some, few))
-    (with_heading c.args.n p c.args.atoms.now c.args.heading.now block c.put_bytes.new.block.items c.requires.heading c.put_bytes.ensures.items)
+    (with_heading c.args.n p c.args.atoms.now c.args.heading.now block c.put_line_bytes.new.block.items c.requires.heading c.put_line_bytes.ensures.items)
     (with_units c.args.i c.args.n p u (length c.args.spans.now) c.args.atoms.now places c.put_place.new.places.items c.requires.spans c.put_place.ensures.items) in
     put.laid
 
@@ -72,10 +72,10 @@ returns-clause-lines g c =
     let whole = length_laid block places c.requires.laid in
     let some = units_few lines in
     let few = few_units c.args.atoms.now in
-    let put : Put c.args.i c.args.n c.args.atoms.now block c.put_bytes.new.block.items places c.put_place.new.places.items =
-    put_one c.args.i c.args.n p u c.args.atoms.now block c.put_bytes.new.block.items places c.put_place.new.places.items c.requires.laid
+    let put : Put c.args.i c.args.n c.args.atoms.now block c.put_line_bytes.new.block.items places c.put_place.new.places.items =
+    put_one c.args.i c.args.n p u c.args.atoms.now block c.put_line_bytes.new.block.items places c.put_place.new.places.items c.requires.laid
     c.begin_of-start.ensures.start c.begin_of-start.ensures.first (omega (arith, small)) (omega (arith, small, whole, some, few))
-    (with_heading c.args.n p c.args.atoms.now c.args.heading.now block c.put_bytes.new.block.items c.requires.heading c.put_bytes.ensures.items)
+    (with_heading c.args.n p c.args.atoms.now c.args.heading.now block c.put_line_bytes.new.block.items c.requires.heading c.put_line_bytes.ensures.items)
     (with_units c.args.i c.args.n p u (length c.args.spans.now) c.args.atoms.now places c.put_place.new.places.items c.requires.spans c.put_place.ensures.items) in
     put.lines
 
@@ -84,6 +84,6 @@ returns-clause-counted g c =
     let lines = lines_laid c.args.block.now.items c.args.places.now.items in
     let all = c.requires.units in
     let counted =
-    units_put c.args.i c.args.n c.begin_of-start.result.1 c.args.atoms.now c.args.units.now.items c.args.spans.now c.put_in.new.row.items lines (lines_laid c.put_bytes.new.block.items c.put_place.new.places.items)
+    units_put c.args.i c.args.n c.begin_of-start.result.1 c.args.atoms.now c.args.units.now.items c.args.spans.now c.put_in.new.row.items lines (lines_laid c.put_line_bytes.new.block.items c.put_place.new.places.items)
     (omega (arith, all)) c.begin_of-start.ensures.first c.requires.spans c.put_in.ensures.items (returns-clause-lines g c) in
     omega (arith, counted)

@@ -14,8 +14,8 @@ loop-i-preserved c =
     let same = c.loop-i.invariant.long in
     let small : s.number < length table = omega (arith, few, same) in
     record {
-      long = ap (λ (t : List ℕ). length t) c.set_place.ensures ∙ length-set table s.number 0 ∙ c.loop-i.invariant.long;
+      long = ap (λ (t : List ℕ). length t) c.put_place_under.ensures ∙ length-set table s.number 0 ∙ c.loop-i.invariant.long;
       rest = λ n block.
-          forget_step block places c.loop-i.i n table c.set_place.new.table.items s inside (get_or_default places c.loop-i.i no_place s inside) small c.set_place.ensures
+          forget_step block places c.loop-i.i n table c.put_place_under.new.table.items s inside (get_or_default places c.loop-i.i no_place s inside) small c.put_place_under.ensures
           ∙ c.loop-i.invariant.rest n block;
     }

@@ -16,8 +16,8 @@ loop-i-preserved c =
     let same = c.loop-i.invariant.long in
     let small : s.number < length table = omega (arith, read, few, same) in
     record {
-      long = ap (λ (t : List ℕ). length t) c.set_place.ensures ∙ length-set table s.number (c.loop-i.i + 1) ∙ c.loop-i.invariant.long;
+      long = ap (λ (t : List ℕ). length t) c.put_place_under.ensures ∙ length-set table s.number (c.loop-i.i + 1) ∙ c.loop-i.invariant.long;
       rest = λ n block.
-          number_step block places c.loop-i.i n table c.set_place.new.table.items s inside c.index-place.ensures small c.set_place.ensures
+          number_step block places c.loop-i.i n table c.put_place_under.new.table.items s inside c.index-place.ensures small c.put_place_under.ensures
           ∙ c.loop-i.invariant.rest n block;
     }

@@ -5,8 +5,8 @@ use Rattle.b2_access.specs.Lending.{SeenLent, globals_lent}
 use Rattle.b2_access.specs.Placed.{Statement}
 use Rattle.b2_access.specs.declared.accesses.Access.{Access}
 use Rattle.b2_access.specs.declared.planned.Planned.TheVariants as planned
-use Rattle.b2_access.proofs.Courses.{ok_map}
-use Rattle.b2_sched.proofs.Found.{control_at_once, control_built, variables_at_once}
+use Rattle.b2_access.proofs.Dispatch.{ok_map}
+use Rattle.b2_sched.proofs.FoundUnits.{control_at_once, control_built, variables_at_once}
 use Rattle.b2_sched.proofs.basic.BasicLanguage.plan_at_once.Goals as goal
 
 pub returns-then-is_built-clause-planned : goal.returns-then-is_built-clause-planned

@@ -1,10 +1,10 @@
 use Rattle.std.proofs.Common.{sym, ap, ◌∙◌}
 use Rattle.b2_access.specs.Found.{statement_found}
 use Rattle.b2_access.specs.Lending.{globals_lent, seen_lent}
-use Rattle.b2_access.proofs.Courses.{ok_map}
+use Rattle.b2_access.proofs.Dispatch.{ok_map}
 use Rattle.b2_sched.specs.Choice.{plan_by}
 use Rattle.b2_sched.specs.declared.choice.Family.{Family}
-use Rattle.b2_sched.proofs.Found.{control_where_found, planned_where_found, variables_where_found}
+use Rattle.b2_sched.proofs.FoundUnits.{control_where_found, planned_where_found, variables_where_found}
 use Rattle.b2_sched.proofs.basic.BasicLanguage.plan_found.Goals as goal
 
 pub returns-in-Variables-clause-planned : goal.returns-in-Variables-clause-planned

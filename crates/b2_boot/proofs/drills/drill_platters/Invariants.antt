@@ -1,0 +1,7 @@
+use Rattle.std.proofs.Common.{◌≡◌, ◌++◌, drop, map, true}
+use Rattle.std.specs.List.{list_all}
+use Rattle.b2_boot.specs.Drills.{is_clerk, platter_of}
+use Rattle.b2_boot.proofs.drills.drill_platters.Given as goal
+
+abbrev pub invariant-loop-clerk : goal.invariant-loop-clerk
+invariant-loop-clerk l = (list_all is_clerk (drop l.clerk-index l.clerks) ≡ true) × (l.platters.items ++ map (platter_of l.n) (drop l.clerk-index l.clerks) ≡ map (platter_of l.n) l.clerks)

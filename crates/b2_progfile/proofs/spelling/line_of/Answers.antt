@@ -1,5 +1,0 @@
-use Rattle.b2_progfile.proofs.Numbers.{line-short}
-use Rattle.b2_progfile.proofs.spelling.line_of.Goals as goal
-
-pub returns-clause-short : goal.returns-clause-short
-returns-clause-short c = line-short c.args.atoms.now c.bytes.ensures.line
