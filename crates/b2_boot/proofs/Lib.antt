@@ -16,3 +16,4 @@ pub mod LogBounds
 pub mod FileBoots
 pub mod DrillLaws
 pub mod PartLaws
+pub mod PartRounds

@@ -1,9 +1,10 @@
 -- What holds of every boot file and every log that pass their checks, and of a boot with a group alone, in words of its own.
-use Rattle.std.specs.Prelude.{◌≡◌, ℕ, ◌≤◌, Bool, true, false, List, Ok}
+use Rattle.std.specs.Prelude.{◌≡◌, ℕ, ◌+◌, ◌≤◌, ◌==◌, ◌&&◌, Bool, true, false, List, [], ◌∷◌, Ok}
 use Rattle.std.specs.List.{list_all}
-use Rattle.b2_boot.specs.Alone.{alone, has_number, may_be_used, own_boot, own_log, part, stands_at}
+use Rattle.b2_boot.specs.Alone.{alone, has_number, may_be_used, own_boot, own_events, own_log, part, stands_at}
 use Rattle.b2_boot.specs.Boots.{BootState, IsGood, boot_of}
 use Rattle.b2_boot.specs.Logs.{Events, granted_by, is_of_boot, log_of}
+use Rattle.b2_boot.specs.Quotas.{quota_at, quotas_of}
 use Rattle.b2_boot.specs.declared.log.Event.{Event}
 use Rattle.b2_boot.specs.declared.log.Event.TheVariants as event
 
@@ -47,3 +48,20 @@ PartsHaveNoMore = (group : ℕ → Bool) (b : BootState) (log : List Event) → 
 -- And where a boot and a log have nothing of others they are their own part.
 abbrev pub PartsHaveNoLess : Type 0
 PartsHaveNoLess = (group : ℕ → Bool) (b : BootState) (log : List Event) → HasNoMore group b log → (own_boot b ≡ b) × (own_log b log ≡ log)
+
+-- how many of some events are a turn of a partition with so many steps
+abbrev pub is_turn : ℕ → ℕ → Event → Bool
+is_turn p steps (event.Turn q n) = (q == p) && (n == steps)
+is_turn p steps e = false
+
+abbrev pub one_where : Bool → ℕ
+one_where true = 1
+one_where false = 0
+
+abbrev pub turns_among : ℕ → ℕ → List Event → ℕ
+turns_among p steps [] = 0
+turns_among p steps (e ∷ es) = one_where (is_turn p steps e) + turns_among p steps es
+
+-- In place of rounds each partition that is there has as many turns, with the quota that a round gives it.
+abbrev pub PartsHaveEachRound : Type 0
+PartsHaveEachRound = (b : BootState) (p n : ℕ) → 1 ≤ p → p ≤ 16 → has_number b.partitions p ≡ true → turns_among p (quota_at p (quotas_of b)) (own_events b (event.Rounds n)) ≡ n

@@ -1,6 +1,6 @@
 //! What holds of every log and boot: each law is the contract of a function without a body.
 ghost use Rattle.b2_boot.specs.Drills.{DrillsAreGood, DrillsAreOfTheirBoot, DrillsGrantFew};
-ghost use Rattle.b2_boot.specs.Laws.{AloneGrantsNoMore, BootsOfFilesAreGood, LogsAreOfTheirBoot, LogsKeepToTheBound, PartsHaveNoLess, PartsHaveNoMore};
+ghost use Rattle.b2_boot.specs.Laws.{AloneGrantsNoMore, BootsOfFilesAreGood, LogsAreOfTheirBoot, LogsKeepToTheBound, PartsHaveEachRound, PartsHaveNoLess, PartsHaveNoMore};
 
 /// The boot of a file that passes its checks is good.
 pub fn law_a_boot_of_a_file_is_good()
@@ -24,10 +24,11 @@ pub fn law_a_group_alone_is_granted_no_more()
 
 /// The own part of a group has nothing of others: its boot has members, terminals at which one of them stands, and devices that one of
 /// them may use, and its log events at these terminals and of these members, without rounds. A boot and a log of which all is so are
-/// their own part.
+/// their own part. In place of rounds each member that is there has as many turns, with the quota that a round gives it.
 pub fn law_a_part_is_what_is_own()
     ensures no_more { PartsHaveNoMore }
     ensures no_less { PartsHaveNoLess }
+    ensures rounds { PartsHaveEachRound }
 {}
 
 /// The boot of each drill is good.
