@@ -5,7 +5,7 @@ ghost use Rattle.b2_datafile.specs.Files.{IsEndOfRecords};
 ghost use Rattle.b2_catalog.specs.Results.{FailsBy};
 ghost use Rattle.b2_datafile.specs.Loading.{Loads, LoadFails, agree, as_values, is_of, values_loaded};
 
-use crate::marks;
+use crate::end_sector;
 use crate::opening::file_of;
 use b2_base::codes::{D80_NOT_OPEN, X70_TOO_LITTLE, X74_OTHER_KIND};
 use b2_base::{Code, Fault, Slot};
@@ -20,7 +20,7 @@ pub(crate) fn is_end_of_records(p: &Platter, e: &Entry, pos: u32) -> bool
     requires { e.now.end < sectors_of p.now }
     ensures { IsTrue result ↔ IsEndOfRecords p.now e.now pos }
 {
-    e.end <= pos || marks::is_end_mark(p.sector(pos))
+    e.end <= pos || end_sector::is_end_mark(p.sector(pos))
 }
 
 /// Whether a value is of a kind.

@@ -10,7 +10,7 @@ ghost use Rattle.b2_record.specs.Writing.{record_of};
 ghost use Rattle.b2_datafile.specs.Files.{with_end};
 ghost use Rattle.b2_datafile.specs.Slots.{file_of, write_refusal};
 
-use crate::marks;
+use crate::end_sector;
 use crate::opening::file_of;
 use b2_base::codes::{D80_NOT_OPEN, D81_FILE_FULL};
 use b2_base::{Code, Slot};
@@ -69,7 +69,7 @@ pub(crate) fn put_end(p: &mut Platter, e: Entry, pos: u32)
     ensures files { catalogue p.new ≡ insert (catalogue p.old) e.name (record e { used = pos - e.start + 1 }) }
 {
     let _image = p.image();
-    p.put_file(pos, &marks::end_mark());
+    p.put_file(pos, &end_sector::end_mark());
     set_used(p, e, pos - e.start + 1);
 }
 

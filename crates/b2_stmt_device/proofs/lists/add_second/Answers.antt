@@ -9,8 +9,8 @@ use Rattle.b2_stmt_device.specs.Lists.{more_devices}
 use Rattle.b2_stmt_device.proofs.ListRows.{as_it_was, grown, no_second, second_is, second_rest}
 use Rattle.b2_stmt_device.proofs.lists.add_second.Goals as goal
 
-pub add_third-requires-clause-part : goal.add_third-requires-clause-part
-add_third-requires-clause-part c =
+pub add_third-requires-clause-phrase : goal.add_third-requires-clause-phrase
+add_third-requires-clause-phrase c =
     let there = c.past_device.ensures ∙ ap (λ (u : List ℕ). drop 3 (drop 1 u)) c.rest_after-device.ensures in
     subst (λ (u : List ℕ). maybe_phrase (start.Code byte.comma) row.COMMA_DEVICE_3 u ≡ true) (sym there) (second_rest c.args.text.now c.requires.phrase (sym c.if-is_at.ensures))
 

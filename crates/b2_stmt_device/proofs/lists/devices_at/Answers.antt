@@ -6,5 +6,5 @@ use Rattle.b2_rows.specs.Optional.{maybe_phrase}
 use Rattle.b2_stmt_device.proofs.ListRows.{first_rest}
 use Rattle.b2_stmt_device.proofs.lists.devices_at.Goals as goal
 
-pub add_second-requires-clause-part : goal.add_second-requires-clause-part
-add_second-requires-clause-part c = subst (λ (u : List ℕ). maybe_phrase (start.Code byte.comma) row.COMMA_DEVICE_2 u ≡ true) (sym c.past_device.ensures) (first_rest c.args.text.now c.requires.phrase)
+pub add_second-requires-clause-phrase : goal.add_second-requires-clause-phrase
+add_second-requires-clause-phrase c = subst (λ (u : List ℕ). maybe_phrase (start.Code byte.comma) row.COMMA_DEVICE_2 u ≡ true) (sym c.past_device.ensures) (first_rest c.args.text.now c.requires.phrase)

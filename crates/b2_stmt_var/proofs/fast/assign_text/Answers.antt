@@ -6,8 +6,8 @@ use Rattle.b2_stmt_var.specs.Fast.{own_work}
 use Rattle.b2_stmt_var.proofs.OneReceiver.{side_part, text_assigned}
 use Rattle.b2_stmt_var.proofs.fast.assign_text.Goals as goal
 
-pub text_here-requires-clause-part : goal.text_here-requires-clause-part
-text_here-requires-clause-part c =
+pub text_here-requires-clause-phrase : goal.text_here-requires-clause-phrase
+text_here-requires-clause-phrase c =
     subst (λ (u : Text). is_phrase row.ALPHA u ≡ true) (sym c.rest_after-side.ensures)
     (side_part c.args.text.now c.in-Ok.found.1.now c.requires.phrase c.requires.kind c.in-Ok.ensures.place.1 (search rules) (search rules))
 
