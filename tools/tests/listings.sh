@@ -194,11 +194,17 @@ make_small_checkout() { # FOLDER
     for name in b2_base b2_text b2_mvp; do mkdir -p "$1/crates/$name/src"; echo "// $name" >"$1/crates/$name/src/lib.rt"; done
     cat >"$1/bin/rt" <<'RT'
 #!/bin/sh
-case $1 in
-    all) for name in b2_base b2_text; do mkdir -p "crates/$name/out/rlib"; touch "crates/$name/out/rlib/stamp"; echo "proved $name"; sleep 1.2; done ;;
-    run) [ ! -e ../../is_broken ] || { echo 'not proved'; exit 1; }
-        mkdir -p out; printf '#!/bin/sh\necho turns 1 steps 1 dropped 0 apart 1\n' >out/b2_mvp; chmod +x out/b2_mvp ;;
-esac
+[ "$*" = ci ] || exit 2
+here=$(dirname "$0")
+for name in b2_base b2_text b2_mvp; do
+    if cmp -s "crates/$name/src/lib.rt" "$here/$name"; then echo "rt: $name is kept: an earlier run proved the same files"; continue; fi
+    [ ! -e "$here/is_broken" ] || { echo "rt: $name NOT PROVED"; exit 1; }
+    echo "rt: $name proved"
+    cp "crates/$name/src/lib.rt" "$here/$name"
+done
+mkdir -p crates/b2_mvp/out
+printf '#!/bin/sh\necho turns 1 steps 1 dropped 0 apart 1\n' >crates/b2_mvp/out/b2_mvp
+chmod +x crates/b2_mvp/out/b2_mvp
 RT
     chmod +x "$1/bin/rt"
 }
@@ -212,7 +218,7 @@ building_tells_each_crate() {
     is_text "building" told 'b2: proving and building the program, 3 crates; from nothing it takes ..., and later what has changed
 b2: crate 1 of 3: b2_base
 b2: crate 2 of 3: b2_text
-b2: crate 3 of 3: b2_mvp is being proved, as the last one\n'
+b2: crate 3 of 3: b2_mvp\n'
     gives 0 "building: what is built" env PATH="$PWD/small/bin:$PATH" small/b2 run a b c
     is_empty "building: what is built" "$work/err"
     sleep 1
@@ -221,9 +227,9 @@ b2: crate 3 of 3: b2_mvp is being proved, as the last one\n'
     has "building: how long it took here" "$work/err" "from nothing it takes 1 minutes on the $(nproc) processors here, and later what has changed"
     sleep 1
     echo '// changed' >>small/crates/b2_mvp/src/lib.rt
-    : >small/is_broken
+    : >small/bin/is_broken
     gives 127 "building: what isn't proved" env PATH="$PWD/small/bin:$PATH" TMPDIR="$work" small/b2 run a b c
-    has "building: what isn't proved" "$work/err" 'not proved'
+    has "building: what isn't proved" "$work/err" 'b2_mvp NOT PROVED'
     has "building: what isn't proved" "$work/err" 'b2: the program could not be built'
     gives 127 "building: no toolchain" env PATH=/usr/bin:/bin small/b2 run a b c
     has "building: no toolchain" "$work/err" 'the command rt of the Rattle toolchain is not on the PATH'
