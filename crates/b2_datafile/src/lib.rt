@@ -11,9 +11,9 @@
 //! call gives is a function of the image, and a relation besides; `laws` says that the functions say what the relations do.
 #![tactic(auto)]
 
+pub mod end_sector;
 pub mod laws;
 mod loading;
-pub mod end_sector;
 mod moving;
 mod opening;
 mod saving;
