@@ -17,7 +17,7 @@ loop-word-init c =
 pub comparison-other-requires : goal.comparison-other-requires
 comparison-other-requires c =
     record {
-      part = condition_item (in_statement (surroundings c.args.e.now)) c.args.text.now c.loop-word.holds c.loop-word.left.now c.loop-word.invariant (sym c.goes_on.ensures ∙ c.loop-word-test.true)
+      phrase = condition_item (in_statement (surroundings c.args.e.now)) c.args.text.now c.loop-word.holds c.loop-word.left.now c.loop-word.invariant (sym c.goes_on.ensures ∙ c.loop-word-test.true)
           c.rest_after-item.result.now c.rest_after-item.ensures;
     }
 

@@ -12,4 +12,4 @@ devices_at-requires c =
     let text = c.rest_after-text.ensures in
     let named = sym (c.if-is_line_at.ensures ∙ ap (λ (u : List ℕ). starts Atoms start.Line u) text) in
     let there = c.rest_after-then-is_line_at.ensures ∙ ap (drop 1) (c.rest_after.ensures ∙ ap (drop 3) text) in
-    record { part = subst (λ (u : List ℕ). is_phrase row.DEVICES u ≡ true) (sym there) (devices_after c.args.unit.now c.requires.phrase named) }
+    record { phrase = subst (λ (u : List ℕ). is_phrase row.DEVICES u ≡ true) (sym there) (devices_after c.args.unit.now c.requires.phrase named) }

@@ -9,7 +9,7 @@ use Rattle.b2_stmt_var.proofs.fast.assign_element.Goals as goal
 pub number_here-x-requires : goal.number_here-x-requires
 number_here-x-requires c =
     record {
-      part = subst (λ (u : Text). is_phrase row.SUM u ≡ true) (sym c.rest_after.ensures)
+      phrase = subst (λ (u : Text). is_phrase row.SUM u ≡ true) (sym c.rest_after.ensures)
           (sum_part c.args.text.now c.in-Ok.found.1.now c.requires.phrase c.requires.kind c.in-Ok.ensures.place.1 (search rules));
     }
 
