@@ -12,7 +12,7 @@ itself : (n : ℕ) → (n == n) ≡ true
 itself n = grind (arith, nat_tests)
 
 among_both : (p steps : ℕ) (xs ys : List Event) → turns_among p steps (xs ++ ys) ≡ turns_among p steps xs + turns_among p steps ys
-among_both p steps [] ys = refl
+among_both p steps [] ys = omega arith
 among_both p steps (x ∷ xs) ys = let rest = among_both p steps xs ys in omega arith
 
 module _ (b : BootState) (p : ℕ) where
@@ -45,18 +45,18 @@ module _ (b : BootState) (p : ℕ) where
 
   one_among : (n a : ℕ) → a ≤ p → p < a + n → has_number b.partitions p ≡ true → count (own_turns b a n) ≡ 1
   one_among zero a low high there = absurd (omega arith)
-  one_among (suc n) a low high there = by (a == p) refl
+  one_among (suc n) a low high there = by (a == p) refl (λ further. one_among n (a + 1) further (omega arith) there)
     where
-      by : (same : Bool) → (a == p) ≡ same → count (own_turns b a (suc n)) ≡ 1
-      by true is =
+      by : (same : Bool) → (a == p) ≡ same → (a + 1 ≤ p → count (own_turns b (a + 1) n) ≡ 1) → count (own_turns b a (suc n)) ≡ 1
+      by true is after =
           let same : a ≡ p = grind (arith, nat_tests) in
           let here : count (turn_kept a) ≡ 1 = subst (λ (q : ℕ). count (turn_kept q) ≡ 1) (sym same) (of_itself there) in
           let later = none_after n (a + 1) (omega arith) in
           among_both p (quota_at p (quotas_of b)) (turn_kept a) (own_turns b (a + 1) n) ∙ (λ i. here i + later i)
-      by false is =
+      by false is after =
           let further : a + 1 ≤ p = grind (arith, nat_tests) in
           let here = of_another a (has_number b.partitions a) is in
-          let later = one_among n (a + 1) further (omega arith) there in
+          let later = after further in
           among_both p (quota_at p (quotas_of b)) (turn_kept a) (own_turns b (a + 1) n) ∙ (λ i. here i + later i)
 
   each_round : (n : ℕ) → 1 ≤ p → p ≤ 16 → has_number b.partitions p ≡ true → count (own_rounds b n) ≡ n
