@@ -10,14 +10,14 @@ from machine import Refused, bytes_of
 
 SECTIONS = {"boot": "The boot file", "log": "The log", "image": "Disk images"}
 # The keys of each table of a boot file, of which those in brackets may be left out.
-KEYS = {"": "quota terminal partition [platter] [printer]", "terminal": "number front",
-        "partition": "number terminal text data globals [disk] [program]", "platter": "address [image] [blank] [for] [version]",
+KEYS = {"": "quota terminal partition [platter] [printer]", "terminal": "number front [order]",
+        "partition": "number terminal text data globals [disk] [program] [quota]", "platter": "address [image] [blank] [for] [version]",
         "printer": "address [for]"}
 # Which keys a check looks at.
 OF_A_CHECK = {"4": [("terminal", "number")], "5": [("partition", "number")], "7": [("partition", "terminal")], "8": [("terminal", "front")],
               "9": [("platter", "image")], "10": [("platter", "address"), ("printer", "address")],
               "11": [("platter", "for"), ("printer", "for")], "12": [("partition", "disk")], "13": [("partition", "program")],
-              "14": [("platter", "image")], "6": [("partition", "text"), ("partition", "data"), ("partition", "globals")]}
+              "14": [("platter", "image")], "15": [("terminal", "order")], "6": [("partition", "text"), ("partition", "data"), ("partition", "globals")]}
 
 
 def sentence(kind, check):
@@ -75,7 +75,7 @@ def tables_and_keys(text):
     table = ""
     for place, row in enumerate(text.split("\n"), 1):
         header = re.match(r" *\[\[ *(\w+) *\]\]", row)
-        pair = re.match(r" *(\w+) *= *(\"[^\"]*\"|[^#\s]+)", row)
+        pair = re.match(r" *(\w+) *= *(\"[^\"]*\"|\[[^\]#]*\]|[^#\s]+)", row)
         if header:
             table = header[1]
             yield place, table, None, None
@@ -105,6 +105,8 @@ def first_odd_key(rows, _check):
 def is_of_another_kind(key, value):
     if key in ("address", "image", "disk", "program"):
         return value.isdigit() and key != "address"
+    if key == "order":
+        return not re.fullmatch(r"\[ *(-?\d+ *, *)*(-?\d+ *)?\]", value)
     return not re.fullmatch(r"-?\d+", value) or key == "quota" and not 1 <= int(value) <= 1000 or key == "version" and value not in ("1", "2")
 
 
@@ -130,10 +132,25 @@ def first_odd_value(rows, check):
                  "8": value not in partitions, "9": twice,
                  "10": twice or not re.fullmatch(r"[3BD][0-9A-F]{2}" if table == "platter" else r"2[0-9A-F]{2}", value),
                  "11": value not in partitions, "12": value not in platters,
-                 "13": not 1 <= len(value) <= 8, "14": not re.fullmatch(r"[A-Za-z0-9._/-]{1,190}", value)}
+                 "13": not 1 <= len(value) <= 8, "14": not re.fullmatch(r"[A-Za-z0-9._/-]{1,190}", value),
+                 "15": check == "15" and not is_order(rows, place, value)}
         if fails[check]:
             return place, f"{key} = {value}"
     return None
+
+
+def is_order(rows, place, value):
+    """Whether the list on a line has partitions of the terminal in whose table it stands, at least one, and none twice."""
+    numbers, tables = re.findall(r"-?\d+", value), []
+    for at, table, key, said in rows:
+        if key is None:
+            tables.append((table, {}, []))
+        elif tables:
+            tables[-1][1][key] = said
+            tables[-1][2].append(at)
+    terminal = next(keys.get("number") for _, keys, places in tables if place in places)
+    there = [keys.get("number") for table, keys, _ in tables if table == "partition" and keys.get("terminal") == terminal]
+    return 0 < len(numbers) == len(set(numbers)) and set(numbers) <= set(there)
 
 
 def in_range(value, low, high):

@@ -85,6 +85,7 @@ HABITS = [Habit(*row) for row in [
     ('SCRATCH F "P"', "S27", r"^[FR]\b", 'T, or T/D12 for another disk: SCRATCH T,"P"', 'DATASAVE DC OPEN T,5,"H":SCRATCH T,"H"'),
     ("DATALOAD BA T(0,L)A$()", "S22", r"\bDATA ?(LOAD|SAVE) *(BA|DA)\b", "records of a file by DATALOAD DC and DATASAVE DC; sectors are not reached by their numbers",
      'DATASAVE DC OPEN T,5,"S":DATASAVE DC A$'),
+    ("$RELEASE TERMINAL TO 2", "S25", r"\$RELEASE *TERMINAL *TO\b", "leave TO and the partition out: the order in the boot file says whose it is then", "$RELEASE TERMINAL"),
     ("$GIO/005", "S27", r"^\$(GIO|IF|TRAN|FORMAT|INIT|MSG|PSTAT)", "leave it out: no program talks to a device by itself", "PRINT"),
 ]]
 

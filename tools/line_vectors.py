@@ -290,6 +290,8 @@ LINES = [
     ("$RELEASE TERMINALS", "S25 18"),
     ("$RELEASE 1 TERMINAL", "S22 10"),
     ("$ RELEASE TERMINAL", "S14 1"),
+    ("$RELEASE TERMINAL:PRINT " + "1+" * 125 + "1", "{$RELEASE}{TERMINAL}:{PRINT}" + "1+" * 125 + "1"),
+    ("$RELEASE TERMINAL:PRINT " + "1+" * 126 + "1", "A05"),
     ("TERMINAL", "S14 1"),
     ("TERMINAL=1", "S14 1"),
     ("$OPEN /D11", "{$OPEN}/D11"),

@@ -17,6 +17,8 @@ import tomllib
 LOG_STEPS = 5_000_000
 LOG_BYTES = 4_194_304
 QUEUE = 128
+# So many turns a program passes at the most by one `$BREAK`.
+MOST_PASSED = 255
 BLANK = 1024
 TOP = os.path.dirname(os.path.dirname(os.path.realpath(__file__)))
 
@@ -77,6 +79,7 @@ class Boot:
             self.quota = int(table["quota"])
             self.parts = sorted(table["partition"], key=lambda part: int(part["number"]))
             self.places = {int(part["number"]): int(part["terminal"]) for part in self.parts}
+            self.quotas = {int(part["number"]): int(part.get("quota", self.quota)) for part in self.parts}
             self.fronts = {int(row["number"]): int(row["front"]) for row in table["terminal"]}
             self.platters, self.printers = table.get("platter", []), table.get("printer", [])
             self.images = {row["address"]: row["image"] for row in self.platters if "image" in row}
@@ -89,6 +92,9 @@ class Boot:
 
     def terminals(self):
         return sorted(self.fronts)
+
+    def steps_of_a_round(self):
+        return sum(self.quotas.values())
 
     def spelled(self, images):
         """The boot file once more, with these names of images by their addresses."""

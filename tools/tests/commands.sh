@@ -127,6 +127,27 @@ try_answers() {
     is_empty "try: an answer of 200 bytes" "$work/err"
 }
 
+# A program that passes turns goes on after them, and doesn't wait for an answer meanwhile.
+try_passes_turns() {
+    printf '10 FOR I=1 TO 3:$BREAK 255:NEXT I:PRINT "DONE"\n' >listing.bas
+    gives 0 "try: turns that a program passes" ./b2 try listing.bas
+    is_text "try: turns that a program passes" "$work/out" 'RUN\nDONE\n:'
+    is_empty "try: turns that a program passes" "$work/err"
+    printf '10 $BREAK 200:INPUT "A",A:$BREAK 200:PRINT A*A\n' >listing.bas
+    answered 0 "try: an answer between passed turns" '7\n' ./b2 try listing.bas
+    is_text "try: an answer between passed turns" "$work/out" 'RUN\nA? 7\n 49 \n:'
+    answered 21 "try: no answer after passed turns" '' ./b2 try listing.bas
+    is_text "try: no answer after passed turns" "$work/out" 'RUN\nA? '
+    printf '10 KEYIN A$,100,100:$BREAK 20:GOTO 10\n100 PRINT "A KEY"\n' >listing.bas
+    gives 20 "try: a program that polls" ./b2 try --steps 3000 listing.bas
+    is_text "try: a program that polls" "$work/out" 'RUN\n'
+    is_text "try: a program that polls" "$work/err" \
+        'try: the steps ran out; --steps N grants more, and a log has at most 5000000\n'
+    printf '10 REM $BREAK 5\n20 $BREAK:PRINT "ON"\n' >listing.bas
+    gives 0 "try: a number that isn't there" ./b2 try listing.bas
+    is_text "try: a number that isn't there" "$work/out" 'RUN\nON\n:'
+}
+
 try_gives_special_keys() {
     printf '%s\n' '10 PRINT "READY FOR KEYS":END' "20 DEFFN'0:PRINT \"ZERO\":RETURN" "30 DEFFN'31\"PRINT 7\"" \
         "40 DEFFN'5:LINPUT \"NAME\",N\$:PRINT N\$:RETURN" >listing.bas
@@ -353,6 +374,21 @@ vary_gives_more_turns() {
     write_tight_log "$(for ((; turns > 0; turns--)); do echo 'turn 9 1000'; done)\nturn 9 350\n"
     gives 20 "vary: no more turns" ./b2 vary examples/orders.toml tight.log 20
     has "vary: no more turns" "$work/out" "of them somebody may only have come too late for a key: the log's limits leave no more turns"
+}
+
+# Each partition keeps the steps that its own quota gives it, and one that passes turns isn't taken for one that waits.
+vary_counts_quotas() {
+    local line
+    awk '/^\[\[partition\]\]/ { parts++ } { print } parts == 1 && /^globals/ { print "quota = 3" }' examples/two.toml >unlike.toml
+    for line in 'type 1 10 GOTO 10' 'type 1 RUN' 'type 2 10 GOTO 10' 'type 2 RUN' 'rounds 8'; do echo "$line"; done >steps.log
+    gives 0 "vary: quotas" ./b2 vary --show 1 unlike.toml steps.log
+    awk '/^turn/ { steps[$2] += $3 } END { print steps[1], steps[2] }' vary.log >"$work/got"
+    is_text "vary: the steps of each quota" "$work/got" '24 160\n'
+    for line in 'type 1 10 $BREAK 200:PRINT "LATE"' 'type 1 RUN' 'type 2 10 FOR I=1 TO 9:NEXT I:PRINT "DONE"' 'type 2 RUN' 'rounds 30' \
+        'type 1 PRINT 1' 'rounds 9'; do echo "$line"; done >poller.log
+    gives 0 "vary: turns that are passed" ./b2 vary unlike.toml poller.log 20
+    is_text "vary: turns that are passed" "$work/out" '39 rounds and 0 turns of the log come in another order
+terminal 1: otherwise in 0 of 20\nterminal 2: otherwise in 0 of 20\n'
 }
 
 # A stand-in for the program, that says who is apart, and shows at terminal 1 what a command makes of the log.
@@ -637,6 +673,7 @@ run_meets_a_limit_of_files
 run_meets_a_limit_of_memory
 try_runs_a_listing
 try_answers
+try_passes_turns
 try_gives_special_keys
 try_ends_with_its_status
 try_refuses
@@ -647,6 +684,7 @@ vary_finds_what_depends_on_the_order
 vary_shows_an_order
 vary_leaves_alone_what_is_apart
 vary_gives_more_turns
+vary_counts_quotas
 vary_moves_single_turns
 vary_ends_in_a_message
 vary_reports_a_fault_of_the_machine

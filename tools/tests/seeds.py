@@ -32,6 +32,8 @@ SCENES = [
     ['SCRATCH DISK T,LS=1,END=15', 'DATASAVE DC OPEN T,4,"F":DATASAVE DC #0,1,"A":DATASAVE DC END', '10 DBACKSPACE BEG', '20 DATALOAD DC A,A$:PRINT A;A$',
      '30 IF END THEN 50:GOTO 20', '50 PRINT "END"', 'RUN'],
     ['10 $OPEN /D11,/215', '20 SELECT PRINT 215:PRINT "A";', '30 $BREAK:$CLOSE', '40 GOTO 10', 'RUN'],
+    ['10 PRINT "A":$RELEASE TERMINAL', '20 I=I+1:IF I<3 THEN 10', 'RUN', '$RELEASE TERMINAL:PRINT #PART', '$RELEASE TERMINAL'],
+    ['10 KEYIN A$,20,20:$BREAK 3:GOTO 10', '20 PRINT A$;:$BREAK 255', 'RUN', 'X'],
     ['10 INPUT "A",A,B$', '20 LINPUT C$:KEYIN D$', '30 PRINT A;B$;C$;D$', 'RUN', '5,X', 'A LINE', 'KEY', '7', ''],
     ['10 GOSUB 10', 'RUN', 'PRINT ((((1))))', '10 DEFFN A(X)=FNA(X)', 'PRINT FNA(1)'],
     ['DIM A$(9)9,B(3,3),C$(9)2,D$(9)2', 'MAT B=CON:MAT B=B+B', 'MAT SORT A$() TO C$(),D$()', 'MAT COPY A$() TO C$()', 'PRINT B(2,2)'],
@@ -193,6 +195,10 @@ class Maker:
         printers = self.some_of(PRINTERS, self.one([0, 1, 1, 2]))
         table = {'quota': self.one([1, 2, 20, 20, 50, 1000])}
         table['terminal'] = [{'number': place, 'front': self.one(part for part in parts if places[part] == place)} for place in terminals]
+        for row in table['terminal']:
+            if self.happens(.4):
+                there = [part for part in parts if places[part] == row['number']]
+                row['order'] = chance.sample(there, chance.randint(1, len(there)))
         table['partition'] = [{'number': part, 'terminal': places[part], 'text': self.one([2, 3, 8, 24]), 'data': self.one([2, 8, 24]),
                                'globals': self.one([0, 1, 2, 8])} for part in parts]
         table['platter'] = [{'address': address, **self.one([{'image': f'image{count}'}, {'blank': self.one([16, 17, 64, 300])}, {'blank': self.one([16, 64, 300]), 'version': self.one([1, 2, 2])}])}
@@ -202,6 +208,8 @@ class Maker:
             if self.happens(.1):
                 row['for'] = self.one(parts)
         for row in table['partition']:
+            if self.happens(.3):
+                row['quota'] = self.one([1, 2, 20, 50, 1000])
             usable = [one['address'] for one in table['platter'] if one.get('for', row['number']) == row['number']]
             if usable and self.happens(.9):
                 row['disk'] = self.one(usable)
@@ -222,7 +230,7 @@ class Maker:
             return
         match self.one(['value', 'value', 'drop', 'other', 'row', 'no row']):
             case 'value':
-                row[self.one(row)] = self.one([*EDGES, 'X', '', 'D1', 'd11', 'image0', True])
+                row[self.one(row)] = self.one([*EDGES, 'X', '', 'D1', 'd11', 'image0', True, [], [1, 1], [0], [1.5], ['1']])
             case 'drop':
                 row.pop(self.one(row))
             case 'other':

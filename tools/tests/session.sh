@@ -104,7 +104,30 @@ shared_terminal() {
     rm -f s.log*
     begin_session examples/front.toml
     see READY && see : && send '10 FOR I=1 TO 5000:NEXT I:PRINT "DONE"\r' && see '\n:' && send 'RUN\r' && see 'RUN\r' &&
-        send '\020' && see READY && send 'PRINT #PART\r' && see ' 2 \r' && send '\020' && see 'DONE\r'
+        send '\020' && see READY && send 'PRINT #PART\r' && see ' 2 \r' && send '\020' && see 'DONE\r' &&
+        send '$RELEASE TERMINAL\r' && see 'TERMINAL\r' && send 'PRINT #PART\r' && see ' 2 \r' &&
+        send '\020' && send 'PRINT #PART\r' && see ' 1 \r'
+    send '\004'
+    end_session 0
+    replays
+}
+
+# A program that passes turns goes on without a key, alone and beside one that waits, and HALT stops one that passes.
+passed_turns() {
+    session="a session with a program that passes turns"
+    rm -f s.log*
+    begin_session
+    see READY && see : && send '10 FOR I=1 TO 3:$BREAK 100:NEXT I:PRINT "ON";I\r' && see '\n:' && send 'RUN\r' && see 'RUN\r' &&
+        see 'ON 4 ' && see '\n:' && send '10 KEYIN A$,100,100:$BREAK 20:GOTO 10\r' && see '\n:' &&
+        send '100 PRINT "A KEY"\r' && see '\n:' && send 'RUN\r' && see 'RUN\r' && send 'X' && see 'A KEY' && see '\n:' &&
+        send '10 $BREAK 255:GOTO 10\r' && see '\n:' && send 'RUN\r' && see 'RUN\r' && send '\003' && see HALT
+    send '\004'
+    end_session 0
+    replays
+    session="a session of one that passes turns beside one that waits"
+    rm -f s.log*
+    begin_session examples/two.toml
+    see READY && see : && send '10 FOR I=1 TO 3:$BREAK 100:NEXT I:PRINT "ON";I\r' && see '\n:' && send 'RUN\r' && see 'ON 4 '
     send '\004'
     end_session 0
     replays
@@ -413,6 +436,7 @@ if command -v script >/dev/null 2>&1; then
     one_terminal
     two_terminals
     shared_terminal
+    passed_turns
     devices
     signals
     limits

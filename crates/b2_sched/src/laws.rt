@@ -109,7 +109,8 @@ pub fn law_who_is_clean_is_as_alone()
     ensures { CleanOnesAreAsAlone }
 {}
 
-/// A boot that passed its checks has few devices, each address once, and programs whose names can stand in a line.
+/// A boot that passed its checks has few devices, each address once, programs whose names can stand in a line, and orders of
+/// terminals with a partition each, and none twice.
 pub fn law_a_boot_can_start()
     ensures { (b : BootState) → IsGood b → CanStart b }
 {}
