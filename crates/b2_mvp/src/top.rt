@@ -15,7 +15,7 @@ use b2_look::{View, show};
 use b2_platter::Platter;
 use b2_sched::World;
 use b2_status::{Status, put_last};
-use b2_store::{Ends, Stores};
+use b2_store::{Ends, PlainStores, Stores};
 use std::alloc::Global;
 
 /// What a run is given: where its boot and its log come from, the front of the outputs' names, and the partitions that are to be
@@ -230,6 +230,20 @@ fn run_job<S: Ends + Drop, F: Shelf, O: Sink>(
     deliver(&job.out, &inputs.boot, &ready, shelf, sink)
 }
 
+/// Does a job: of a group alone over the store in two lists, and else over the one in rows.
+fn run_over<F: Shelf, O: Sink>(alloc: Global, job: Job, shelf: &mut F, sink: &mut O) -> Status
+    requires { IsReady job }
+    ensures { JobEnds job
+        (shelf_seen F.files F.faults F.misses F.longs shelf.old) (shelf_seen F.files F.faults F.misses F.longs shelf.new)
+        (sink_seen O.written O.faults sink.old) (sink_seen O.written O.faults sink.new) result }
+{
+    if job.group.is_some() {
+        run_job::<PlainStores, F, O>(alloc, job, shelf, sink)
+    } else {
+        run_job::<Stores, F, O>(alloc, job, shelf, sink)
+    }
+}
+
 /// Does what the words say.
 fn run_words<F: Shelf, O: Sink>(
     alloc: Global,
@@ -243,7 +257,7 @@ fn run_words<F: Shelf, O: Sink>(
 {
     match read_command(words) {
         None => Status::Usage,
-        Some(Command::Run(job)) => run_job::<Stores, F, O>(alloc, job, shelf, sink),
+        Some(Command::Run(job)) => run_over(alloc, job, shelf, sink),
         Some(Command::Show(view, name)) => show(alloc, view, name, shelf, sink),
     }
 }

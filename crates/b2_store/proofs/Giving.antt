@@ -1,5 +1,5 @@
 -- Entering a text, leaving it and giving texts back: what is looked at is as it was, and what is put is what the rows have.
-use Rattle.std.specs.Prelude.{◌≡◌, ℕ, suc, ◌<◌, ◌==◌, nat_lt, Bool, true, false, List, [], ◌∷◌, ◌++◌, Option, Some, None, Result, Ok, Err, if◌then◌else◌, refl}
+use Rattle.std.specs.Prelude.{◌≡◌, ℕ, suc, ◌<◌, ◌==◌, nat_lt, Bool, true, false, List, [], ◌∷◌, ◌++◌, Option, Some, None, is_some, Result, Ok, Err, if◌then◌else◌, refl}
 use Rattle.std.specs.Cmp.{unsigned_Decides}
 use Rattle.std.proofs.Common.{sym, ap, ◌∙◌, arith}
 use Rattle.b2_base.specs.declared.codes.TheConstants.{A01_TEXT_AREA, P38_NO_DEFFN}
@@ -10,19 +10,20 @@ use Rattle.b2_access.specs.declared.accesses.Access.TheVariants as access
 use Rattle.b2_access.specs.declared.accesses.Answer.{Answer}
 use Rattle.b2_access.specs.declared.accesses.Answer.TheVariants as answer
 use Rattle.b2_access.specs.declared.objects.Object.TheVariants as object
-use Rattle.b2_access.specs.AccessRows.{EditTask, becomes_text, clears, clears_both, clears_own, clears_text, drops, edits, enters, enters_at, erases, leaves, loads, loads_from, loads_lines, loads_nothing, loads_text, mark_in, puts_atoms, row, stands_inside, stays_text}
+use Rattle.b2_access.specs.AccessRows.{becomes_text, clears, clears_both, clears_own, clears_text, edits, enters, enters_at, erases, leaves, loads, loads_from, loads_lines, loads_nothing, loads_text, mark_in, no_lines, puts_atoms, row, stands_inside, stays_text}
 use Rattle.b2_access.specs.Borrowers.{all_partitions, homes_marked, is_marked, marked_among, without, without_last}
 use Rattle.b2_access.specs.Contents.{row_other}
 use Rattle.b2_access.specs.Rows.{NameRows, row_of, with_row}
 use Rattle.b2_access.specs.Serving.{performs}
 use Rattle.b2_access.specs.Sharing.{Gives}
-use Rattle.b2_access.specs.Store.{StoreState, content, holder_of}
+use Rattle.b2_access.specs.Store.{StoreState, content, holder_of, put}
 use Rattle.b2_access.specs.Task.{Refuse}
 use Rattle.b2_access.proofs.Holders.{clears_first, drops_first, edits_first, given_back as back, given_back_from, given_up, gone, loads_first, performs_on}
 use Rattle.b2_store.specs.DiskWork.{disks}
-use Rattle.b2_store.specs.Giving.{given, given_unless_refused}
-use Rattle.b2_store.specs.Inside.{InsideRows, changed_at, entered, given_back, given_one_back, left}
-use Rattle.b2_store.specs.Names.{without_name}
+use Rattle.b2_store.specs.Cleared.{globals_cleared, globals_cleared_at, text_cleared, text_cleared_at}
+use Rattle.b2_store.specs.Giving as giving
+use Rattle.b2_store.specs.Inside as standing
+use Rattle.b2_store.proofs.GivenRows.{InsideRows, back_by_rows, changed_at, given, given_back, given_by_rows, given_unless_refused, unless_by_rows, without_name}
 use Rattle.b2_store.proofs.Naming.{names_left}
 
 -- a store with other rows of those who stand inside, and of names
@@ -102,24 +103,24 @@ module _ (who : ℕ) (s : StoreState) where
       → ◌≡◌ {A = Gives StoreState} (record { after = s; answer = answer.Refused P38_NO_DEFFN }) (performs ((row (access.Enter name mark)).does disks who (holder_of s name)) s)
   unmarked_text name mark g held none = sym (ap (λ (h : Option ℕ). performs (enters who name mark h) s) held ∙ ap (λ (o : Option Spot). performs (enters_at who name g o) s) none)
 
-  stands : (name : List ℕ) (g : ℕ) (spot : Spot) (c : Option (List ℕ)) → ◌≡◌ {A = Gives StoreState} (record { after = record s { borrows = changed_at c (λ parts. parts ++ who ∷ []) g s.borrows }; answer = answer.Entered g spot }) (performs (stands_inside who name g spot c) s)
+  stands : (name : List ℕ) (g : ℕ) (spot : Spot) (c : Option (List ℕ)) → ◌≡◌ {A = Gives StoreState} (record { after = standing.changed_at c (λ parts. parts ++ who ∷ []) g s; answer = answer.Entered g spot }) (performs (stands_inside who name g spot c) s)
   stands name g spot None = refl
   stands name g spot (Some parts) = refl
 
   pub entered_text : (name : List ℕ) (mark g : ℕ) (spot : Spot) → holder_of s name ≡ Some g → mark_in mark (content s (object.Text g)) ≡ Some spot
-      → ◌≡◌ {A = Gives StoreState} (record { after = record s { borrows = entered who g s.borrows }; answer = answer.Entered g spot }) (performs ((row (access.Enter name mark)).does disks who (holder_of s name)) s)
+      → ◌≡◌ {A = Gives StoreState} (record { after = standing.entered who g s; answer = answer.Entered g spot }) (performs ((row (access.Enter name mark)).does disks who (holder_of s name)) s)
   entered_text name mark g spot held found =
-      stands name g spot (row_of g s.borrows) ∙ sym (ap (λ (h : Option ℕ). performs (enters who name mark h) s) held ∙ ap (λ (o : Option Spot). performs (enters_at who name g o) s) found)
+      stands name g spot (content s (object.Borrow g)) ∙ sym (ap (λ (h : Option ℕ). performs (enters who name mark h) s) held ∙ ap (λ (o : Option Spot). performs (enters_at who name g o) s) found)
 
-  leaves_by : (home : ℕ) (c : Option (List ℕ)) → gone (record s { borrows = changed_at c (without_last who) home s.borrows }) ≡ performs (leaves who home c) s
+  leaves_by : (home : ℕ) (c : Option (List ℕ)) → gone (standing.changed_at c (without_last who) home s) ≡ performs (leaves who home c) s
   leaves_by home None = refl
   leaves_by home (Some parts) = refl
 
-  pub left_text : (home : ℕ) → gone (record s { borrows = left who home s.borrows }) ≡ performs ((row (access.Leave home)).does disks who None) s
-  left_text home = leaves_by home (row_of home s.borrows)
+  pub left_text : (home : ℕ) → gone (standing.left who home s) ≡ performs ((row (access.Leave home)).does disks who None) s
+  left_text home = leaves_by home (content s (object.Borrow home))
 
-  pub dropped_texts : (homes : ℕ) → gone (record s { borrows = given_back who (homes_marked homes) s.borrows }) ≡ performs ((row (access.Drop homes)).does disks who None) s
-  dropped_texts homes = sym (drops_first who (homes_marked homes) s ∙ ap gone (given_with homes s.names))
+  pub dropped_texts : (homes : ℕ) → gone (standing.given_back who (homes_marked homes) s) ≡ performs ((row (access.Drop homes)).does disks who None) s
+  dropped_texts homes = ap gone (back_by_rows who (homes_marked homes) s) ∙ sym (drops_first who (homes_marked homes) s ∙ ap gone (given_with homes s.names))
 
   -- EDITS: what is done to the text, and then given
   module _ (homes : ℕ) where
@@ -175,19 +176,39 @@ module _ (who : ℕ) (s : StoreState) where
       loads_given None = nothing_loaded
       loads_given (Some image) = loads_into image (content s (object.Text who))
 
-    -- as the methods end
+    -- as the functions end
     pub line_put : (n : ℕ) (atoms : List ℕ) (m : StoreState) (x : Answer) → record { after = m; answer = x } ≡ performs ((row (access.PutLine n (Some atoms) 0)).does disks who None) s
-        → ◌≡◌ {A = Gives StoreState} (record { after = given_unless_refused who homes None x m; answer = x }) (performs ((row (access.PutLine n (Some atoms) homes)).does disks who None) s)
-    line_put n atoms m x is = ap (then_given None) is ∙ puts_given n atoms (content s (object.Text who))
+        → ◌≡◌ {A = Gives StoreState} (record { after = giving.given_unless_refused who homes None x m; answer = x }) (performs ((row (access.PutLine n (Some atoms) homes)).does disks who None) s)
+    line_put n atoms m x is = ap (answered x) (unless_by_rows who homes None x m) ∙ ap (then_given None) is ∙ puts_given n atoms (content s (object.Text who))
 
     pub lines_erased : (from to : ℕ) (m : StoreState) → gone m ≡ performs ((row (access.Erase from to 0)).does disks who None) s
-        → gone (record m { borrows = given_back who (homes_marked homes) m.borrows }) ≡ performs ((row (access.Erase from to homes)).does disks who None) s
-    lines_erased from to m is = ap (then_given None) is ∙ erases_given from to (content s (object.Text who))
+        → gone (standing.given_back who (homes_marked homes) m) ≡ performs ((row (access.Erase from to homes)).does disks who None) s
+    lines_erased from to m is = ap gone (back_by_rows who (homes_marked homes) m) ∙ ap (then_given None) is ∙ erases_given from to (content s (object.Text who))
 
     pub all_cleared : (name : Option (List ℕ)) (m : StoreState) → gone m ≡ performs ((row (access.ClearAll None 0)).does disks who None) s
-        → gone (given who homes name m) ≡ performs ((row (access.ClearAll name homes)).does disks who None) s
-    all_cleared name m is = ap (then_given name) is ∙ clears_given name
+        → gone (giving.given who homes name m) ≡ performs ((row (access.ClearAll name homes)).does disks who None) s
+    all_cleared name m is = ap gone (given_by_rows who homes name m) ∙ ap (then_given name) is ∙ clears_given name
 
     pub program_loaded : (addr name : List ℕ) (replace : Bool) (declared : Option (List ℕ)) (m : StoreState) (x : Answer) → record { after = m; answer = x } ≡ performs ((row (access.LoadProgram addr name replace None 0)).does disks who None) s
-        → ◌≡◌ {A = Gives StoreState} (record { after = given_unless_refused who homes declared x m; answer = x }) (performs ((row (access.LoadProgram addr name replace declared homes)).does disks who None) s)
-    program_loaded addr name replace declared m x is = ap (then_given declared) is ∙ loads_given addr declared (disks.load_program name replace) (content s (object.Platter addr))
+        → ◌≡◌ {A = Gives StoreState} (record { after = giving.given_unless_refused who homes declared x m; answer = x }) (performs ((row (access.LoadProgram addr name replace declared homes)).does disks who None) s)
+    program_loaded addr name replace declared m x is =
+        ap (answered x) (unless_by_rows who homes declared x m) ∙ ap (then_given declared) is ∙ loads_given addr declared (disks.load_program name replace) (content s (object.Platter addr))
+
+  -- LINES AND `@` VARIABLES GO, where the text is listed
+  cleared_both : (t : TextState) (c : Option VarsState) → gone (globals_cleared_at c who (put (object.Text who) (no_lines t) s)) ≡ performs (clears_both who 0 None t c) s
+  cleared_both t None = refl
+  cleared_both t (Some v) = refl
+
+  cleared_listed : (c : Option TextState) → is_some c ≡ true → gone (globals_cleared who (text_cleared_at c who s)) ≡ performs (clears_text who 0 None c) s
+  cleared_listed None there = let never : false ≡ true = there in cc
+  cleared_listed (Some t) there = cleared_both t (content s (object.Globals who))
+
+  pub own_cleared : is_some (content s (object.Text who)) ≡ true → gone (globals_cleared who (text_cleared who s)) ≡ performs ((row (access.ClearAll None 0)).does disks who None) s
+  own_cleared there = cleared_listed (content s (object.Text who)) there
+
+  cleared_unlisted : (c : Option TextState) → is_some c ≡ false → gone (text_cleared_at c who s) ≡ performs (clears_text who 0 None c) s
+  cleared_unlisted None none = refl
+  cleared_unlisted (Some t) none = let never : true ≡ false = none in cc
+
+  pub own_unlisted : is_some (content s (object.Text who)) ≡ false → gone (text_cleared who s) ≡ performs ((row (access.ClearAll None 0)).does disks who None) s
+  own_unlisted none = cleared_unlisted (content s (object.Text who)) none

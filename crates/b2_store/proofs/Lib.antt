@@ -14,7 +14,12 @@ pub mod Others
 pub mod Sound
 pub mod Spares
 pub mod Loans
+pub mod GivenRows
 pub mod Naming
 pub mod NameWords
 pub mod Giving
 pub mod Entries
+pub mod KeptItems
+pub mod KeptNames
+pub mod KeptStart
+pub mod KeptWork

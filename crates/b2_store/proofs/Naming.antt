@@ -8,11 +8,13 @@ use Rattle.b2_access.specs.AccessRows.{DeclareTask, holds_name, is_held_by, is_h
 use Rattle.b2_access.specs.Rows.{NameRows, device_row, holder_in, with_device_row, with_or_added}
 use Rattle.b2_access.specs.Serving.{performs}
 use Rattle.b2_access.specs.Sharing.{Gives}
-use Rattle.b2_access.specs.Store.{StoreState}
+use Rattle.b2_access.specs.declared.objects.Object.TheVariants as object
+use Rattle.b2_access.specs.Store.{StoreState, content}
 use Rattle.b2_access.specs.Task.{Refuse}
 use Rattle.b2_access.proofs.Holders.{given_up, gives_up_first, performs_on, performs_same}
 use Rattle.b2_store.specs.DiskWork.{disks}
-use Rattle.b2_store.specs.Names.{freed_in, holding, named, without_name}
+use Rattle.b2_store.specs.Names.{freed_in, named}
+use Rattle.b2_store.proofs.GivenRows.{name_by_rows, without_name}
 
 abbrev done : StoreState → Gives StoreState
 done s = record { after = s; answer = answer.Done }
@@ -37,19 +39,19 @@ names_left who (Some name) s = by_row (device_row name s.names)
 
 module _ (who : ℕ) (s : StoreState) where
   -- a name that is declared
-  taken : (name : List ℕ) (old : Option (List ℕ)) → performs (takes_name who name old) s ≡ done (with_names (named who name old s.names) s)
+  taken : (name : List ℕ) (old : Option (List ℕ)) → performs (takes_name who name old) s ≡ done (named who name old s)
   taken name old =
       performs_same (takes_name who name old) s
       ∙ gives_up_first who old (λ o i. inr i) (λ o i. inr i) (holds_name who name old) s s (refl, refl)
-      ∙ ap (performs_on (holds_name who name old) s) (names_left who old s)
+      ∙ ap (performs_on (holds_name who name old) s) (names_left who old s ∙ sym (name_by_rows who old s))
 
   abbrev by_holder : (name : List ℕ) (old : Option (List ℕ)) → Bool → DeclareTask name old
   by_holder name old other = if other then Refuse X78_NAME_HELD else takes_name who name old
 
-  pub declared : (name : List ℕ) (old : Option (List ℕ)) → is_held_by_other who (holding name s.names) ≡ false
-      → done (with_names (named who name old s.names) s) ≡ performs ((row (access.Declare name old)).does disks who None) s
+  pub declared : (name : List ℕ) (old : Option (List ℕ)) → is_held_by_other who (content s (object.Name name)) ≡ false
+      → done (named who name old s) ≡ performs ((row (access.Declare name old)).does disks who None) s
   declared name old free = sym (taken name old) ∙ ap (λ b. performs (by_holder name old b) s) (sym free)
 
-  pub declared_by_another : (name : List ℕ) (old : Option (List ℕ)) → is_held_by_other who (holding name s.names) ≡ true
+  pub declared_by_another : (name : List ℕ) (old : Option (List ℕ)) → is_held_by_other who (content s (object.Name name)) ≡ true
       → ◌≡◌ {A = Gives StoreState} (record { after = s; answer = answer.Refused X78_NAME_HELD }) (performs ((row (access.Declare name old)).does disks who None) s)
   declared_by_another name old other = ap (λ b. performs (by_holder name old b) s) (sym other)

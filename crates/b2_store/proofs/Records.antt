@@ -30,7 +30,7 @@ use Rattle.b2_datafile.proofs.Fronts.{fills-more, long-groups}
 use Rattle.b2_datafile.proofs.FromFunctions.{place-goes, some-loaded}
 use Rattle.b2_datafile.proofs.Functions.{record-loaded}
 use Rattle.b2_datafile.proofs.SkippedRecords.{some-groups}
-use Rattle.b2_datafile.proofs.Saved.{saved, saved-good, saved-files, saved-front, with_end-files, with_end-good, with_end-whole}
+use Rattle.b2_datafile.proofs.Saved.{saved-good, saved-files, saved-front, with_end-files, with_end-good, with_end-whole}
 use Rattle.b2_access.specs.declared.accesses.Access.TheVariants as access
 use Rattle.b2_access.specs.declared.accesses.Answer.TheVariants as answer
 use Rattle.b2_access.specs.AccessRows.{loaded_answer, row}

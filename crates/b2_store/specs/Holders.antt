@@ -1,5 +1,5 @@
 -- Who holds devices, each of some gets a holder, and those among some that a partition holds.
-use Rattle.std.specs.Prelude.{ℕ, List, [], ◌∷◌, Option, Some, None, if◌then◌else◌}
+use Rattle.std.specs.Prelude.{ℕ, List, [], ◌∷◌, Option, if◌then◌else◌}
 use Rattle.b2_access.specs.declared.objects.Object.TheVariants as object
 use Rattle.b2_access.specs.AccessRows.{is_held_by}
 use Rattle.b2_access.specs.Store.{StoreState, content, put}

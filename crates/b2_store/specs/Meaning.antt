@@ -1,20 +1,33 @@
--- The store that a `Stores` means, and what its methods do.
+-- The store that a `Stores` means.
 use Rattle.std.specs.Prelude.{◌≡◌, ℕ, Option, Some, None, refl}
-use Rattle.b2_access.specs.declared.accesses.Access.{Access}
-use Rattle.b2_access.specs.declared.accesses.Answer.{Answer}
 use Rattle.b2_access.specs.declared.lending.At.{At}
-use Rattle.b2_access.specs.AccessRows.{holder_at, row}
+use Rattle.b2_access.specs.declared.objects.Object.{Object}
+use Rattle.b2_access.specs.declared.objects.Object.TheVariants as object
 use Rattle.b2_access.specs.Loans.{left_at, lender_at, with_globals_at, with_globals_of}
-use Rattle.b2_access.specs.Serving.{performs}
-use Rattle.b2_access.specs.Sharing.{Gives}
-use Rattle.b2_access.specs.Store.{StoreState}
+use Rattle.b2_access.specs.Rows.{with_device_row, with_name_row, with_row}
+use Rattle.b2_access.specs.Store.{ContentOf, StoreState, put}
 use Rattle.b2_vars.specs.Tables.{VarsState}
-use Rattle.b2_store.specs.DiskWork.{disks}
 use Rattle.b2_store.specs.declared.stores.Stores.{Stores}
 
 -- all but the allocator
 abbrev pub store_of : Stores → StoreState
 store_of s = record { texts = s.texts; borrows = s.borrows; globals = s.globals; terminals = s.terminals; printers = s.printers; platters = s.platters; hogs = s.hogs; names = s.names }
+
+-- with another content of an object
+abbrev pub with_content : (o : Object) → Stores → ContentOf o → Stores
+with_content (object.Text p) s c = record s { texts = with_row p s.texts c }
+with_content (object.Borrow p) s c = record s { borrows = with_row p s.borrows c }
+with_content (object.Globals p) s c = record s { globals = with_row p s.globals c }
+with_content (object.Terminal t) s c = record s { terminals = with_row t s.terminals c }
+with_content (object.Printer a) s c = record s { printers = with_device_row a s.printers c }
+with_content (object.Platter a) s c = record s { platters = with_device_row a s.platters c }
+with_content (object.Hog a) s c = record s { hogs = with_device_row a s.hogs c }
+with_content (object.Name n) s c = record s { names = with_name_row n s.names c }
+
+-- it means what a store is then
+pub means_put : (o : Object) (s : Stores) (c : ContentOf o) → store_of (with_content o s c) ≡ put o c (store_of s)
+means_put (object.Text p) s c = refl
+means_put o s c = refl
 
 -- after a loan that left these variables: as a plain store is then
 abbrev pub loan_ended : ℕ → At → Stores → VarsState → StoreState
@@ -31,7 +44,3 @@ means_so home whose s w = by (lender_at home whose (store_of s)) (left_at home w
     by None left = refl
     by (Some p) None = refl
     by (Some p) (Some v) = refl
-
--- what an access does that nothing stops, by its row, leads from one to another, with an answer
-abbrev pub Does : ℕ → Access → Stores → Stores → Answer → Type 0
-Does who a old new answer = ◌≡◌ {A = Gives StoreState} (record { after = store_of new; answer = answer }) (performs ((row a).does disks who (holder_at a (store_of old))) (store_of old))

@@ -1,18 +1,19 @@
-// The store: its rows, how each access is served, and what is lent.
-ghost use Rattle.std.specs.Prelude.{◌≡◌, ◌++◌, map, length, true, IfOk, IfErr};
+// The store in rows: how it starts, what is lent of it, and its ends.
+ghost use Rattle.std.specs.Prelude.{◌≡◌, ◌++◌, map, length, true, IfOk};
 ghost use Rattle.std.specs.List.{list_all};
-ghost use Rattle.b2_access.specs.Loans.{lender_at};
 ghost use Rattle.b2_access.specs.Store.{StoreState};
-ghost use Rattle.b2_access.specs.Touching.{IsLegal, MayWantMemory};
-ghost use Rattle.b2_store.specs.Asked.{IsGoodIfSkipped};
 ghost use Rattle.b2_store.specs.Start.{text_row, borrow_row, globals_row, has_order, idle_row, blank_row, free_row, with_keys};
 
 use crate::boot::StoreBoot;
-use crate::borrows::Borrows;
 use crate::ends::Ends;
+use crate::insiders::Insiders;
+use crate::lenders::lender;
+use crate::lookups::Lookups;
 use crate::names::Names;
+use crate::outside::{printed_of, put_in_front, queue_key};
 use crate::printer::Printer;
 use crate::rows::Rows;
+use crate::serving::serve_access;
 use crate::spared::Spared;
 use crate::start::{
     borrows_of, globals_of, holders_of, platters_of, printers_of, terminals_of, texts_of,
@@ -30,7 +31,7 @@ use std::alloc::Global;
 pub struct Stores {
     pub(crate) alloc: Global,
     pub(crate) texts: Rows<Part, Text>,
-    pub(crate) borrows: Borrows,
+    pub(crate) borrows: Rows<Part, Insiders>,
     pub(crate) globals: Spared,
     pub(crate) terminals: Rows<Term, Terminal>,
     pub(crate) printers: Rows<Addr, Printer>,
@@ -42,28 +43,29 @@ pub struct Stores {
 
 /// What belongs to partitions at the start.
 #[derive(Drop)]
-struct Homes {
-    texts: Rows<Part, Text>,
-    borrows: Borrows,
-    globals: Spared,
+pub(crate) struct Homes {
+    pub(crate) texts: Rows<Part, Text>,
+    pub(crate) borrows: Rows<Part, Insiders>,
+    pub(crate) globals: Spared,
 }
 
 /// The devices at the start.
 #[derive(Drop)]
-struct Devices {
-    terminals: Rows<Term, Terminal>,
-    printers: Rows<Addr, Printer>,
-    platters: Rows<Addr, Platter>,
-    hogs: Rows<Addr, Option<Part>>,
+pub(crate) struct Devices {
+    pub(crate) terminals: Rows<Term, Terminal>,
+    pub(crate) printers: Rows<Addr, Printer>,
+    pub(crate) platters: Rows<Addr, Platter>,
+    pub(crate) hogs: Rows<Addr, Option<Part>>,
 }
 
-fn homes_of(alloc: Global, b: &StoreBoot) -> Result<Homes, NoMemory>
+/// What belongs to the partitions of a boot at the start.
+pub(crate) fn homes_of(alloc: Global, b: &StoreBoot) -> Result<Homes, NoMemory>
     ensures texts { IfOk result (λ h. h.texts ≡ map text_row b.now.partitions.items) }
     ensures borrows { IfOk result (λ h. h.borrows ≡ map borrow_row b.now.partitions.items) }
     ensures globals { IfOk result (λ h. h.globals ≡ map globals_row b.now.partitions.items) }
 {
     let texts = texts_of(alloc, &b.partitions)?;
-    let borrows = Borrows::new(borrows_of(alloc, &b.partitions)?);
+    let borrows = borrows_of(alloc, &b.partitions)?;
     let globals = Spared::new(globals_of(alloc, &b.partitions)?, Vars::new(alloc, 0)?)?;
     Ok(Homes {
         texts,
@@ -72,7 +74,8 @@ fn homes_of(alloc: Global, b: &StoreBoot) -> Result<Homes, NoMemory>
     })
 }
 
-fn devices_at_start(
+/// The devices of a boot at the start, with these platters.
+pub(crate) fn devices_at_start(
     alloc: Global,
     b: &StoreBoot,
     platters: Vec<Platter>,
@@ -94,82 +97,6 @@ fn devices_at_start(
         platters,
         hogs,
     })
-}
-
-impl Stores {
-    ghost use Rattle.b2_store.specs.Meaning.{store_of, Does};
-
-    /// Whose `@` variables are asked for.
-    fn lender(&self, home: Part, at: &At) -> Option<Part>
-        ensures { result ≡ lender_at home at.now (store_of self.now) }
-    {
-        match at {
-            At::None => None,
-            At::Home => Some(home),
-            At::Named(name) => self.names.holder(*name),
-        }
-    }
-
-    /// Does what an access does that nothing stops.
-    fn perform(&mut self, who: Part, access: &Access) -> Result<Answer, NoMemory>
-        requires legal { IsLegal access.now }
-        ensures done { IfOk result (Does who access.now self.old self.new) }
-        ensures memory { IfErr result (λ _. MayWantMemory access.now) }
-        ensures good { IsGoodIfSkipped access.now (store_of self.old) }
-    {
-        match access {
-            Access::Show { term, bytes, .. } => self.show(*term, bytes.bytes()),
-            Access::PrintTo { addr, bytes, .. } => self.print(*addr, bytes.bytes()),
-            Access::OpenDevices { addrs } => Ok(self.open_devices(who, addrs)),
-            Access::CloseDevices { addrs } => Ok(self.close_devices(who, addrs)),
-            Access::ReadLine { term } => self.read_line(*term),
-            Access::Insert { term, bytes } => self.insert(*term, bytes.bytes()),
-            Access::Key { term } => Ok(self.take_key(*term)),
-            Access::Release { term } => Ok(self.release(*term)),
-            Access::PutLine { line, atoms, homes } => match atoms {
-                Some(atoms) => self.put_line(who, *line, atoms, *homes),
-                None => Ok(self.erase(who, *line, *line, *homes)),
-            },
-            Access::Erase { from, to, homes } => Ok(self.erase(who, *from, *to, *homes)),
-            Access::ClearAll { name, homes } => Ok(self.clear_all(who, *name, *homes)),
-            Access::Enter { name, mark } => self.enter(who, *name, *mark),
-            Access::Leave { home } => Ok(self.leave(who, *home)),
-            Access::Drop { homes } => Ok(self.give_texts_back(who, *homes)),
-            Access::Declare { name, old } => self.declare(who, *name, *old),
-            Access::FindPart { name } => Ok(self.find_part(*name)),
-            Access::Limits { addr, name } => Ok(self.limits(*addr, *name)),
-            Access::ListDisk { addr } => self.list_disk(*addr),
-            Access::Scratch { addr, name } => Ok(self.scratch(*addr, *name)),
-            Access::Format { addr, index, end } => Ok(self.format(*addr, *index, *end)),
-            Access::DataNew {
-                addr,
-                old,
-                sectors,
-                name,
-            } => Ok(self.data_new(*addr, *old, *sectors, *name)),
-            Access::DataOpen { addr, name } => Ok(self.data_open(*addr, *name)),
-            Access::DataSave { slot, values } => Ok(self.data_save(slot, values.values())),
-            Access::DataEnd { slot } => Ok(self.data_end(slot)),
-            Access::DataLoad { slot, kinds } => self.data_load(slot, kinds.kinds()),
-            Access::Skip { slot, by } => self.skip(slot, *by),
-            Access::SaveProgram {
-                addr,
-                old,
-                name,
-                from,
-                to,
-            } => self.save_program(who, *addr, *old, *name, *from, *to),
-            Access::LoadProgram {
-                addr,
-                name,
-                replace,
-                declared,
-                homes,
-            } => self.load_program(who, *addr, *name, *replace, *declared, *homes),
-            Access::MovePlatter { from, to } => self.move_files(*from, *to, None),
-            Access::MoveFile { from, name, to } => self.move_files(*from, *to, Some(*name)),
-        }
-    }
 }
 
 impl Shared for Stores {
@@ -203,7 +130,7 @@ impl Shared for Stores {
     ghost holds = { λ s. tt };
 
     fn lend(&mut self, who: Part, home: Part, at: &At) -> Lent<'_> {
-        let lender = self.lender(home, at);
+        let lender = lender(self, home, at);
         let found = self.globals.has(&lender);
         let texts = &self.texts;
         Lent {
@@ -222,10 +149,7 @@ impl Shared for Stores {
     }
 
     fn serve(&mut self, who: Part, access: &Access) -> Result<Answer, NoMemory> {
-        match self.stop(who, access) {
-            Some(answer) => Ok(answer),
-            None => self.perform(who, access),
-        }
+        serve_access(self, who, access)
     }
 
     ghost local = { serves_is_local disks };
@@ -269,31 +193,23 @@ impl Ends for Stores {
     }
 
     fn terminal(&self, t: Term) -> Option<&Terminal> {
-        self.terminals.get(t)
+        self.terminal_at(t)
     }
 
     fn printer(&self, a: Addr) -> Option<&[u8]> {
-        match self.printers.get(a) {
-            Some(printer) => Some(printer.printed()),
-            None => None,
-        }
+        printed_of(self, a)
     }
 
     fn platter(&self, a: Addr) -> Option<&Platter> {
-        self.platters.get(a)
+        self.platter_at(a)
     }
 
     fn key(&mut self, t: Term, k: KeyItem) -> Option<bool> {
-        match self.terminals.get_mut(t) {
-            Some(terminal) => Some(terminal.key(k)),
-            None => None,
-        }
+        queue_key(self, t, k)
     }
 
     fn set_front(&mut self, t: Term, p: Part) {
-        if let Some(terminal) = self.terminals.get_mut(t) {
-            terminal.set_front(p);
-        }
+        put_in_front(self, t, p);
     }
 
     ghost serves_plainly = { λ m who a. refl };

@@ -12,7 +12,7 @@ use b2_progfile::{move_file, move_platter};
 use std::alloc::Global;
 
 /// Moves the file of a name to another platter, or all live files where none is given.
-fn move_files(
+pub fn move_files(
     alloc: Global,
     from: &Platter,
     to: &mut Platter,

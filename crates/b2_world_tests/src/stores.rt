@@ -8,9 +8,11 @@
 // platter and bytes of it in hexadecimal digits, and `clean` for the partitions that are not. `at once 1 limits ..` and the like are
 // accesses over the store without its watch, which want no memory.
 // `image | IMAGE | CALL | ..`: the same, where D20 has the image that is spelled.
+// Each row is answered over a store in rows and over one in two lists (`main.rt`).
 ghost use Rattle.std.specs.Prelude.{◌≡◌, ◌≤◌, IfOk, IfErr, length, true};
 ghost use Rattle.std.specs.List.{list_all};
-ghost use Rattle.b2_access.specs.Touching.{IsLegal};
+ghost use Rattle.b2_access.specs.declared.accesses.Access.{Access as AccessSpec};
+ghost use Rattle.b2_access.specs.Touching.{IsLegal, MayWantMemory};
 ghost use Rattle.b2_store.specs.Start.{has_order};
 ghost use Rattle.b2_term.specs.Orders.{is_order};
 
@@ -24,7 +26,7 @@ use b2_base::{Addr, Name8, NoMemory, Part, Term};
 use b2_cases::{Sheet, small_of, str_of, whole_of};
 use b2_catalog::enter;
 use b2_platter::Platter;
-use b2_store::{Ends, StoreBoot, Stores};
+use b2_store::{Ends, StoreBoot};
 use b2_term::{KeyItem, PartList, is_order};
 use std::alloc::Global;
 
@@ -101,10 +103,10 @@ fn two_platters(alloc: Global, platter: Platter) -> Result<Vec<Platter>, NoMemor
 }
 
 /// The store as it starts, with a platter at D20.
-fn four_partitions(alloc: Global, platter: Platter) -> Result<Stores, NoMemory> {
+fn four_partitions<S: Ends>(alloc: Global, platter: Platter) -> Result<S, NoMemory> {
     let platters = two_platters(alloc, platter)?;
     let start = start_of(alloc)?;
-    Stores::new(alloc, &start, platters)
+    S::new(alloc, &start, platters)
 }
 
 /// Shows a word, and a partition's number.
@@ -165,7 +167,7 @@ fn asked<S: Shared>(stores: &mut S, who: Part, access: &Access) -> Result<Answer
 }
 
 /// Makes an access over the watched store, and shows its answer.
-fn ask(sheet: &mut Sheet<'_>, stores: &mut Stores, seen: &mut Seen, who: Part, access: &Access)
+fn ask<S: Ends>(sheet: &mut Sheet<'_>, stores: &mut S, seen: &mut Seen, who: Part, access: &Access)
     requires legal { IsLegal access.now }
 {
     let mut watched = Watched::new(stores, seen);
@@ -176,9 +178,9 @@ fn ask(sheet: &mut Sheet<'_>, stores: &mut Stores, seen: &mut Seen, who: Part, a
 }
 
 /// The same for an access that is spelled.
-fn ask_spelled(
+fn ask_spelled<S: Ends>(
     sheet: &mut Sheet<'_>,
-    stores: &mut Stores,
+    stores: &mut S,
     seen: &mut Seen,
     who: &[u8],
     spelled: &[u8],
@@ -193,7 +195,8 @@ fn ask_spelled(
 }
 
 /// The answer to an access that wants no memory, and so is never refused for want of it; None where it is another.
-fn answered_at_once(stores: &mut Stores, who: Part, access: &Access) -> Option<Answer>
+fn answered_at_once<S: Ends>(stores: &mut S, who: Part, access: &Access) -> Option<Answer>
+    requires plain { (a : AccessSpec) → S.wants a → MayWantMemory a }
     requires legal { IsLegal access.now }
 {
     match access {
@@ -219,7 +222,9 @@ fn answered_at_once(stores: &mut Stores, who: Part, access: &Access) -> Option<A
 }
 
 /// Makes an access at once that is spelled, and shows its answer.
-fn ask_at_once(sheet: &mut Sheet<'_>, stores: &mut Stores, spelled: &[u8]) {
+fn ask_at_once<S: Ends>(sheet: &mut Sheet<'_>, stores: &mut S, spelled: &[u8])
+    requires plain { (a : AccessSpec) → S.wants a → MayWantMemory a }
+{
     let (_, numbered) = word(spelled);
     let (number, rest) = word(numbered);
     let Some(access) = access_of(sheet, rest) else {
@@ -235,7 +240,7 @@ fn ask_at_once(sheet: &mut Sheet<'_>, stores: &mut Stores, spelled: &[u8]) {
 }
 
 /// Queues a key at a terminal, and shows whether it was taken.
-fn press(sheet: &mut Sheet<'_>, stores: &mut Stores, terminal: Term, key: KeyItem) {
+fn press<S: Ends>(sheet: &mut Sheet<'_>, stores: &mut S, terminal: Term, key: KeyItem) {
     sheet.show(match stores.key(terminal, key) {
         Some(true) => " taken",
         Some(false) => " dropped",
@@ -244,14 +249,14 @@ fn press(sheet: &mut Sheet<'_>, stores: &mut Stores, terminal: Term, key: KeyIte
 }
 
 /// Queues each byte as a key.
-fn press_all(sheet: &mut Sheet<'_>, stores: &mut Stores, terminal: Term, keys: &[u8]) {
+fn press_all<S: Ends>(sheet: &mut Sheet<'_>, stores: &mut S, terminal: Term, keys: &[u8]) {
     for key in keys {
         press(sheet, stores, terminal, KeyItem::Byte(*key));
     }
 }
 
 /// Shows what a terminal has shown.
-fn show_terminal(sheet: &mut Sheet<'_>, stores: &Stores, terminal: Term) {
+fn show_terminal<S: Ends>(sheet: &mut Sheet<'_>, stores: &S, terminal: Term) {
     match stores.terminal(terminal) {
         Some(terminal) => show_named(sheet, "shown", terminal.transcript()),
         None => sheet.show("no terminal"),
@@ -259,7 +264,7 @@ fn show_terminal(sheet: &mut Sheet<'_>, stores: &Stores, terminal: Term) {
 }
 
 /// Puts a partition in front of a terminal.
-fn put_in_front(sheet: &mut Sheet<'_>, stores: &mut Stores, terminal: Term, number: u8) {
+fn put_in_front<S: Ends>(sheet: &mut Sheet<'_>, stores: &mut S, terminal: Term, number: u8) {
     match Part::of(number) {
         Some(part) => {
             stores.set_front(terminal, part);
@@ -270,7 +275,7 @@ fn put_in_front(sheet: &mut Sheet<'_>, stores: &mut Stores, terminal: Term, numb
 }
 
 /// Does what isn't an access at a terminal.
-fn at_keyboard(sheet: &mut Sheet<'_>, stores: &mut Stores, call: &str, rest: &[u8]) {
+fn at_keyboard<S: Ends>(sheet: &mut Sheet<'_>, stores: &mut S, call: &str, rest: &[u8]) {
     let (number, text) = word(rest);
     let Some(terminal) = Term::of(small_of(number)) else {
         return sheet.misread();
@@ -291,7 +296,7 @@ fn at_keyboard(sheet: &mut Sheet<'_>, stores: &mut Stores, call: &str, rest: &[u
 }
 
 /// Shows how many sectors the platter of an address has, and some of its bytes; or that there is none.
-fn show_platter(sheet: &mut Sheet<'_>, stores: &Stores, address: Addr, numbers: &[u8]) {
+fn show_platter<S: Ends>(sheet: &mut Sheet<'_>, stores: &S, address: Addr, numbers: &[u8]) {
     let Some(platter) = stores.platter(address) else {
         return sheet.show("no platter");
     };
@@ -305,7 +310,7 @@ fn show_platter(sheet: &mut Sheet<'_>, stores: &Stores, address: Addr, numbers: 
 }
 
 /// Shows what the printer of an address printed, or that there is none.
-fn show_printer(sheet: &mut Sheet<'_>, stores: &Stores, address: Addr) {
+fn show_printer<S: Ends>(sheet: &mut Sheet<'_>, stores: &S, address: Addr) {
     match stores.printer(address) {
         Some(printed) => show_named(sheet, "printed", printed),
         None => sheet.show("no printer"),
@@ -313,7 +318,7 @@ fn show_printer(sheet: &mut Sheet<'_>, stores: &Stores, address: Addr) {
 }
 
 /// Shows what stands at an address.
-fn show_device(sheet: &mut Sheet<'_>, stores: &Stores, call: &str, spelled: &[u8]) {
+fn show_device<S: Ends>(sheet: &mut Sheet<'_>, stores: &S, call: &str, spelled: &[u8]) {
     let (address, numbers) = word(spelled);
     match Addr::of(address) {
         Some(address) if matches!(call, "platter") => show_platter(sheet, stores, address, numbers),
@@ -334,7 +339,9 @@ pub fn show_clean(sheet: &mut Sheet<'_>, seen: &Seen) {
 }
 
 /// Makes a call, and shows its answer.
-fn answer(sheet: &mut Sheet<'_>, stores: &mut Stores, seen: &mut Seen, cell: &[u8]) {
+fn answer<S: Ends>(sheet: &mut Sheet<'_>, stores: &mut S, seen: &mut Seen, cell: &[u8])
+    requires plain { (a : AccessSpec) → S.wants a → MayWantMemory a }
+{
     let (first, rest) = word(cell);
     let call = str_of(first);
     match call {
@@ -347,7 +354,9 @@ fn answer(sheet: &mut Sheet<'_>, stores: &mut Stores, seen: &mut Seen, cell: &[u
 }
 
 /// What the calls in the cells answer, over a store.
-fn answer_all(sheet: &mut Sheet<'_>, stores: &mut Stores) {
+fn answer_all<S: Ends>(sheet: &mut Sheet<'_>, stores: &mut S)
+    requires plain { (a : AccessSpec) → S.wants a → MayWantMemory a }
+{
     let mut seen = Seen::new(sheet.alloc());
     for place in 0..u64::MAX {
         if sheet.is_empty() {
@@ -362,26 +371,32 @@ fn answer_all(sheet: &mut Sheet<'_>, stores: &mut Stores) {
 }
 
 /// The same where D20 has this platter.
-fn answer_over(sheet: &mut Sheet<'_>, platter: Platter) {
-    match four_partitions(sheet.alloc(), platter) {
+fn answer_over<S: Ends + Drop>(sheet: &mut Sheet<'_>, platter: Platter)
+    requires plain { (a : AccessSpec) → S.wants a → MayWantMemory a }
+{
+    match four_partitions::<S>(sheet.alloc(), platter) {
         Ok(mut stores) => answer_all(sheet, &mut stores),
         Err(NoMemory) => sheet.no_memory(),
     }
 }
 
-/// What the calls in the cells answer.
-pub fn called(sheet: &mut Sheet<'_>) {
+/// What the calls in the cells answer, over a store of this make.
+pub fn called<S: Ends + Drop>(sheet: &mut Sheet<'_>)
+    requires plain { (a : AccessSpec) → S.wants a → MayWantMemory a }
+{
     match with_file(sheet.alloc()) {
-        Ok(platter) => answer_over(sheet, platter),
+        Ok(platter) => answer_over::<S>(sheet, platter),
         Err(NoMemory) => sheet.no_memory(),
     }
 }
 
 /// What the calls in the cells answer where D20 has an image of its own.
-pub fn called_over_image(sheet: &mut Sheet<'_>) {
+pub fn called_over_image<S: Ends + Drop>(sheet: &mut Sheet<'_>)
+    requires plain { (a : AccessSpec) → S.wants a → MayWantMemory a }
+{
     let spelled = sheet.cell();
     match platter_spelled(sheet, spelled) {
-        Some(platter) => answer_over(sheet, platter),
+        Some(platter) => answer_over::<S>(sheet, platter),
         None => sheet.show("no such image"),
     }
 }

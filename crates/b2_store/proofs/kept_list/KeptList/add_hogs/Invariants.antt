@@ -1,0 +1,7 @@
+use Rattle.std.proofs.Common.{◌≡◌, ◌++◌, map}
+use Rattle.b2_store.specs.Kept.{hog_item}
+use Rattle.b2_store.proofs.kept_list.KeptList.add_hogs.Given as goal
+
+-- the items so far
+abbrev pub invariant-loop-row : goal.invariant-loop-row
+invariant-loop-row l = l.self ≡ l.fn.self ++ map hog_item l.yielded

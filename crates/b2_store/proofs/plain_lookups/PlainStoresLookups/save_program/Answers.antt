@@ -1,0 +1,15 @@
+use Rattle.std.proofs.Common.{sym, ap, ◌∙◌}
+use Rattle.b2_store.proofs.KeptWork.{given, refused, saved_as}
+use Rattle.b2_store.proofs.plain_lookups.PlainStoresLookups.save_program.Goals as goal
+
+pub returns-in-Ok : goal.returns-in-Ok
+returns-in-Ok c =
+    let s = c.args.self.now in
+    record { saved = sym (ap (given s.globals s.kept) c.in-Ok.ensures.ok) ∙ saved_as s.globals s.kept c.args.who c.args.addr c.args.old c.args.name c.args.from c.args.to }
+
+pub returns-in-Err : goal.returns-in-Err
+returns-in-Err c =
+    let s = c.args.self.now in
+    record {
+      saved = refused s.globals s.kept c.in-Err.fault _ _ _ c.refusal.result c.refusal.ensures.refused c.in-Err.ensures.fails c.in-Err.ensures.kept (saved_as s.globals s.kept c.args.who c.args.addr c.args.old c.args.name c.args.from c.args.to);
+    }

@@ -1,0 +1,7 @@
+use Rattle.std.proofs.Common.{◌∙◌}
+use Rattle.b2_access.specs.declared.objects.Object.TheVariants as object
+use Rattle.b2_store.specs.KeptLaws.{found}
+use Rattle.b2_store.proofs.plain_lookups.PlainStoresLookups.text.Goals as goal
+
+pub returns : goal.returns
+returns c = record { found = c.text.ensures ∙ found (object.Text c.args.p) c.args.self.now.kept }
