@@ -11,7 +11,7 @@ use Rattle.b2_flow.specs.Frames.{enters}
 use Rattle.b2_flow.specs.declared.frame.Frame.{Frame}
 use Rattle.b2_flow.specs.declared.frame.Frame.TheVariants.{For, Call}
 use Rattle.b2_access.specs.Borrowers.{all_partitions, homes_entered, homes_marked, is_inside, is_marked, mask_among}
-use Rattle.b2_access.specs.Homes.{FramesIn}
+use Rattle.b2_access.specs.Homes.{FramesNamed, Naming}
 use Rattle.b2_access.proofs.Borrowers.{inside_marked}
 
 -- one bit
@@ -125,17 +125,17 @@ marked_is frames g low high =
     let entered : ℕ → Bool = λ h. list_any (enters h) frames in
     ap (λ (b : ℕ). b == 1) (bits_of entered 16 1 (g - 1) (few_places g low high)) ∙ bit_as (entered (1 + (g - 1))) ∙ ap entered (again g low)
 
-module _ (among : ℕ → Bool) where
-  named_by : (b : Bool) (g h : ℕ) (frames : List Frame) → (g == h) ≡ b → (b || list_any (enters h) frames) ≡ true → among g ≡ true → (list_any (enters h) frames ≡ true → among h ≡ true) → among h ≡ true
-  named_by true g h frames same is here rest = ap among (sym ((unsigned_Decides g h).0 same)) ∙ here
+module _ (among : Naming) where
+  named_by : (b : Bool) (g h : ℕ) (frames : List Frame) → (g == h) ≡ b → (b || list_any (enters h) frames) ≡ true → among.part g ≡ true → (list_any (enters h) frames ≡ true → among.part h ≡ true) → among.part h ≡ true
+  named_by true g h frames same is here rest = ap (λ (n : ℕ). among.part n) (sym ((unsigned_Decides g h).0 same)) ∙ here
   named_by false g h frames same is here rest = rest is
 
-  named : (h : ℕ) (frames : List Frame) → FramesIn among frames → list_any (enters h) frames ≡ true → among h ≡ true
+  named : (h : ℕ) (frames : List Frame) → FramesNamed among frames → list_any (enters h) frames ≡ true → among.part h ≡ true
   named h [] w is = cc
   named h (For v limit step body ∷ frames) w is = named h frames w.1 is
   named h (Call back None ∷ frames) w is = named h frames w.1 is
   named h (Call back (Some g) ∷ frames) w is = named_by (g == h) g h frames refl is w.0.1 (λ rest. named h frames w.1 rest)
 
-  -- so where all that frames name is among some partitions, those that were entered are
-  pub entered_within : (frames : List Frame) → FramesIn among frames → (h : ℕ) → is_inside h (homes_marked (homes_entered frames)) ≡ true → among h ≡ true
+  -- so where all that frames name may be named, the partitions that were entered may be
+  pub entered_within : (frames : List Frame) → FramesNamed among frames → (h : ℕ) → is_inside h (homes_marked (homes_entered frames)) ≡ true → among.part h ≡ true
   entered_within frames w h is = named h frames w (marked_entered frames h is)

@@ -25,7 +25,7 @@ use Rattle.b2_access.specs.Store.{StoreState, content, holder_of, put}
 use Rattle.b2_access.specs.Task.{Refuse}
 use Rattle.b2_access.proofs.Borrowers.{marked_inside, times_added, times_added_other, times_left, times_left_other, times_without, times_without_other}
 use Rattle.b2_access.proofs.Holders.{given_back, given_back_from, given_up, performs_on, clears_first, drops_first, edits_first, gone, loads_first}
-use Rattle.b2_access.proofs.Unwritten.{borrow_unwritten}
+use Rattle.b2_access.proofs.Unwritten.{unwritten}
 use Rattle.b2_access.proofs.RowLaws.{leaves as row_leaves}
 use Rattle.b2_base.specs.declared.codes.TheConstants.{A01_TEXT_AREA}
 
@@ -265,4 +265,4 @@ accesses_enter_as_said disks who g (access.LoadProgram addr name replace declare
     unless who g s a (firsts who a s) (edited_by who a s) (performs ((row a).does disks who None) s) (λ q k. refl) (λ q k. refl)
     (loads_at who g s low high old.0 old.1 homes addr name replace declared (disks.load_program name replace) (content s (object.Platter addr)))
 accesses_enter_as_said disks who g a s low high listed =
-    stays who g s a (serves disks s who a) (row_leaves (row a) disks who s (object.Borrow g) (borrow_unwritten who (holder_at a s) g a refl)) (λ k. refl)
+    stays who g s a (serves disks s who a) (row_leaves (row a) disks who s (object.Borrow g) (unwritten who (holder_at a s) (object.Borrow g) a refl)) (λ k. refl)

@@ -1,30 +1,30 @@
 -- A device that another holds: an access that reaches it is stopped, and one that doesn't reach it doesn't write it.
 use Rattle.std.specs.Prelude.{◌≡◌, ◌≢◌, ◌⊎◌, ℕ, ◌==◌, Bool, true, false, List, [], ◌∷◌, ◌++◌, map, Option, Some, None, refl, if◌then◌else◌}
 use Rattle.std.specs.Cmp.{unsigned_Decides}
+use Rattle.std.specs.List.{list_all}
 use Rattle.std.proofs.Common.{sym, ap, subst, ◌∙◌, inl, inr}
-use Rattle.std.proofs.lemmas.Bool.{false≢true}
+use Rattle.std.proofs.lemmas.Bool.{and_parts}
 use Rattle.b2_access.specs.declared.objects.Object.{Object}
 use Rattle.b2_access.specs.declared.objects.Object.TheVariants as object
 use Rattle.b2_access.specs.declared.accesses.Access.{Access}
 use Rattle.b2_access.specs.declared.accesses.Access.TheVariants as access
 use Rattle.b2_access.specs.declared.reached.TextUse.{TextUse}
 use Rattle.b2_access.specs.declared.reached.TextUse.TheVariants as text
-use Rattle.b2_access.specs.AccessRows.{frees, frees_if, holder_at, holder_entered, is_held_by, names_of, reach, row}
+use Rattle.b2_access.specs.AccessRows.{frees, frees_if, holder_at, holder_entered, is_held_by, reach, row}
 use Rattle.b2_access.specs.AnswerKinds.{is_done, is_wait}
 use Rattle.b2_access.specs.Answering.{may_stop_by}
-use Rattle.b2_access.specs.Borrowers.{homes_marked}
 use Rattle.b2_access.specs.Contents.{content_other}
 use Rattle.b2_access.specs.Disks.{DiskWork}
 use Rattle.b2_access.specs.Holding.{AgreeBut, Asks, HeldIsOutOfReach, HeldStaysAsItIs, IsAddressIn, IsContentOf, OtherHoldersStay, OtherImagesStay, WhoAsksWaits, device_of, holders_changed, image_changed}
-use Rattle.b2_access.specs.Reach.{DevicePart, DeviceReach, HoldFreed, HoldTaken, WithPlatter, WithPrinter, Reach, borrow_entered, borrows, device_objects, entered_objects, entered_text, if_any, objects_held, objects_named, objects_reached, part_objects, terminal_objects, text_objects, to_free, to_take, variable_objects}
+use Rattle.b2_access.specs.Reach.{DevicePart, DeviceReach, HoldFreed, HoldTaken, WithPlatter, WithPrinter, Reach, borrows, device_objects, entered_objects, entered_text, objects_held, objects_reached, part_objects, terminal_objects, text_objects, to_free, to_take, variable_objects}
 use Rattle.b2_access.specs.Serving.{performs, serves, unless_stopped}
 use Rattle.b2_access.specs.Sharing.{Gives}
 use Rattle.b2_access.specs.Stopping.{at_front, first_inside, first_other, first_there, holders, in_front, inside_edited, stop, stop_by, stopping_holder}
 use Rattle.b2_access.specs.Store.{StoreState, content, put, IsIn}
-use Rattle.b2_access.specs.Task.{in_left, wider}
+use Rattle.b2_access.specs.Task.{wider}
 use Rattle.b2_access.specs.Touching.{touched}
 use Rattle.b2_access.specs.declared.accesses.Answer.{Answer}
-use Rattle.b2_access.proofs.Unwritten.{no_borrow, no_borrow_entered, no_borrows, no_hold, no_names, of_kinds}
+use Rattle.b2_access.proofs.Unwritten.{of_kinds, unwritten as of_another}
 use Rattle.b2_access.proofs.Holders.{also_first, performs_on, performs_same, wider_same}
 use Rattle.b2_access.proofs.RowLaws.{leaves}
 use Rattle.b2_access.proofs.TaskLaws.{gives_alike, leaves_others}
@@ -153,25 +153,14 @@ taken_stop : (addrs : List (List ℕ)) → AreStopping (to_take addrs).devices
 taken_stop [] = tt
 taken_stop (a ∷ addrs) = (refl, taken_stop addrs)
 
+all_stop : (ds : List DeviceReach) → list_all (λ (x : DeviceReach). may_stop_by x.part) ds ≡ true → AreStopping ds
+all_stop [] h = tt
+all_stop (x ∷ ds) h = let both = and_parts (may_stop_by x.part) (list_all (λ (x : DeviceReach). may_stop_by x.part) ds) h in (both.0, all_stop ds both.1)
+
 are_stopping : (a : Access) → is_freeing a ≡ false → AreStopping (row a).reach.devices
-are_stopping (access.PrintTo addr bytes column) goes = (refl, tt)
 are_stopping (access.OpenDevices addrs) goes = taken_stop addrs
 are_stopping (access.CloseDevices addrs) goes = cc
-are_stopping (access.Limits addr name) goes = (refl, tt)
-are_stopping (access.ListDisk addr) goes = (refl, tt)
-are_stopping (access.Scratch addr name) goes = (refl, tt)
-are_stopping (access.Format addr index end) goes = (refl, tt)
-are_stopping (access.DataNew addr old sectors name) goes = (refl, tt)
-are_stopping (access.DataOpen addr name) goes = (refl, tt)
-are_stopping (access.DataSave slot values) goes = (refl, tt)
-are_stopping (access.DataEnd slot) goes = (refl, tt)
-are_stopping (access.DataLoad slot kinds) goes = (refl, tt)
-are_stopping (access.Skip slot way) goes = (refl, tt)
-are_stopping (access.SaveProgram addr old name from to) goes = (refl, tt)
-are_stopping (access.LoadProgram addr name replace declared homes) goes = (refl, tt)
-are_stopping (access.MovePlatter from to) goes = (refl, (refl, tt))
-are_stopping (access.MoveFile from name to) goes = (refl, (refl, tt))
-are_stopping a goes = tt
+are_stopping a goes = all_stop (row a).reach.devices refl
 
 module _ (disks : DiskWork) (who p : ℕ) (d : List ℕ) (o : Object) (a : Access) (s : StoreState) (held : content s (object.Hog d) ≡ Some (Some p)) (apart : p ≢ who) (is : device_of o ≡ Some d) (goes : is_freeing a ≡ false) where
   unwritten : first_other who (first_there (row a).reach s) ≡ None → IsIn o ((row a).writes who (holder_at a s)) → ⊥
@@ -246,85 +235,33 @@ abbrev is_platter : Object → Bool
 is_platter (object.Platter a) = true
 is_platter o = false
 
--- an object of a kind that is none of texts, of those who stand inside them, of `@` variables and of names is written by none of these
-module _ (is_kind : Object → Bool) (o : Object) (is : is_kind o ≡ true) (texts : (p : ℕ) → is_kind (object.Text p) ≡ false) (borrowers : (p : ℕ) → is_kind (object.Borrow p) ≡ false) (variables : (p : ℕ) → is_kind (object.Globals p) ≡ false) (names : (n : List ℕ) → is_kind (object.Name n) ≡ false) where
-  no_edit : (who : ℕ) (homes : List ℕ) (rest : List Object) → (IsIn o rest → ⊥) → IsIn o (object.Text who ∷ (borrows homes ++ rest)) → ⊥
-  no_edit who homes rest out i = elim i [ inl e ↦ of_kinds is_kind o (object.Text who) is (texts who) e | inr j ↦ no_borrows is_kind o is borrowers homes rest out j ]
-
-  no_edit_alone : (who : ℕ) (homes : List ℕ) → IsIn o (object.Text who ∷ borrows homes) → ⊥
-  no_edit_alone who homes i = elim i [ inl e ↦ of_kinds is_kind o (object.Text who) is (texts who) e | inr j ↦ no_borrow is_kind o is borrowers homes j ]
-
-  no_clearing : (who : ℕ) (homes : List ℕ) (name : Option (List ℕ)) → IsIn o (object.Text who ∷ object.Globals who ∷ (borrows homes ++ objects_named name)) → ⊥
-  no_clearing who homes name i = elim i [
-    | inl e ↦ of_kinds is_kind o (object.Text who) is (texts who) e
-    | inr j ↦ elim j [ inl e ↦ of_kinds is_kind o (object.Globals who) is (variables who) e | inr k ↦ no_borrows is_kind o is borrowers homes (objects_named name) (no_names is_kind o is names (if_any name)) k ]
-  ]
-
-  no_loading : (who : ℕ) (homes : List ℕ) (declared : Option (List ℕ)) → IsIn o (object.Text who ∷ (borrows homes ++ objects_named declared)) → ⊥
-  no_loading who homes declared i = no_edit who homes (objects_named declared) (no_names is_kind o is names (if_any declared)) i
-
 -- an access that changes other holders, or none, doesn't write this one
 held_in : (d : List ℕ) (addrs : List (List ℕ)) → IsIn (object.Hog d) (objects_held addrs) → IsAddressIn d addrs
 held_in d [] i = absurd i
 held_in d (a ∷ addrs) i = elim i [ inl e ↦ inl (same_device d (object.Hog d) refl (object.Hog a) a refl e) | inr j ↦ inr (held_in d addrs j) ]
 
-no_holder : (d : List ℕ) (x : Object) → is_hog x ≡ false → IsIn (object.Hog d) (x ∷ []) → ⊥
-no_holder d x other i = elim i [ inl e ↦ of_kinds is_hog (object.Hog d) x refl other e | inr never ↦ never ]
-
 holder_unwritten : (who : ℕ) (holder : Option ℕ) (d : List ℕ) (a : Access) → (IsAddressIn d (holders_changed a) → ⊥) → IsIn (object.Hog d) ((row a).writes who holder) → ⊥
 holder_unwritten who holder d (access.OpenDevices addrs) out i = out (held_in d addrs i)
 holder_unwritten who holder d (access.CloseDevices addrs) out i = out (held_in d addrs i)
-holder_unwritten who holder d (access.PutLine line atoms homes) out i = no_edit_alone is_hog (object.Hog d) refl (λ p. refl) (λ p. refl) (λ p. refl) (λ n. refl) who (homes_marked homes) i
-holder_unwritten who holder d (access.Erase from to homes) out i = no_edit_alone is_hog (object.Hog d) refl (λ p. refl) (λ p. refl) (λ p. refl) (λ n. refl) who (homes_marked homes) i
-holder_unwritten who holder d (access.ClearAll name homes) out i = no_clearing is_hog (object.Hog d) refl (λ p. refl) (λ p. refl) (λ p. refl) (λ n. refl) who (homes_marked homes) name i
-holder_unwritten who holder d (access.LoadProgram addr name replace declared homes) out i = no_loading is_hog (object.Hog d) refl (λ p. refl) (λ p. refl) (λ p. refl) (λ n. refl) who (homes_marked homes) declared i
-holder_unwritten who holder d (access.Enter name mark) out i = no_borrow_entered is_hog (object.Hog d) refl (λ p. refl) holder i
-holder_unwritten who holder d (access.Drop homes) out i = no_borrow is_hog (object.Hog d) refl (λ p. refl) (homes_marked homes) i
-holder_unwritten who holder d (access.Declare name old) out i = no_names is_hog (object.Hog d) refl (λ n. refl) (names_of name old) i
-holder_unwritten who holder d (access.FindPart name) out i = i
-holder_unwritten who holder d (access.Limits addr name) out i = i
-holder_unwritten who holder d (access.ListDisk addr) out i = i
-holder_unwritten who holder d (access.DataOpen addr name) out i = i
-holder_unwritten who holder d (access.DataLoad slot kinds) out i = i
-holder_unwritten who holder d (access.Skip slot way) out i = i
-holder_unwritten who holder d a out i = no_holder d _ refl i
+holder_unwritten who holder d a out i = of_another who holder (object.Hog d) a refl i
 
 pub other_holders_stay : OtherHoldersStay
 other_holders_stay disks who d a s out = leaves (row a) disks who s (object.Hog d) (holder_unwritten who (holder_at a s) d a out)
 
 -- an access that changes another image, or none, doesn't write this one
-no_other : (d : List ℕ) (x : Object) → device_of x ≡ None → IsIn (object.Platter d) (x ∷ []) → ⊥
-no_other d x none i = elim i [ inl e ↦ clash d (object.Platter d) refl x none e | inr never ↦ never ]
-
 no_image : (d addr : List ℕ) → Some addr ≢ Some d → IsIn (object.Platter d) (object.Platter addr ∷ []) → ⊥
 no_image d addr apart i = elim i [ inl e ↦ apart (ap Some (sym (same_device d (object.Platter d) refl (object.Platter addr) addr refl e))) | inr never ↦ never ]
 
 image_unwritten : (who : ℕ) (holder : Option ℕ) (d : List ℕ) (a : Access) → image_changed a ≢ Some d → IsIn (object.Platter d) ((row a).writes who holder) → ⊥
-image_unwritten who holder d (access.PrintTo addr bytes column) apart i = elim i [ inl e ↦ of_kinds is_platter (object.Platter d) (object.Printer addr) refl refl e | inr never ↦ never ]
-image_unwritten who holder d (access.OpenDevices addrs) apart i = no_hold is_platter (object.Platter d) refl (λ a. refl) addrs i
-image_unwritten who holder d (access.CloseDevices addrs) apart i = no_hold is_platter (object.Platter d) refl (λ a. refl) addrs i
-image_unwritten who holder d (access.PutLine line atoms homes) apart i = no_edit_alone is_platter (object.Platter d) refl (λ p. refl) (λ p. refl) (λ p. refl) (λ n. refl) who (homes_marked homes) i
-image_unwritten who holder d (access.Erase from to homes) apart i = no_edit_alone is_platter (object.Platter d) refl (λ p. refl) (λ p. refl) (λ p. refl) (λ n. refl) who (homes_marked homes) i
-image_unwritten who holder d (access.ClearAll name homes) apart i = no_clearing is_platter (object.Platter d) refl (λ p. refl) (λ p. refl) (λ p. refl) (λ n. refl) who (homes_marked homes) name i
-image_unwritten who holder d (access.LoadProgram addr name replace declared homes) apart i = no_loading is_platter (object.Platter d) refl (λ p. refl) (λ p. refl) (λ p. refl) (λ n. refl) who (homes_marked homes) declared i
-image_unwritten who holder d (access.Enter name mark) apart i = no_borrow_entered is_platter (object.Platter d) refl (λ p. refl) holder i
-image_unwritten who holder d (access.Drop homes) apart i = no_borrow is_platter (object.Platter d) refl (λ p. refl) (homes_marked homes) i
-image_unwritten who holder d (access.Declare name old) apart i = no_names is_platter (object.Platter d) refl (λ n. refl) (names_of name old) i
-image_unwritten who holder d (access.FindPart name) apart i = i
-image_unwritten who holder d (access.Limits addr name) apart i = i
-image_unwritten who holder d (access.ListDisk addr) apart i = i
 image_unwritten who holder d (access.Scratch addr name) apart i = no_image d addr apart i
 image_unwritten who holder d (access.Format addr index end) apart i = no_image d addr apart i
 image_unwritten who holder d (access.DataNew addr old sectors name) apart i = no_image d addr apart i
-image_unwritten who holder d (access.DataOpen addr name) apart i = i
 image_unwritten who holder d (access.DataSave slot values) apart i = no_image d slot.addr apart i
 image_unwritten who holder d (access.DataEnd slot) apart i = no_image d slot.addr apart i
-image_unwritten who holder d (access.DataLoad slot kinds) apart i = i
-image_unwritten who holder d (access.Skip slot way) apart i = i
 image_unwritten who holder d (access.SaveProgram addr old name from to) apart i = no_image d addr apart i
 image_unwritten who holder d (access.MovePlatter from to) apart i = no_image d to apart i
 image_unwritten who holder d (access.MoveFile from name to) apart i = no_image d to apart i
-image_unwritten who holder d a apart i = no_other d _ refl i
+image_unwritten who holder d a apart i = of_another who holder (object.Platter d) a refl i
 
 pub other_images_stay : OtherImagesStay
 other_images_stay disks who d a s apart = leaves (row a) disks who s (object.Platter d) (image_unwritten who (holder_at a s) d a apart)

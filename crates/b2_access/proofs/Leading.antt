@@ -29,7 +29,7 @@ use Rattle.b2_access.specs.Task.{Put, Task, Look, Tell, Refuse, Missing, AreIn, 
 use Rattle.b2_access.proofs.Choice.{either}
 use Rattle.b2_access.proofs.Locality.{serves_by_row}
 use Rattle.b2_access.proofs.RowLaws.{keeps, leaves}
-use Rattle.b2_access.proofs.Unwritten.{changes_names, name_unwritten}
+use Rattle.b2_access.proofs.Unwritten.{unwritten, writes_kind}
 
 -- AN ANSWER leads nowhere but where a name is looked for, or a text is entered by one.
 abbrev looks_for_name : Access → Bool
@@ -205,8 +205,8 @@ module _ (who q : ℕ) (n : List ℕ) where
   served_leads : (disks : DiskWork) (a : Access) (s : StoreState) → OwnNames ((row a).does disks who (holder_at a s)) → Leads who q n s (serves disks s who a).after
   served_leads disks a s own = unless_leads (first_other who (first_there (reach a) s)) (inside_edited who (reach a).text s) (performs ((row a).does disks who (holder_at a s)) s) s (performed_leads ((row a).does disks who (holder_at a s)) s own)
 
-  kept_leads : (disks : DiskWork) (a : Access) (s : StoreState) → changes_names a ≡ false → Leads who q n s (serves disks s who a).after
-  kept_leads disks a s never h = inl (sym (some_same _ _ (leaves (row a) disks who s (object.Name n) (name_unwritten who (holder_at a s) n a never))) ∙ h)
+  kept_leads : (disks : DiskWork) (a : Access) (s : StoreState) → writes_kind a (object.Name n) ≡ false → Leads who q n s (serves disks s who a).after
+  kept_leads disks a s never h = inl (sym (some_same _ _ (leaves (row a) disks who s (object.Name n) (unwritten who (holder_at a s) (object.Name n) a never))) ∙ h)
 
 named_after : (disks : DiskWork) (who q : ℕ) (n : List ℕ) (a : Access) (s : StoreState) → Leads who q n s (serves disks s who a).after
 named_after disks who q n (access.Declare name old) s h = served_leads who q n disks (access.Declare name old) s (λ c. either (OwnNames who q n) (is_held_by_other who c) _ _ tt (declaring_own who q n name old)) h

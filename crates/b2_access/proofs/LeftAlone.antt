@@ -3,7 +3,7 @@
 use Rattle.std.proofs.Common.{ℕ, Bool, refl}
 use Rattle.b2_vars.specs.Globals.{Globals, MayBecome}
 use Rattle.b2_access.specs.Dispatch.{Here, dispatch}
-use Rattle.b2_access.specs.Homes.{FinishesWithin, OutcomeIn, PlannedIn}
+use Rattle.b2_access.specs.Homes.{FinishesWithin, Naming, OutcomeNamed, PlannedNamed}
 use Rattle.b2_access.specs.Keeping.{FinishesKeepNone}
 use Rattle.b2_access.specs.LeftAlone.{FinishesLeave, LeaveTheRest, PlansLeave}
 use Rattle.b2_access.specs.Lending.{SeenLent}
@@ -84,12 +84,12 @@ module _ (refused : ℕ → Bool → Bool) (ended : Statement → Private → Se
   abbrev nothing_finished : FinishingIn Work
   nothing_finished x a me s = leaves me outcome.Repeat
 
-  pub ends_at_once : ((among : ℕ → Bool) (u : Statement) (me : Private) (s : SeenLent) → OutcomeIn among (ended u me s).outcome)
+  pub ends_at_once : ((among : Naming) (u : Statement) (me : Private) (s : SeenLent) → OutcomeNamed among (ended u me s).outcome)
       → ((u : Statement) (me : Private) (s : SeenLent) → MayBecome s.globals (globals_after (ended u me s).work.globals s.globals)) → LeaveTheRest (plans_by at_once) (finishes_by nothing_finished)
   ends_at_once leads reach =
       joined (plans_by at_once) (finishes_by nothing_finished)
       (plans_leave at_once
-      (λ among me s w. each_dispatch refused stops (λ u h. Ends (ended u me s)) me s (λ (k : Working). PlannedIn among (planned_of k)) tt tt (λ p is u. leads among u me s))
+      (λ among me s w. each_dispatch refused stops (λ u h. Ends (ended u me s)) me s (λ (k : Working). PlannedNamed among (planned_of k)) tt tt (λ p is u. leads among u me s))
       (λ me s. each_dispatch refused stops (λ u h. Ends (ended u me s)) me s (λ (k : Working). PlannedAt me.term (planned_of k)) tt tt (λ p is u. tt))
       (λ me s. each_dispatch refused stops (λ u h. Ends (ended u me s)) me s (λ (k : Working). MayBecome s.globals (globals_after (told_of_globals k) s.globals)) (untouched s.globals) (untouched s.globals) (λ p is u. reach u me s)))
       (finishes_leave plain form.plain_rest form.plain_frames nothing_finished (λ among x a me s w. tt) (λ x a me s is. refl) (λ x a me s. untouched s.globals))

@@ -1,4 +1,4 @@
--- Objects of one kind aren't those of another: which accesses write none of a kind.
+-- Objects of one kind aren't those of another; and which kinds of objects each access writes, once for all that is said of it.
 use Rattle.std.specs.Prelude.{◌≡◌, ℕ, Bool, true, false, List, [], ◌∷◌, ◌++◌, map, Option, Some, None, refl}
 use Rattle.std.proofs.Common.{sym, ap, ◌∙◌, inl, inr}
 use Rattle.std.proofs.lemmas.Bool.{false≢true}
@@ -8,7 +8,7 @@ use Rattle.b2_access.specs.declared.accesses.Access.{Access}
 use Rattle.b2_access.specs.declared.accesses.Access.TheVariants as access
 use Rattle.b2_access.specs.AccessRows.{names_of, row}
 use Rattle.b2_access.specs.Borrowers.{homes_marked}
-use Rattle.b2_access.specs.Reach.{borrow_entered, borrows, objects_held}
+use Rattle.b2_access.specs.Reach.{borrow_entered, borrows, if_any, objects_held, objects_named}
 use Rattle.b2_access.specs.Store.{IsIn}
 use Rattle.b2_access.specs.Task.{in_left}
 
@@ -41,68 +41,140 @@ no_borrow_entered is_kind o is others (Some g) i = elim i [ inl e ↦ of_kinds i
 pub no_one : (is_kind : Object → Bool) (o x : Object) → is_kind o ≡ true → is_kind x ≡ false → IsIn o (x ∷ []) → ⊥
 no_one is_kind o x is other i = elim i [ inl e ↦ of_kinds is_kind o x is other e | inr none ↦ none ]
 
--- who stands inside a text is written by edits and by those who enter, leave or give back, and by no others
+-- ---- KINDS OF OBJECTS
+
+abbrev pub is_text : Object → Bool
+is_text (object.Text p) = true
+is_text o = false
+
 abbrev pub is_borrow : Object → Bool
 is_borrow (object.Borrow p) = true
 is_borrow o = false
 
-abbrev pub changes_borrowers : Access → Bool
-changes_borrowers (access.PutLine line atoms homes) = true
-changes_borrowers (access.Erase from to homes) = true
-changes_borrowers (access.ClearAll name homes) = true
-changes_borrowers (access.LoadProgram addr name replace declared homes) = true
-changes_borrowers (access.Enter name mark) = true
-changes_borrowers (access.Leave home) = true
-changes_borrowers (access.Drop homes) = true
-changes_borrowers a = false
-
-pub borrow_unwritten : (who : ℕ) (holder : Option ℕ) (g : ℕ) (a : Access) → changes_borrowers a ≡ false → IsIn (object.Borrow g) ((row a).writes who holder) → ⊥
-borrow_unwritten who holder g (access.PutLine line atoms homes) never i = cc
-borrow_unwritten who holder g (access.Erase from to homes) never i = cc
-borrow_unwritten who holder g (access.ClearAll name homes) never i = cc
-borrow_unwritten who holder g (access.LoadProgram addr name replace declared homes) never i = cc
-borrow_unwritten who holder g (access.Enter name mark) never i = cc
-borrow_unwritten who holder g (access.Leave home) never i = cc
-borrow_unwritten who holder g (access.Drop homes) never i = cc
-borrow_unwritten who holder g (access.OpenDevices addrs) never i = no_hold is_borrow (object.Borrow g) refl (λ a. refl) addrs i
-borrow_unwritten who holder g (access.CloseDevices addrs) never i = no_hold is_borrow (object.Borrow g) refl (λ a. refl) addrs i
-borrow_unwritten who holder g (access.Declare name old) never i = no_names is_borrow (object.Borrow g) refl (λ n. refl) (names_of name old) i
-borrow_unwritten who holder g (access.FindPart name) never i = i
-borrow_unwritten who holder g (access.Limits addr name) never i = i
-borrow_unwritten who holder g (access.ListDisk addr) never i = i
-borrow_unwritten who holder g (access.DataOpen addr name) never i = i
-borrow_unwritten who holder g (access.DataLoad slot kinds) never i = i
-borrow_unwritten who holder g (access.Skip slot way) never i = i
-borrow_unwritten who holder g a never i = no_one is_borrow (object.Borrow g) _ refl refl i
-
--- names are written by those who declare one or give one up
 abbrev pub is_name : Object → Bool
 is_name (object.Name n) = true
 is_name o = false
 
-abbrev pub changes_names : Access → Bool
-changes_names (access.Declare name old) = true
-changes_names (access.ClearAll name homes) = true
-changes_names (access.LoadProgram addr name replace declared homes) = true
-changes_names a = false
+abbrev pub is_at_terminal : Object → Bool
+is_at_terminal (object.Terminal t) = true
+is_at_terminal o = false
 
-no_edit_of_name : (who : ℕ) (n : List ℕ) (homes : List ℕ) → IsIn (object.Name n) (object.Text who ∷ borrows homes) → ⊥
-no_edit_of_name who n homes i = elim i [ inl e ↦ of_kinds is_name (object.Name n) (object.Text who) refl refl e | inr j ↦ no_borrow is_name (object.Name n) refl (λ h. refl) homes j ]
+abbrev pub is_printed : Object → Bool
+is_printed (object.Printer a) = true
+is_printed o = false
 
-pub name_unwritten : (who : ℕ) (holder : Option ℕ) (n : List ℕ) (a : Access) → changes_names a ≡ false → IsIn (object.Name n) ((row a).writes who holder) → ⊥
-name_unwritten who holder n (access.Declare name old) never i = cc
-name_unwritten who holder n (access.ClearAll name homes) never i = cc
-name_unwritten who holder n (access.LoadProgram addr name replace declared homes) never i = cc
-name_unwritten who holder n (access.PutLine line atoms homes) never i = no_edit_of_name who n (homes_marked homes) i
-name_unwritten who holder n (access.Erase from to homes) never i = no_edit_of_name who n (homes_marked homes) i
-name_unwritten who holder n (access.Enter name mark) never i = no_borrow_entered is_name (object.Name n) refl (λ h. refl) holder i
-name_unwritten who holder n (access.Drop homes) never i = no_borrow is_name (object.Name n) refl (λ h. refl) (homes_marked homes) i
-name_unwritten who holder n (access.OpenDevices addrs) never i = no_hold is_name (object.Name n) refl (λ a. refl) addrs i
-name_unwritten who holder n (access.CloseDevices addrs) never i = no_hold is_name (object.Name n) refl (λ a. refl) addrs i
-name_unwritten who holder n (access.FindPart name) never i = i
-name_unwritten who holder n (access.Limits addr name) never i = i
-name_unwritten who holder n (access.ListDisk addr) never i = i
-name_unwritten who holder n (access.DataOpen addr name) never i = i
-name_unwritten who holder n (access.DataLoad slot kinds) never i = i
-name_unwritten who holder n (access.Skip slot way) never i = i
-name_unwritten who holder n a never i = no_one is_name (object.Name n) _ refl refl i
+abbrev pub is_image : Object → Bool
+is_image (object.Platter a) = true
+is_image o = false
+
+abbrev pub is_hold : Object → Bool
+is_hold (object.Hog a) = true
+is_hold o = false
+
+-- a text that is edited, with who stands inside those that are given back; names besides, where a program is loaded; and `@` variables, where
+-- all is cleared
+abbrev pub is_edited : Object → Bool
+is_edited (object.Text p) = true
+is_edited (object.Borrow p) = true
+is_edited o = false
+
+abbrev pub is_loaded : Object → Bool
+is_loaded (object.Text p) = true
+is_loaded (object.Borrow p) = true
+is_loaded (object.Name n) = true
+is_loaded o = false
+
+abbrev pub is_cleared : Object → Bool
+is_cleared (object.Text p) = true
+is_cleared (object.Borrow p) = true
+is_cleared (object.Name n) = true
+is_cleared (object.Globals p) = true
+is_cleared o = false
+
+abbrev pub is_none : Object → Bool
+is_none o = false
+
+-- WHICH KINDS AN ACCESS WRITES, where nothing stops it
+abbrev pub writes_kind : Access → Object → Bool
+writes_kind (access.Show term bytes column) = is_at_terminal
+writes_kind (access.ReadLine term) = is_at_terminal
+writes_kind (access.Insert term bytes) = is_at_terminal
+writes_kind (access.Key term) = is_at_terminal
+writes_kind (access.Release term) = is_at_terminal
+writes_kind (access.PrintTo addr bytes column) = is_printed
+writes_kind (access.OpenDevices addrs) = is_hold
+writes_kind (access.CloseDevices addrs) = is_hold
+writes_kind (access.PutLine line atoms homes) = is_edited
+writes_kind (access.Erase from to homes) = is_edited
+writes_kind (access.ClearAll name homes) = is_cleared
+writes_kind (access.LoadProgram addr name replace declared homes) = is_loaded
+writes_kind (access.Enter name mark) = is_borrow
+writes_kind (access.Leave home) = is_borrow
+writes_kind (access.Drop homes) = is_borrow
+writes_kind (access.Declare name old) = is_name
+writes_kind (access.FindPart name) = is_none
+writes_kind (access.Limits addr name) = is_none
+writes_kind (access.ListDisk addr) = is_none
+writes_kind (access.DataOpen addr name) = is_none
+writes_kind (access.DataLoad slot kinds) = is_none
+writes_kind (access.Skip slot way) = is_none
+writes_kind a = is_image
+
+-- ---- an object among some is of their kind
+
+module _ (kind : Object → Bool) (o : Object) where
+  in_one : (x : Object) → kind x ≡ true → IsIn o (x ∷ []) → kind o ≡ true
+  in_one x is i = elim i [ inl e ↦ ap kind e ∙ is | inr none ↦ absurd none ]
+
+  in_more : (x : Object) (xs : List Object) → kind x ≡ true → (IsIn o xs → kind o ≡ true) → IsIn o (x ∷ xs) → kind o ≡ true
+  in_more x xs is rest i = elim i [ inl e ↦ ap kind e ∙ is | inr j ↦ rest j ]
+
+  in_both : (xs ys : List Object) → (IsIn o xs → kind o ≡ true) → (IsIn o ys → kind o ≡ true) → IsIn o (xs ++ ys) → kind o ≡ true
+  in_both [] ys h k i = k i
+  in_both (x ∷ xs) ys h k i = elim i [ inl e ↦ h (inl e) | inr j ↦ in_both xs ys (λ l. h (inr l)) k j ]
+
+  in_holds : ((a : List ℕ) → kind (object.Hog a) ≡ true) → (addrs : List (List ℕ)) → IsIn o (objects_held addrs) → kind o ≡ true
+  in_holds all [] i = absurd i
+  in_holds all (a ∷ addrs) i = elim i [ inl e ↦ ap kind e ∙ all a | inr j ↦ in_holds all addrs j ]
+
+  in_names : ((n : List ℕ) → kind (object.Name n) ≡ true) → (ns : List (List ℕ)) → IsIn o (map object.Name ns) → kind o ≡ true
+  in_names all [] i = absurd i
+  in_names all (n ∷ ns) i = elim i [ inl e ↦ ap kind e ∙ all n | inr j ↦ in_names all ns j ]
+
+  in_borrows : ((h : ℕ) → kind (object.Borrow h) ≡ true) → (homes : List ℕ) → IsIn o (borrows homes) → kind o ≡ true
+  in_borrows all [] i = absurd i
+  in_borrows all (h ∷ homes) i = elim i [ inl e ↦ ap kind e ∙ all h | inr j ↦ in_borrows all homes j ]
+
+  in_entered : ((h : ℕ) → kind (object.Borrow h) ≡ true) → (holder : Option ℕ) → IsIn o (borrow_entered holder) → kind o ≡ true
+  in_entered all None i = absurd i
+  in_entered all (Some g) i = in_one (object.Borrow g) (all g) i
+
+-- so what an access writes is of its kinds
+pub writes_of_kind : (who : ℕ) (holder : Option ℕ) (o : Object) (a : Access) → IsIn o ((row a).writes who holder) → writes_kind a o ≡ true
+writes_of_kind who holder o (access.PutLine line atoms homes) i =
+    in_more is_edited o (object.Text who) (borrows (homes_marked homes)) refl (in_borrows is_edited o (λ h. refl) (homes_marked homes)) i
+writes_of_kind who holder o (access.Erase from to homes) i =
+    in_more is_edited o (object.Text who) (borrows (homes_marked homes)) refl (in_borrows is_edited o (λ h. refl) (homes_marked homes)) i
+writes_of_kind who holder o (access.ClearAll name homes) i =
+    in_more is_cleared o (object.Text who) (object.Globals who ∷ (borrows (homes_marked homes) ++ objects_named name)) refl
+    (in_more is_cleared o (object.Globals who) (borrows (homes_marked homes) ++ objects_named name) refl
+    (in_both is_cleared o (borrows (homes_marked homes)) (objects_named name) (in_borrows is_cleared o (λ h. refl) (homes_marked homes)) (in_names is_cleared o (λ n. refl) (if_any name)))) i
+writes_of_kind who holder o (access.LoadProgram addr name replace declared homes) i =
+    in_more is_loaded o (object.Text who) (borrows (homes_marked homes) ++ objects_named declared) refl
+    (in_both is_loaded o (borrows (homes_marked homes)) (objects_named declared) (in_borrows is_loaded o (λ h. refl) (homes_marked homes)) (in_names is_loaded o (λ n. refl) (if_any declared))) i
+writes_of_kind who holder o (access.Enter name mark) i = in_entered is_borrow o (λ h. refl) holder i
+writes_of_kind who holder o (access.Drop homes) i = in_borrows is_borrow o (λ h. refl) (homes_marked homes) i
+writes_of_kind who holder o (access.OpenDevices addrs) i = in_holds is_hold o (λ a. refl) addrs i
+writes_of_kind who holder o (access.CloseDevices addrs) i = in_holds is_hold o (λ a. refl) addrs i
+writes_of_kind who holder o (access.Declare name old) i = in_names is_name o (λ n. refl) (names_of name old) i
+writes_of_kind who holder o (access.FindPart name) i = absurd i
+writes_of_kind who holder o (access.Limits addr name) i = absurd i
+writes_of_kind who holder o (access.ListDisk addr) i = absurd i
+writes_of_kind who holder o (access.DataOpen addr name) i = absurd i
+writes_of_kind who holder o (access.DataLoad slot kinds) i = absurd i
+writes_of_kind who holder o (access.Skip slot way) i = absurd i
+writes_of_kind who holder o a i = in_one (writes_kind a) o _ refl i
+
+-- and an object of another kind is written by none
+pub unwritten : (who : ℕ) (holder : Option ℕ) (o : Object) (a : Access) → writes_kind a o ≡ false → IsIn o ((row a).writes who holder) → ⊥
+unwritten who holder o a never i = false≢true (sym never ∙ writes_of_kind who holder o a i)

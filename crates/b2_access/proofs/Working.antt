@@ -3,7 +3,7 @@
 use Rattle.std.proofs.Common.{◌≡◌, ◌∙◌, ℕ, Bool, List, Option, Some, None, ap, inl, inr, refl}
 use Rattle.b2_base.specs.declared.files.Slot.{Slot}
 use Rattle.b2_vars.specs.Globals.{Globals, MayBecome}
-use Rattle.b2_access.specs.Homes.{FinishesWithin, FramesIn, IsWithin, PlaceIn, PlannedIn, PlansWithin}
+use Rattle.b2_access.specs.Homes.{FinishesWithin, FramesNamed, Naming, NamesOnly, PlaceNamed, PlannedNamed, PlansWithin}
 use Rattle.b2_access.specs.Keeping.{FinishesInPlace, FinishesKeepFiles, FinishesKeepHeld, FinishesKeepNone, PlansInPlace, PlansKeepFiles, PlansKeepHeld, PlansKeepNone}
 use Rattle.b2_access.specs.Lending.{SeenLent}
 use Rattle.b2_access.specs.OwnTerminal.{FinishesAtTerminal, PlannedAt, PlansAtTerminal}
@@ -26,7 +26,7 @@ pub as_it_comes : (P : Planned → Type 0) (me : Private) (s : SeenLent) (k : Wo
 as_it_comes P me s (Ends w) h = h
 as_it_comes P me s (Plans p) h = h
 
-pub within : (among : ℕ → Bool) (me : Private) (w : Work) (slots : List (Option Slot)) (held : List (List ℕ)) → IsWithin among me → IsWithin among (put_all w slots held me)
+pub within : (among : Naming) (me : Private) (w : Work) (slots : List (Option Slot)) (held : List (List ℕ)) → NamesOnly among me → NamesOnly among (put_all w slots held me)
 within among me w slots held h = record { part = h.part; place = h.place; kept = h.kept; frames = h.frames }
 
 pub keeps_or_shows : (o : Option (List ℕ)) (before : PendingOutput) → KeepsOrShows before (waiting_after o before)
@@ -54,7 +54,7 @@ reaches me s (Plans p) h = reached_unless_asks s.globals p
 module _ (way : Private → SeenLent → Working) where
   pub plans_within : PlansEachWithin way → PlansWithin (plans_by way)
   plans_within h among me s w =
-      (after_plan (IsWithin among) me s (way me s) (λ x. within among me x me.slots me.held w), as_it_comes (PlannedIn among) me s (way me s) (h among me s w))
+      (after_plan (NamesOnly among) me s (way me s) (λ x. within among me x me.slots me.held w), as_it_comes (PlannedNamed among) me s (way me s) (h among me s w))
 
   pub plans_in_place : PlansInPlace (plans_by way)
   plans_in_place me s = after_plan (λ x. x.place ≡ me.place) me s (way me s) (λ w. refl)
@@ -92,7 +92,7 @@ pub record LeavesRest {W : Type 0} (form : Form W) : Type 0 where
 -- it leaves the frames and the place that is kept; the files that are open; the devices that are held
 pub record LeavesFrames {W : Type 0} (form : Form W) : Type 0 where
   pub kept : (w : W) (me : Private) → (form.put w me).kept ≡ me.kept
-  pub names : (among : ℕ → Bool) (w : W) (me : Private) → IsWithin among me → IsWithin among (form.put w me)
+  pub names : (among : Naming) (w : W) (me : Private) → NamesOnly among me → NamesOnly among (form.put w me)
 
 abbrev pub LeavesFiles : {W : Type 0} → Form W → Type 0
 LeavesFiles {W} form = (w : W) (me : Private) → ((form.put w me).part ≡ me.part) × ((form.put w me).slots ≡ me.slots)
@@ -159,7 +159,7 @@ pub steering_rest : LeavesRest steering
 steering_rest = record { place = λ w me. refl; term = λ w me. refl; shows = λ w me. keeps_or_shows w.work.shows me.pending; back = λ me. refl; untold = λ me. refl }
 
 -- one of control names what the place that is kept and the frames name then
-pub control_in : (among : ℕ → Bool) (c : Control) (me : Private) → IsWithin among me → PlaceIn among c.kept × FramesIn among c.stack → IsWithin among (put_control c me)
+pub control_in : (among : Naming) (c : Control) (me : Private) → NamesOnly among me → PlaceNamed among c.kept × FramesNamed among c.stack → NamesOnly among (put_control c me)
 control_in among c me w h = record { part = w.part; place = w.place; kept = h.0; frames = h.1 }
 
 -- the files that are open, and the devices that are held

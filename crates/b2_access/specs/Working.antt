@@ -13,7 +13,7 @@ use Rattle.b2_vars.specs.Assigned.{Changed}
 use Rattle.b2_vars.specs.Globals.{Globals, MayBecome}
 use Rattle.b2_vars.specs.Tables.{VarsState}
 use Rattle.b2_access.specs.AnswerKinds.{delays}
-use Rattle.b2_access.specs.Homes.{FinishesWithin, IsWithin, OutcomeIn, PlaceIn, PlannedIn, PlansWithin}
+use Rattle.b2_access.specs.Homes.{FinishesWithin, Naming, NamesOnly, OutcomeNamed, PlaceNamed, PlannedNamed, PlansWithin}
 use Rattle.b2_access.specs.Keeping.{FinishesInPlace, FinishesKeepFiles, FinishesKeepHeld, FinishesKeepNone, PlansInPlace, PlansKeepFiles, PlansKeepHeld, PlansKeepNone}
 use Rattle.b2_access.specs.Lending.{SeenLent}
 use Rattle.b2_access.specs.OwnTerminal.{FinishesAtTerminal, PlannedAt, PlansAtTerminal}
@@ -199,17 +199,17 @@ finishes_in form way x a me s =
 abbrev pub finishes_by : FinishingIn Work → Access → Answer → Private → SeenLent → Finishing
 finishes_by way x a me s = finishes_in plain way x a me s
 
--- WHAT THEY STILL HAVE TO SHOW. What is planned leads to the home of the place and marks no home but those that were named before, and
+-- WHAT THEY STILL HAVE TO SHOW. What is planned leads to no place but one that goes with those that were named before, and marks no home but these, and
 -- asks at the own terminal alone; what finishes leads to the home of the place; an answer that delays changes nothing; and the `@`
 -- variables are changed where a receiver among them was reached, and nowhere else.
 abbrev pub PlansEachWithin : (Private → SeenLent → Working) → Type 0
-PlansEachWithin way = (among : ℕ → Bool) (me : Private) (s : SeenLent) → IsWithin among me → PlannedIn among (planned_of (way me s))
+PlansEachWithin way = (among : Naming) (me : Private) (s : SeenLent) → NamesOnly among me → PlannedNamed among (planned_of (way me s))
 
 abbrev pub PlansEachAtTerminal : (Private → SeenLent → Working) → Type 0
 PlansEachAtTerminal way = (me : Private) (s : SeenLent) → PlannedAt me.term (planned_of (way me s))
 
 abbrev pub LeadsWithin : {W : Type 0} → FinishingIn W → Type 0
-LeadsWithin way = (among : ℕ → Bool) (x : Access) (a : Answer) (me : Private) (s : SeenLent) → PlaceIn among me.place → OutcomeIn among (way x a me s).outcome
+LeadsWithin way = (among : Naming) (x : Access) (a : Answer) (me : Private) (s : SeenLent) → PlaceNamed among me.place → OutcomeNamed among (way x a me s).outcome
 
 abbrev pub ChangesNothing : {W : Type 0} → Form W → FinishingIn W → Type 0
 ChangesNothing form way = (x : Access) (a : Answer) (me : Private) (s : SeenLent) → delays a ≡ true → (way x a me s).work ≡ form.unchanged me

@@ -12,6 +12,7 @@ use Rattle.b2_access.specs.OwnDevices.{ReachesListed}
 use Rattle.b2_access.specs.OwnTerminal.{NamesAlone}
 use Rattle.b2_access.specs.Touching.{IsLegal, IsName}
 use Rattle.b2_access.specs.declared.accesses.Access.{Access}
+use Rattle.b2_access.specs.declared.accesses.Access.TheVariants as access
 use Rattle.b2_access.specs.declared.devices.Device.{Device}
 use Rattle.b2_access.specs.declared.planned.Outcome.TheVariants as outcome
 use Rattle.b2_access.specs.declared.planned.Planned.{Planned}
@@ -23,12 +24,27 @@ use Rattle.b2_drive.specs.Asking.{asks_or_fails}
 use Rattle.b2_drive.specs.Drives.{DrivesSeen, device_named, drive_used, platter_meant, platter_used}
 use Rattle.b2_drive.specs.FileNames.{file_name, name_given}
 
--- an access that reaches devices that are listed for a partition, names no terminal, marks no home, and may be asked for
+-- WHICH KINDS OF ACCESSES statements on disks, on programs and on devices ask for
+abbrev pub is_of_drives : Access → Bool
+is_of_drives (access.OpenDevices addrs) = true
+is_of_drives (access.CloseDevices addrs) = true
+is_of_drives (access.Limits addr name) = true
+is_of_drives (access.ListDisk addr) = true
+is_of_drives (access.Scratch addr name) = true
+is_of_drives (access.Format addr index end) = true
+is_of_drives (access.SaveProgram addr old name from to) = true
+is_of_drives (access.LoadProgram addr name replace declared homes) = true
+is_of_drives (access.MovePlatter from to) = true
+is_of_drives (access.MoveFile from name to) = true
+is_of_drives a = false
+
+-- an access of these kinds that reaches devices that are listed for a partition, names no terminal, marks no home, and may be asked for
 pub record Fits (devices : List Device) (who : ℕ) (a : Access) : Type 0 where
   pub listed : ReachesListed devices who a
   pub terminal : terminal_of a ≡ None
   pub homes : homes_of a ≡ []
   pub legal : IsLegal a
+  pub kind : is_of_drives a ≡ true
 
 pub names_no_terminal : (devices : List Device) (who t : ℕ) (a : Access) → Fits devices who a → NamesAlone t a
 names_no_terminal devices who t a fits = names_none t a (Fits.terminal fits)

@@ -18,7 +18,7 @@ use Rattle.b2_syntax.specs.declared.Entered.{Entered}
 use Rattle.b2_syntax.specs.declared.Entered.TheVariants as entered
 use Rattle.b2_syntax.specs.declared.LineErr.{LineErr}
 use Rattle.b2_syntax.specs.declared.LineErr.TheVariants as refusal
-use Rattle.b2_access.specs.Homes.{AnswerIn, FramesIn, HomesIn, IsWithin, OutcomeIn, PlaceIn, PlannedIn}
+use Rattle.b2_access.specs.Homes.{AnswerIn, FramesIn, HomesIn, IsWithin, OutcomeIn, PlaceIn, PlannedIn, at_homes}
 use Rattle.b2_access.specs.Lending.{SeenLent}
 use Rattle.b2_access.specs.Leading.{AnswersLead, TouchedNamesIn}
 use Rattle.b2_access.specs.Loans.{Loan, LoansGlobals, loan_touched}
@@ -204,7 +204,7 @@ module _ (ways : Ways) (lawful : AreLawful ways) (among : ℕ → Bool) where
 
   planned_in : (b : Builder) (p : Place) (me : Private) (s : SeenLent) → Within me → PlanningIn (plan_by ways b p me s)
   planned_in (builder.Listing from to) p me s w = listed_in (is_some p.line) (from, to) me s w
-  planned_in (builder.Language r) p me s w = (lawful.leave_the_rest r).plans_within among me s w
+  planned_in (builder.Language r) p me s w = (lawful.leave_the_rest r).plans_within (at_homes among) me s w
   planned_in builder.Nobody p me s w = (w, tt)
 
   begun_in : (x : Planned) (b : Builder) (p : Place) (me : Private) (home : Lines) → among p.home ≡ true → PlannedIn among x → Within me → Within (begun_by x b p me home).me
@@ -221,8 +221,8 @@ module _ (ways : Ways) (lawful : AreLawful ways) (among : ℕ → Bool) where
   FinishingIn x = IsWithin among x.me × OutcomeIn among x.outcome
 
   finish_in : (b : Builder) (x : Access) (a : Answer) (me : Private) (s : SeenLent) → AnswerIn among a → Within me → FinishingIn (finish_by ways b x a me s)
-  finish_in (builder.Listing from to) x a me s leads w = (within among me (shown x a me).work me.slots me.held w, shown_leads among (column_shown x a) me)
-  finish_in (builder.Language r) x a me s leads w = (lawful.leave_the_rest r).finishes_within among x a me s leads w
+  finish_in (builder.Listing from to) x a me s leads w = (within (at_homes among) me (shown x a me).work me.slots me.held w, shown_leads (at_homes among) (column_shown x a) me)
+  finish_in (builder.Language r) x a me s leads w = (lawful.leave_the_rest r).finishes_within (at_homes among) x a me s leads w
   finish_in builder.Nobody x a me s leads w = (w, tt)
 
   finished_in : (b : Builder) (x : Access) (a : Answer) (way : Onward) (p : Place) (me : Private) (s : SeenLent) → among p.home ≡ true → AnswerIn among a → Within me → EndIn (finishes ways b x a way p me s)

@@ -3,7 +3,7 @@ use Rattle.std.proofs.Common.{ℕ, Bool, true, false, if◌then◌else◌, List,
 use Rattle.std.specs.Str.{bytes_eq}
 use Rattle.b2_flow.specs.declared.frame.Place.{Place}
 use Rattle.b2_text.specs.Program.{Lines}
-use Rattle.b2_access.specs.Homes.{HomesIn, IsWithin, PlannedIn}
+use Rattle.b2_access.specs.Homes.{HomesIn, IsWithin, PlannedIn, at_homes}
 use Rattle.b2_access.specs.Lending.{SeenLent}
 use Rattle.b2_access.specs.Partition.{is_ready, terminal_address}
 use Rattle.b2_access.specs.Placed.{Statement, statement_placed}
@@ -41,7 +41,7 @@ module _ (ways : Ways) (lawful : AreLawful ways) (among : ℕ → Bool) where
 
   planned_by : (b : Builder) (p : Place) (me : Private) (s : SeenLent) → IsWithin among me → PlannedIn among (plan_by ways b p me s).planned
   planned_by (builder.Listing from to) p me s w = listed (is_some p.line) (from, to) me s
-  planned_by (builder.Language r) p me s w = ((lawful.leave_the_rest r).plans_within among me s w).1
+  planned_by (builder.Language r) p me s w = ((lawful.leave_the_rest r).plans_within (at_homes among) me s w).1
   planned_by builder.Nobody p me s w = tt
 
   begun_asks : (x : Planned) (b : Builder) (p : Place) (me : Private) (home : Lines) → PlannedIn among x → Asks (access_asked (begun_by x b p me home).progress)
@@ -67,7 +67,7 @@ module _ (ways : Ways) (lawful : AreLawful ways) (among : ℕ → Bool) where
       begins_asks (statement_placed p me.immediate seen.home.lines) p me seen w
 
   entering : (x : Option (ℕ × Option (List ℕ))) (me : Private) (s : StoreState) → IsWithin among me → Asks (asks_to_enter ways x me s)
-  entering (Some line) me s w = entered_within among me.stack w.frames
+  entering (Some line) me s w = entered_within (at_homes among) me.stack w.frames
   entering None me s w = at_place me.place me s w
 
   typing : (x : Option (List ℕ)) (me : Private) (s : StoreState) → IsWithin among me → Asks (asks_to_type ways x me s)
@@ -85,4 +85,4 @@ module _ (ways : Ways) (lawful : AreLawful ways) (among : ℕ → Bool) where
   halting me s w = by_test (is_ready me) _ _ (showing me.pending (record me { halt = false }) s (record { part = w.part; place = w.place; kept = w.kept; frames = w.frames })) tt
 
   pub asks_within : (me : Private) (s : StoreState) → IsWithin among me → HomesIfAny among (asking ways me s)
-  asks_within me s w = by_test me.reset _ _ (entered_within among me.stack w.frames) (by_test me.halt _ _ (halting me s w) (showing me.pending me s w))
+  asks_within me s w = by_test me.reset _ _ (entered_within (at_homes among) me.stack w.frames) (by_test me.halt _ _ (halting me s w) (showing me.pending me s w))

@@ -1,10 +1,8 @@
 -- Which statements ask for accesses that enter, leave or give back no text: all but those of control, and LOAD, which gives back the texts
 -- that calls entered.
 use Rattle.std.specs.Prelude.{◌≡◌, ◌≤◌, ℕ, ◌==◌, ◌||◌, Bool, true, false, List, [], ◌∷◌, Option, Some, None, is_some, Result, Ok, Err, refl, if◌then◌else◌}
-use Rattle.std.specs.Str.{bytes_eq}
 use Rattle.std.proofs.Common.{sym, ap, ◌∙◌}
 use Rattle.std.proofs.lemmas.Bool.{true≢false}
-use Rattle.b2_base.specs.declared.codes.TheConstants.{P34_RANGE, P48_DEVICE}
 use Rattle.b2_atom.specs.Tree.{Trees}
 use Rattle.b2_atom.specs.Tree.Trees.{Put, In, Done}
 use Rattle.b2_atom.specs.declared.rows.TheConstants as row
@@ -22,7 +20,7 @@ use Rattle.b2_access.specs.Homes.{AnswerIn, homes_of}
 use Rattle.b2_access.specs.Lending.{SeenLent}
 use Rattle.b2_access.specs.Partition.{setting_of}
 use Rattle.b2_access.specs.Reach.{Reach}
-use Rattle.b2_access.specs.Working.{Working, planned_of, stops}
+use Rattle.b2_access.specs.Working.{planned_of, stops}
 use Rattle.b2_access.specs.declared.accesses.Access.{Access}
 use Rattle.b2_access.specs.declared.accesses.Access.TheVariants as access
 use Rattle.b2_access.specs.declared.accesses.Answer.{Answer}
@@ -35,18 +33,14 @@ use Rattle.b2_access.proofs.Borrowers.{marked_inside}
 use Rattle.b2_access.proofs.Choice.{either}
 use Rattle.b2_access.proofs.Dispatch.{each_dispatch}
 use Rattle.b2_access.proofs.Working.{as_it_comes}
+use Rattle.b2_drive.proofs.Asked.{Fits, is_of_drives}
 use Rattle.b2_drive.specs.Asking.{asks_or_fails}
 use Rattle.b2_drive.specs.Drives.{DrivesSeen, drive_used, drives_of}
 use Rattle.b2_drive.specs.FileNames.{name_given}
-use Rattle.b2_stmt_device.specs.Freeing.{asks_to_free, devices_to_free, frees_held, plans_to_free}
-use Rattle.b2_stmt_device.specs.Held.{are_listed, those_listed}
+use Rattle.b2_stmt_device.proofs.Planned as stmt_device_planned
 use Rattle.b2_stmt_device.specs.Plan as stmt_device
-use Rattle.b2_stmt_device.specs.Taking.{asks_to_take, devices_to_take}
-use Rattle.b2_stmt_disk.specs.Limits.{asks_limits, named_file}
-use Rattle.b2_stmt_disk.specs.Listing.{asks_to_list}
-use Rattle.b2_stmt_disk.specs.Moving.{asks_to_move, drive_from, file_moved, moves, moves_apart}
+use Rattle.b2_stmt_disk.proofs.Planned as stmt_disk_planned
 use Rattle.b2_stmt_disk.specs.Plan as stmt_disk
-use Rattle.b2_stmt_disk.specs.Scratching.{asks_to_format, asks_to_scratch, sectors_given}
 use Rattle.b2_stmt_file.proofs.Planned as stmt_file_planned
 use Rattle.b2_stmt_file.specs.Plan as stmt_file
 use Rattle.b2_stmt_io.proofs.Planned as stmt_io_planned
@@ -149,97 +143,22 @@ module _ (P : Access → Type 0) where
   after (Ok x) next h = h x
   after (Err code) next h = tt
 
-fails_or_asks : (r : Result Access ℕ) → AsksSo EntersNone r → AsksNone (asks_or_fails r)
-fails_or_asks (Ok x) h = h
-fails_or_asks (Err code) h = tt
+-- those on disks, and those that take and free devices, by the kinds that they ask for
+seeks_none : (a : Access) → is_of_drives a ≡ true → seeks a ≡ false
+seeks_none (access.FindPart name) is = absurd (true≢false (sym is))
+seeks_none (access.Enter name mark) is = absurd (true≢false (sym is))
+seeks_none a is = refl
 
-abbrev DiskAsks : Result Access ℕ → Type 0
-DiskAsks r = AsksSo EntersNone r
-
-none : (x : Access) → homes_of x ≡ [] → seeks x ≡ false → EntersNone x
-none x homes nobody = record { homes = homes; seeks_nobody = nobody }
-
-limits_ask : (d : DrivesSeen) (e : Context) (t : Trees) → DiskAsks (asks_limits d e t)
-limits_ask d e (Put word (In n drive operands)) =
-    after EntersNone (drive_used d drive) (λ addr. named_file e operands >>= (λ name. Ok (access.Limits addr name)))
-    (λ addr. after EntersNone (named_file e operands) (λ name. Ok (access.Limits addr name)) (λ name. none (access.Limits addr name) refl refl))
-limits_ask d e t = tt
-
-scratch_asks : (d : DrivesSeen) (e : Context) (t : Trees) → DiskAsks (asks_to_scratch d e t)
-scratch_asks d e (Put word (In n drive (In m name end))) =
-    after EntersNone (drive_used d drive) (λ addr. name_given e name >>= (λ x. Ok (access.Scratch addr x)))
-    (λ addr. after EntersNone (name_given e name) (λ x. Ok (access.Scratch addr x)) (λ x. none (access.Scratch addr x) refl refl))
-scratch_asks d e t = tt
-
-format_asks : (d : DrivesSeen) (e : Context) (t : Trees) → DiskAsks (asks_to_format d e t)
-format_asks d e (Put scratch (Put disk (In n drive (Put ls (Put is (In m index (Put comma (Put end (Put equals (In k last more)))))))))) =
-    after EntersNone (drive_used d drive) (λ addr. sectors_given e index >>= (λ i. sectors_given e last >>= (λ l. Ok (access.Format addr i l))))
-    (λ addr. after EntersNone (sectors_given e index) (λ i. sectors_given e last >>= (λ l. Ok (access.Format addr i l)))
-    (λ i. after EntersNone (sectors_given e last) (λ l. Ok (access.Format addr i l)) (λ l. none (access.Format addr i l) refl refl)))
-format_asks d e t = tt
-
-list_asks : (d : DrivesSeen) (t : Trees) → DiskAsks (asks_to_list d t)
-list_asks d (Put list (Put dc (In n drive end))) = after EntersNone (drive_used d drive) (λ addr. Ok (access.ListDisk addr)) (λ addr. none (access.ListDisk addr) refl refl)
-list_asks d t = tt
-
-moves_ask : (a : List ℕ) (name : Option (List ℕ)) (b : List ℕ) → EntersNone (moves a name b)
-moves_ask a None b = none (access.MovePlatter a b) refl refl
-moves_ask a (Some name) b = none (access.MoveFile a name b) refl refl
-
-apart_asks : (a : List ℕ) (name : Option (List ℕ)) (b : List ℕ) → DiskAsks (moves_apart a name b)
-apart_asks a name b = either DiskAsks (bytes_eq a b) (Err P34_RANGE) (Ok (moves a name b)) tt (moves_ask a name b)
-
-move_asks : (d : DrivesSeen) (e : Context) (t : Trees) → DiskAsks (asks_to_move d e t)
-move_asks d e (Put move (In n moved (Put to (In m drive end)))) =
-    after EntersNone (drive_from d moved) (λ a. file_moved e moved >>= (λ name. drive_used d drive >>= (λ b. moves_apart a name b)))
-    (λ a. after EntersNone (file_moved e moved) (λ name. drive_used d drive >>= (λ b. moves_apart a name b))
-    (λ name. after EntersNone (drive_used d drive) (λ b. moves_apart a name b) (λ b. apart_asks a name b)))
-move_asks d e t = tt
-
-disk_asks : (d : DrivesSeen) (e : Context) (r : ℕ) (t : Trees) → DiskAsks (stmt_disk.asked_of d e r t)
-disk_asks d e r t =
-    either DiskAsks (r == row.LIMITS) _ _ (limits_ask d e t)
-    (either DiskAsks (r == row.SCRATCH) _ _ (scratch_asks d e t)
-    (either DiskAsks (r == row.SCRATCH_DISK) _ _ (format_asks d e t)
-    (either DiskAsks (r == row.LIST_DISK) _ _ (list_asks d t)
-    (either DiskAsks (r == row.MOVE) _ _ (move_asks d e t) tt))))
-
-abbrev WorkAsks : Working → Type 0
-WorkAsks w = AsksNone (planned_of w)
+fits_none : (devices : List Device) (who : ℕ) (a : Access) → Fits devices who a → EntersNone a
+fits_none devices who a fits = record { homes = Fits.homes fits; seeks_nobody = seeks_none a (Fits.kind fits) }
 
 pub disks_ask_none : (devices : List Device) (me : Private) (s : SeenLent) → AsksNone (stmt_disk.plan devices me s).planned
 disks_ask_none devices me s =
-    as_it_comes AsksNone me s (stmt_disk.works devices me s)
-    (each_dispatch stmt_disk.is_refused stops (stmt_disk.does devices me s) me s WorkAsks tt tt
-    (λ p is u. either WorkAsks (u.row == row.SELECT_DISK) _ _ tt
-    (let e = context_of (work_in (setting_of me) s.home me.vars s.globals) in
-    let d = drives_of devices me in
-    fails_or_asks (stmt_disk.asked_of d e u.row u.tree) (disk_asks d e u.row u.tree))))
-
--- those that take and free devices
-held_ask : (held : List (List ℕ)) → AsksNone (frees_held held)
-held_ask [] = tt
-held_ask (a ∷ held) = none (access.CloseDevices (a ∷ held)) refl refl
-
-free_asks : (devices : List Device) (who : ℕ) (addrs : List (List ℕ)) → AsksNone (asks_or_fails (asks_to_free devices who addrs))
-free_asks devices who addrs =
-    either (λ (r : Result Access ℕ). AsksNone (asks_or_fails r)) (are_listed devices who addrs) (Ok (access.CloseDevices addrs)) (Err P48_DEVICE) (none (access.CloseDevices addrs) refl refl) tt
-
-freeing_asks : (devices : List Device) (me : Private) (o : Option (List (List ℕ))) → AsksNone (plans_to_free devices me o)
-freeing_asks devices me None = held_ask (those_listed devices me.part me.held)
-freeing_asks devices me (Some addrs) = free_asks devices me.part addrs
-
-take_asks : (devices : List Device) (who : ℕ) (t : Trees) → AsksNone (asks_or_fails (asks_to_take devices who t))
-take_asks devices who t =
-    either (λ (r : Result Access ℕ). AsksNone (asks_or_fails r)) (are_listed devices who (devices_to_take t)) (Ok (access.OpenDevices (devices_to_take t))) (Err P48_DEVICE)
-    (none (access.OpenDevices (devices_to_take t)) refl refl) tt
+    as_it_comes AsksNone me s (stmt_disk.works devices me s) (stmt_disk_planned.each_planned devices me s AsksNone tt tt (λ code. tt) (λ a fits stays. fits_none devices me.part a fits))
 
 pub devices_ask_none : (devices : List Device) (me : Private) (s : SeenLent) → AsksNone (stmt_device.plan devices me s).planned
 devices_ask_none devices me s =
-    as_it_comes AsksNone me s (stmt_device.works devices me s)
-    (each_dispatch stmt_device.is_refused stops (stmt_device.does devices me s) me s WorkAsks tt tt
-    (λ p is u. either WorkAsks (u.row == row.SELECT_PRINT) _ _ tt
-    (either AsksNone (u.row == row.OPEN) _ _ (take_asks devices me.part u.tree) (either AsksNone (u.row == row.CLOSE) _ _ (freeing_asks devices me (devices_to_free u.tree)) tt))))
+    as_it_comes AsksNone me s (stmt_device.works devices me s) (stmt_device_planned.each_planned devices me s AsksNone tt tt (λ code. tt) (λ a fits. fits_none devices me.part a fits))
 
 -- ---- programs: LOAD gives back what calls entered, and replaces the lines where it stands in a line of the program; SAVE enters none
 

@@ -11,13 +11,13 @@ use Rattle.b2_flow.specs.declared.frame.Place.{Place}
 use Rattle.b2_text.specs.Program.{Lines, number_after}
 use Rattle.b2_access.specs.Borrowers.{is_marked}
 use Rattle.b2_access.specs.Entering.{entered_after}
-use Rattle.b2_access.specs.Homes.{FinishesWithin, FramesIn, IsWithin, OutcomeIn, PartIn, PlaceIn, PlannedIn, PlansWithin}
+use Rattle.b2_access.specs.Homes.{FinishesWithin, FramesIn, IsWithin, OutcomeIn, PartIn, PlaceIn, PlannedIn, PlansWithin, at_homes}
 use Rattle.b2_access.specs.Lending.{SeenLent}
 use Rattle.b2_access.specs.Planning.{Finishing, Planning}
 use Rattle.b2_access.specs.Standing.{EndsStanding, FramesStand, LeadsStanding, PlaceStands, PlansStanding, Stands, entered_in, is_open}
-use Rattle.b2_access.specs.Steering.{Steered, put_control, steered}
-use Rattle.b2_access.specs.Views.{ChangeCame, ChangeLater, ChangeRefused, DiskChanged, ProgramCame, ProgramLater, ProgramLoaded, ProgramLocked, ProgramRefused, change_came, program_came}
-use Rattle.b2_access.specs.Working.{Worked, Working, finishes_by, planned_of, plans_by}
+use Rattle.b2_access.specs.Steering.{Steered, steered}
+use Rattle.b2_access.specs.Views.{ChangeCame, ChangeLater, ChangeRefused, DiskChanged, change_came}
+use Rattle.b2_access.specs.Working.{Worked, Working, finishes_by, plans_by}
 use Rattle.b2_access.specs.declared.accesses.Access.{Access}
 use Rattle.b2_access.specs.declared.accesses.Access.TheVariants as access
 use Rattle.b2_access.specs.declared.accesses.Answer.{Answer}
@@ -26,7 +26,7 @@ use Rattle.b2_access.specs.declared.devices.Device.{Device}
 use Rattle.b2_access.specs.declared.planned.Outcome.{Outcome}
 use Rattle.b2_access.specs.declared.planned.Outcome.TheVariants as outcome
 use Rattle.b2_access.specs.declared.private.Private.{Private}
-use Rattle.b2_access.proofs.Working.{after_plan, as_it_comes}
+use Rattle.b2_access.proofs.Working.{after_plan}
 use Rattle.b2_drive.specs.Asking.{change_ends}
 use Rattle.b2_stmt.specs.Borrowing.{EntersOthers}
 use Rattle.b2_stmt.specs.Plan as stmt
@@ -38,7 +38,7 @@ use Rattle.b2_stmt_file.specs.Plan as stmt_file
 use Rattle.b2_stmt_io.specs.Plan as stmt_io
 use Rattle.b2_stmt_mat.specs.Plan as stmt_mat
 use Rattle.b2_stmt_pack.specs.Plan as stmt_pack
-use Rattle.b2_stmt_program.specs.Loading.{loaded, loading_ends, replacing, started}
+use Rattle.b2_stmt_program.specs.Loading.{loaded, started}
 use Rattle.b2_stmt_program.specs.Plan as stmt_program
 use Rattle.b2_stmt_var.specs.Plan as stmt_var
 use Rattle.b2_sched.proofs.EnteredAsked.{
@@ -58,11 +58,10 @@ use Rattle.b2_sched.proofs.EnteredAsked.{
   variables_ask_none,
 }
 use Rattle.b2_sched.proofs.EnteredRules.{all_given_back, own_open}
-use Rattle.b2_sched.proofs.OwnControl.{control_finishes_own, control_plans_own}
-use Rattle.b2_sched.proofs.OwnLeads as own_leads
+use Rattle.b2_sched.proofs.OwnNames.{finishes_own_lines, plans_own_lines}
 use Rattle.b2_sched.specs.Choice.{basic, family_of, finish_by, plan_by}
-use Rattle.b2_sched.specs.Inside.{EnterAsSaid, FinishesAsAnswered, FinishesOwn, FramesOwn, HasOwnLine, LeadsOwn, PlaceOwn, PlannedOwn, PlansOwn, is_own_line}
-use Rattle.b2_sched.specs.Lawful.{leave_the_rest}
+use Rattle.b2_sched.specs.Inside.{EnterAsSaid, FinishesAsAnswered, HasOwnLine, PlaceOwn, is_own_line}
+use Rattle.b2_sched.specs.Lawful.{basic_is_lawful, leave_the_rest}
 use Rattle.b2_sched.specs.declared.choice.Family.{Family}
 use Rattle.b2_sched.specs.declared.choice.Family.TheVariants as family
 
@@ -140,19 +139,11 @@ stays_standing me after o f w h = record {
   leads = subst (λ (fs : List Frame). LeadsStanding me.part fs me.place o) (sym f.stack) (leads_open me.part me.stack me.place o w.place h);
 }
 
-stays_own : (p : ℕ) (me after : Private) → SameFrames me after → HasOwnLine p me → HasOwnLine p after
-stays_own p me after f h = record {
-  part = f.part ∙ h.part;
-  place = subst (PlaceOwn p) (sym f.place) h.place;
-  kept = subst (PlaceOwn p) (sym f.kept) h.kept;
-  frames = subst (FramesOwn p) (sym f.stack) h.frames;
-}
-
 plan_standing : (plan : Private → SeenLent → Planning) → PlansWithin plan → ((me : Private) (s : SeenLent) → SameFrames me (plan me s).me) → PlansStanding plan
 plan_standing plan within same me s o is w =
     let among : ℕ → Bool = λ h. is_open me.part me.stack h in
     let f = same me s in
-    (stays_standing me (plan me s).me o f w (subst (PlannedIn among) is (within among me s (names_open me w)).1), λ g. ap (entered_in g) f.stack)
+    (stays_standing me (plan me s).me o f w (subst (PlannedIn among) is (within (at_homes among) me s (names_open me w)).1), λ g. ap (entered_in g) f.stack)
 
 finish_standing : (plan : Private → SeenLent → Planning) (finish : Access → Answer → Private → SeenLent → Finishing) → FinishesWithin finish → ((x : Access) (a : Answer) (me : Private) (s : SeenLent) → SameFrames me (finish x a me s).me)
     → ((me : Private) (s : SeenLent) → AsksNone (plan me s).planned) → FinishesAsAnswered plan finish
@@ -160,7 +151,7 @@ finish_standing plan finish within same none x a me s t may is again no_place ow
     let among : ℕ → Bool = λ h. is_open me.part me.stack h in
     let f = same x a me s in
     let enters_none : EntersNone x = subst AsksNone is (none me t) in (
-      stays_standing me (finish x a me s).me (finish x a me s).outcome f w (within among x a me s (leads_to_nobody among x a enters_none.seeks_nobody may) (names_open me w)).1,
+      stays_standing me (finish x a me s).me (finish x a me s).outcome f w (within (at_homes among) x a me s (leads_to_nobody among x a enters_none.seeks_nobody may) (names_open me w)).1,
       λ g low high. ap (entered_in g) f.stack ∙ sym (none_after x a g (entered_in g me.stack) low high enters_none),
     )
 
@@ -206,37 +197,7 @@ module _ (me : Private) (w : Stands me) where
 programs_finish : (devices : List Device) → FinishesAsAnswered (stmt_program.plan devices) stmt_program.finish
 programs_finish devices x a me s t may is again none own w = program_well me w x a s.own.lines own (subst (LoadsIfAsks me) is (programs_load devices me t))
 
--- and it leaves immediate lines their own
-module _ (part : ℕ) where
-  abbrev ProgramOwn : Private → Steered → Type 0
-  ProgramOwn me e = HasOwnLine part (put_control e.work me) × LeadsOwn part e.outcome
-
-  started_own : (n : Option ℕ) (me : Private) → HasOwnLine part me → ProgramOwn me (started n me)
-  started_own None me h = (record { part = h.part; place = h.place; kept = tt; frames = tt }, tt)
-  started_own (Some n) me h = (record { part = h.part; place = h.place; kept = tt; frames = tt }, refl)
-
-  loaded_own : (replace : Bool) (lines : Lines) (me : Private) → HasOwnLine part me → ProgramOwn me (loaded replace lines me)
-  loaded_own true lines me h = started_own (number_after None lines) me h
-  loaded_own false lines me h = (record { part = h.part; place = h.place; kept = tt; frames = tt }, tt)
-
-  loading_own : (k : ProgramCame) (replace : Bool) (lines : Lines) (me : Private) → HasOwnLine part me → ProgramOwn me (loading_ends k replace lines me)
-  loading_own ProgramLoaded replace lines me h = loaded_own replace lines me h
-  loading_own ProgramLocked replace lines me h = (record { part = h.part; place = h.place; kept = h.kept; frames = h.frames }, tt)
-  loading_own (ProgramRefused code) replace lines me h = (record { part = h.part; place = h.place; kept = h.kept; frames = h.frames }, tt)
-  loading_own ProgramLater replace lines me h = (record { part = h.part; place = h.place; kept = h.kept; frames = h.frames }, tt)
-
-  program_own : (o : Option Bool) (x : Access) (a : Answer) (lines : Lines) (me : Private) → HasOwnLine part me → ProgramOwn me (stmt_program.ended_by o x a lines me)
-  program_own (Some replace) x a lines me h = loading_own (program_came x a) replace lines me h
-  program_own None x a lines me h = (record { part = h.part; place = h.place; kept = h.kept; frames = h.frames }, own_leads.change_own part (change_came x a))
-
 -- ---- each family
-
-plan_by_form : (way : Private → SeenLent → Working) → ((p : ℕ) (me : Private) (s : SeenLent) → PlaceOwn p me.place → PlannedOwn p (planned_of (way me s))) → PlansOwn (plans_by way)
-plan_by_form way leads p me s h = (stays_own p me (plans_by way me s).me (same_planned way me s) h, as_it_comes (PlannedOwn p) me s (way me s) (leads p me s h.place))
-
-finish_by_form : (finish : Access → Answer → Private → SeenLent → Finishing) → ((x : Access) (a : Answer) (me : Private) (s : SeenLent) → SameFrames me (finish x a me s).me)
-    → ((p : ℕ) (x : Access) (a : Answer) (me : Private) (s : SeenLent) → LeadsOwn p (finish x a me s).outcome) → FinishesOwn finish
-finish_by_form finish same leads p x a me s h = (stays_own p me (finish x a me s).me (same x a me s) h, leads p x a me s)
 
 same_finished : (way : Access → Answer → Private → SeenLent → Worked) (x : Access) (a : Answer) (me : Private) (s : SeenLent) → SameFrames me (finishes_by way x a me s).me
 same_finished way x a me s = record { part = refl; place = refl; kept = refl; stack = refl; numbered = refl }
@@ -318,30 +279,6 @@ others_so devices family.Programs = loads_other devices
 others_so devices family.Devices = none_other (stmt_device.plan devices) (devices_ask_none devices)
 others_so devices family.Disks = none_other (stmt_disk.plan devices) (disks_ask_none devices)
 
-plans_own_so : (devices : List Device) (f : Family) → PlansOwn (plan_by devices f)
-plans_own_so devices family.Variables = plan_by_form stmt_var.works (λ p me s k. own_leads.variables_plan p me s)
-plans_own_so devices family.Control = control_plans_own
-plans_own_so devices family.Printing = plan_by_form (stmt_io.works devices) (λ p me s k. own_leads.terminal_plan p devices me s)
-plans_own_so devices family.Terminal = plan_by_form (stmt_io.works devices) (λ p me s k. own_leads.terminal_plan p devices me s)
-plans_own_so devices family.Arrays = plan_by_form stmt_mat.works (λ p me s k. own_leads.arrays_plan p me s)
-plans_own_so devices family.Packed = plan_by_form stmt_pack.works (λ p me s k. own_leads.packed_plan p me s)
-plans_own_so devices family.Files = plan_by_form (stmt_file.works devices) (λ p me s k. own_leads.files_plan p devices me s k)
-plans_own_so devices family.Programs = plan_by_form (stmt_program.works devices) (λ p me s k. own_leads.programs_plan p devices me s)
-plans_own_so devices family.Devices = plan_by_form (stmt_device.works devices) (λ p me s k. own_leads.devices_plan p devices me s)
-plans_own_so devices family.Disks = plan_by_form (stmt_disk.works devices) (λ p me s k. own_leads.disks_plan p devices me s)
-
-finishes_own_so : (f : Family) → FinishesOwn (finish_by f)
-finishes_own_so family.Variables = finish_by_form stmt_var.finish (same_finished stmt_var.ends) (λ p x a me s. tt)
-finishes_own_so family.Control = control_finishes_own
-finishes_own_so family.Printing = finish_by_form stmt_io.finish_printing (same_finished stmt_io.printing_ends) (λ p x a me s. own_leads.printing_ends p x a me s)
-finishes_own_so family.Terminal = finish_by_form stmt_io.finish (same_finished stmt_io.ends) (λ p x a me s. own_leads.terminal_ends p x a me s)
-finishes_own_so family.Arrays = finish_by_form stmt_mat.finish (same_finished stmt_mat.ends) (λ p x a me s. tt)
-finishes_own_so family.Packed = finish_by_form stmt_pack.finish (same_finished stmt_pack.ends) (λ p x a me s. tt)
-finishes_own_so family.Files = finish_by_form stmt_file.finish files_same (λ p x a me s. own_leads.files_end p x a me s)
-finishes_own_so family.Programs = λ p x a me s h. program_own p (replacing x) x a s.own.lines me h
-finishes_own_so family.Devices = finish_by_form stmt_device.finish devices_same (λ p x a me s. own_leads.devices_end p x a me s)
-finishes_own_so family.Disks = finish_by_form stmt_disk.finish (same_finished stmt_disk.ends) (λ p x a me s. own_leads.disks_end p x a me s)
-
 pub basic_enters_as_said : (devices : List Device) → EnterAsSaid (basic devices)
 basic_enters_as_said devices = record {
   plans = λ r. plans_so devices (family_of r);
@@ -349,6 +286,6 @@ basic_enters_as_said devices = record {
   others = λ r. others_so devices (family_of r);
   plans_numbered = λ r me s. plans_stay devices (family_of r) me s;
   finishes_numbered = λ r x a me s. finishes_stay (family_of r) x a me s;
-  plans_own = λ r. plans_own_so devices (family_of r);
-  finishes_own = λ r. finishes_own_so (family_of r);
+  plans_own = plans_own_lines (basic devices) (basic_is_lawful devices);
+  finishes_own = finishes_own_lines (basic devices) (basic_is_lawful devices);
 }

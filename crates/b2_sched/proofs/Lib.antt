@@ -46,8 +46,7 @@ pub mod OpenFiles
 pub mod EnteredRules
 pub mod EnteredSteps
 pub mod OwnLines
-pub mod OwnControl
-pub mod OwnLeads
+pub mod OwnNames
 pub mod EnteredAsked
 pub mod EnteredFamilies
 pub mod InsideTexts

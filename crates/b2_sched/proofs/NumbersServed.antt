@@ -14,14 +14,14 @@ use Rattle.b2_vars.specs.Tables.{VarsState}
 use Rattle.b2_record.specs.Items.{AllStorable, IsStorable}
 use Rattle.b2_datafile.specs.Loading.{values_loaded}
 use Rattle.b2_datafile.proofs.FromFunctions.{some-loaded}
-use Rattle.b2_access.specs.AccessRows.{clears, clears_and_gives_back, clears_both, clears_own, clears_text, finds_in_image, gives_back, gives_back_from, gives_up, gives_up_if, holder_at, is_held_by, loaded_answer, names_of, row, says_or_refuses}
+use Rattle.b2_access.specs.AccessRows.{clears, clears_and_gives_back, clears_both, clears_own, clears_text, finds_in_image, gives_back, gives_back_from, gives_up, gives_up_if, holder_at, is_held_by, loaded_answer, row, says_or_refuses}
 use Rattle.b2_access.specs.Answering.{can_answer}
 use Rattle.b2_access.specs.Borrowers.{homes_marked, without}
 use Rattle.b2_access.specs.Contents.{content_other, content_same}
 use Rattle.b2_access.specs.Disks.{Loaded}
 use Rattle.b2_access.specs.Loans.{globals_of, lender_at, lends, with_globals_of}
 use Rattle.b2_access.specs.Objects.{Decided, same_object}
-use Rattle.b2_access.specs.Reach.{borrows, if_any, objects_named}
+use Rattle.b2_access.specs.Reach.{borrows, objects_named}
 use Rattle.b2_access.specs.Serving.{itself, performs, put_each, unless_stopped}
 use Rattle.b2_access.specs.Sharing.{Gives}
 use Rattle.b2_access.specs.Stopping.{first_other, first_there, inside_edited, stop, stop_by}
@@ -37,14 +37,13 @@ use Rattle.b2_access.specs.declared.objects.Object.{Object}
 use Rattle.b2_access.specs.declared.objects.Object.TheVariants as object
 use Rattle.b2_access.proofs.Locality.{serves_by_row}
 use Rattle.b2_access.proofs.RowLaws.{leaves}
-use Rattle.b2_access.proofs.Unwritten.{no_borrow, no_borrow_entered, no_borrows, no_hold, no_names, no_one, of_kinds}
+use Rattle.b2_access.proofs.Unwritten.{unwritten, writes_kind}
 use Rattle.b2_machine.specs.Step.{lent_to_begin, seen_by}
 use Rattle.b2_store.specs.DiskWork.{disks, serves}
 use Rattle.b2_store.specs.FileWork.{record_loaded}
 use Rattle.b2_store.proofs.Answered.{loaded-is}
 use Rattle.b2_stmt_file.specs.SavedNumbers.{HoldsNumbers, IsAnyNumber}
 use Rattle.b2_sched.proofs.NumbersAssigned.{empty_holds}
-use Rattle.b2_sched.specs.Holding.{is_globals}
 use Rattle.b2_sched.specs.Numbers.{AnswerHolds, GlobalsHold}
 
 -- all `@` variables of a store hold numbers
@@ -138,50 +137,19 @@ module _ (who homes : ℕ) (name : Option (List ℕ)) where
 
 -- ---- no other access writes `@` variables
 
-abbrev clears_globals : Access → Bool
-clears_globals (access.ClearAll name homes) = true
-clears_globals a = false
-
-no_edit : (who p : ℕ) (homes : List ℕ) → IsIn (object.Globals p) (object.Text who ∷ borrows homes) → ⊥
-no_edit who p homes i = elim i [ inl e ↦ of_kinds is_globals (object.Globals p) (object.Text who) refl refl e | inr j ↦ no_borrow is_globals (object.Globals p) refl (λ h. refl) homes j ]
-
-no_load : (who p : ℕ) (homes : List ℕ) (name : Option (List ℕ)) → IsIn (object.Globals p) (object.Text who ∷ (borrows homes ++ objects_named name)) → ⊥
-no_load who p homes name i = elim i [
-  | inl e ↦ of_kinds is_globals (object.Globals p) (object.Text who) refl refl e
-  | inr j ↦ no_borrows is_globals (object.Globals p) refl (λ h. refl) homes (objects_named name) (no_names is_globals (object.Globals p) refl (λ n. refl) (if_any name)) j
-]
-
-globals_unwritten : (who : ℕ) (holder : Option ℕ) (p : ℕ) (a : Access) → clears_globals a ≡ false → IsIn (object.Globals p) ((row a).writes who holder) → ⊥
-globals_unwritten who holder p (access.ClearAll name homes) never i = cc
-globals_unwritten who holder p (access.PutLine line atoms homes) never i = no_edit who p (homes_marked homes) i
-globals_unwritten who holder p (access.Erase from to homes) never i = no_edit who p (homes_marked homes) i
-globals_unwritten who holder p (access.LoadProgram addr name replace declared homes) never i = no_load who p (homes_marked homes) declared i
-globals_unwritten who holder p (access.Enter name mark) never i = no_borrow_entered is_globals (object.Globals p) refl (λ h. refl) holder i
-globals_unwritten who holder p (access.Drop homes) never i = no_borrow is_globals (object.Globals p) refl (λ h. refl) (homes_marked homes) i
-globals_unwritten who holder p (access.OpenDevices addrs) never i = no_hold is_globals (object.Globals p) refl (λ a. refl) addrs i
-globals_unwritten who holder p (access.CloseDevices addrs) never i = no_hold is_globals (object.Globals p) refl (λ a. refl) addrs i
-globals_unwritten who holder p (access.Declare name old) never i = no_names is_globals (object.Globals p) refl (λ n. refl) (names_of name old) i
-globals_unwritten who holder p (access.FindPart name) never i = i
-globals_unwritten who holder p (access.Limits addr name) never i = i
-globals_unwritten who holder p (access.ListDisk addr) never i = i
-globals_unwritten who holder p (access.DataOpen addr name) never i = i
-globals_unwritten who holder p (access.DataLoad slot kinds) never i = i
-globals_unwritten who holder p (access.Skip slot way) never i = i
-globals_unwritten who holder p a never i = no_one is_globals (object.Globals p) _ refl refl i
-
 stopped_holds : (o : Option Answer) (g : Gives StoreState) (s : StoreState) → StoreHolds g.after → StoreHolds s → StoreHolds (unless_stopped o g s).after
 stopped_holds None g s done held = done
 stopped_holds (Some x) g s done held = held
 
 -- so each access keeps numbers
-other_served : (s : StoreState) (who : ℕ) (a : Access) → clears_globals a ≡ false → StoreHolds s → StoreHolds (serves s who a).after
-other_served s who a never held p vars is = held p vars (sym (leaves (row a) disks who s (object.Globals p) (globals_unwritten who (holder_at a s) p a never)) ∙ is)
+other_served : (s : StoreState) (who : ℕ) (a : Access) → ((p : ℕ) → writes_kind a (object.Globals p) ≡ false) → StoreHolds s → StoreHolds (serves s who a).after
+other_served s who a never held p vars is = held p vars (sym (leaves (row a) disks who s (object.Globals p) (unwritten who (holder_at a s) (object.Globals p) a (never p))) ∙ is)
 
 pub served_holds : (s : StoreState) (who : ℕ) (a : Access) → StoreHolds s → StoreHolds (serves s who a).after
 served_holds s who (access.ClearAll name homes) held =
     let a = access.ClearAll name homes in
     stopped_holds (stop who (row a).reach s) (performs (clears who homes name) s) s (performed (clears who homes name) s (all_cleared who homes name) held) held
-served_holds s who a held = other_served s who a refl held
+served_holds s who a held = other_served s who a (λ p. refl) held
 
 -- ---- what is answered
 

@@ -12,6 +12,7 @@ use Rattle.b2_text.specs.Spots.{first_opening, is_mark, or_else}
 use Rattle.b2_text.specs.declared.spots.Spot.{Spot}
 use Rattle.b2_access.specs.Borrowers.{homes_entered}
 use Rattle.b2_access.specs.Dispatch.{Here, dispatch, dispatch_at, here}
+use Rattle.b2_access.specs.Homes.{at_homes}
 use Rattle.b2_access.specs.Lending.{SeenLent}
 use Rattle.b2_access.specs.Partition.{runs_program}
 use Rattle.b2_access.specs.Placed.{Statement, statement_placed}
@@ -263,8 +264,8 @@ module _ (me : Private) (s : SeenLent) where
   asked_so a is = subst (λ (p : PlannedState). Because p (asked_at me s)) is plan_so
 
   -- and what it asks of the private state names only texts that are open to it
-  pub asked_open : Stands me → AskedIn (is_open me.part me.stack) (asked_at me s)
+  pub asked_open : Stands me → AskedIn (at_homes (is_open me.part me.stack)) (asked_at me s)
   unfolding AskedIn
   asked_open w =
-      each_dispatch is_refused asked.Nothing (λ u h. asked_by u h me s) me s (AskedIn (is_open me.part me.stack)) tt tt
-      (λ q is u. asked_in (is_open me.part me.stack) u.row u.tree (here q me s) (around me s) s.home.lines (subst (PlaceStands me.part me.stack) is w.place))
+      each_dispatch is_refused asked.Nothing (λ u h. asked_by u h me s) me s (AskedIn (at_homes (is_open me.part me.stack))) tt tt
+      (λ q is u. asked_in (at_homes (is_open me.part me.stack)) u.row u.tree (here q me s) (around me s) s.home.lines (subst (PlaceStands me.part me.stack) is w.place))

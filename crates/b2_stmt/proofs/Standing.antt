@@ -2,7 +2,7 @@
 -- where the partition stood in the texts of others above calls that entered them, it does so after it.
 use Rattle.std.proofs.Common.{◌≡◌, ◌≤◌, ◌∙◌, ◌==◌, ◌||◌, ◌&&◌, ◌+◌, ◌-◌, ℕ, Bool, true, false, nat_lt, List, [], ◌∷◌, length, Option, Some, None, Ok, Err, is_some, refl, sym, ap, subst, arith, if◌then◌else◌}
 use Rattle.std.proofs.lemmas.Bool.Decides.{nat_tests}
-use Rattle.b2_access.specs.Homes.{OutcomeIn, PlaceIn}
+use Rattle.b2_access.specs.Homes.{OutcomeIn, PlaceIn, at_homes}
 use Rattle.std.specs.List.{filter, list_any}
 use Rattle.b2_dec.specs.Number.{Number}
 use Rattle.b2_dec.specs.declared.values.Value.{Value}
@@ -49,7 +49,7 @@ use Rattle.b2_stmt.specs.declared.asked.Asked.{Asked}
 use Rattle.b2_stmt.specs.declared.asked.Asked.TheVariants as asked
 use Rattle.b2_stmt.proofs.AskedSo.{AskedFor, Calls, GivesBack, asked_open, asked_so}
 use Rattle.b2_stmt.proofs.PartsCame.{each_part}
-use Rattle.b2_stmt.proofs.HomesKept.{AskedIn, asked_in, either_in, spot_in, still_in}
+use Rattle.b2_stmt.proofs.HomesKept.{AskedIn, asked_in, either_in, spot_at, spot_in, still_in}
 use Rattle.b2_expr.specs.Answers.{Answer as NumberAnswer}
 use Rattle.b2_expr.specs.Named.{number_there}
 use Rattle.b2_receiver.specs.Assigning.{assigned_number}
@@ -297,7 +297,7 @@ module _ (me : Private) (w : Stands me) where
   unfolding Well EndsWell Good
   stopped_well shown q after h = (((either (PlaceStands me.part me.stack) (is_some q.line) after me.kept h w.kept, w.frames), λ g. refl), tt)
 
-  asked_well : (x : Asked) (q : Place) (own home : Lines) → me.place ≡ Some q → AskedIn (is_open me.part me.stack) x → asks_of_others x q me own home ≡ None → Well (carried x q me own home)
+  asked_well : (x : Asked) (q : Place) (own home : Lines) → me.place ≡ Some q → AskedIn (at_homes (is_open me.part me.stack)) x → asks_of_others x q me own home ≡ None → Well (carried x q me own home)
   unfolding Well EndsWell Good AskedIn
   asked_well (asked.Nothing o) q own home is h none = goes me.part me.stack me.place w.place me o good (leads_in o h)
   asked_well (asked.Begin l body) q own home is h none = begins_well me.part me.stack me.place w.place l body me good h
@@ -312,9 +312,9 @@ module _ (me : Private) (w : Stands me) where
   asked_well asked.Continue q own home is h none = continues_well me.kept refl
   asked_well (asked.Pass turns) q own home is h none = (good, w.place)
   asked_well (asked.CallMark n args back) q own home is h none =
-      let at_home = spot_in (is_open me.part me.stack) q.home (first_opening (is_mark n) home) (subst (PlaceStands me.part me.stack) is w.place) in
-      let in_own = spot_in (is_open me.part me.stack) me.part (first_opening (is_mark n) own) own_open in
-      mark_well me.part me.stack me.place w.place (mark_place n q me.part own home) args back me good (either_in (is_open me.part me.stack) (mark_in q.home n home) (mark_in me.part n own) at_home in_own) h
+      let at_home = spot_at (at_homes (is_open me.part me.stack)) q (first_opening (is_mark n) home) (subst (PlaceStands me.part me.stack) is w.place) in
+      let in_own = spot_in (at_homes (is_open me.part me.stack)) me.part (first_opening (is_mark n) own) own_open in
+      mark_well me.part me.stack me.place w.place (mark_place n q me.part own home) args back me good (either_in (at_homes (is_open me.part me.stack)) (mark_in q.home n home) (mark_in me.part n own) at_home in_own) h
 
   -- WHAT IT PLANS
   Planned : PlannedState → Private → Type 0
@@ -349,11 +349,11 @@ module _ (me : Private) (w : Stands me) where
       let x = asked_by u h me s in
       let at : is_open me.part me.stack q.home ≡ true = subst (PlaceStands me.part me.stack) is w.place in
       let leads = still u.row u.tree h (around me s) s.home.lines in
-      either PlanStands (is_still u.row) _ _ (ends_standing s (unsteered me leads) (goes me.part me.stack me.place w.place me leads good (leads_in leads (still_in (is_open me.part me.stack) u.row u.tree h (around me s) s.home.lines at))))
+      either PlanStands (is_still u.row) _ _ (ends_standing s (unsteered me leads) (goes me.part me.stack me.place w.place me leads good (leads_in leads (still_in (at_homes (is_open me.part me.stack)) u.row u.tree h (around me s) s.home.lines at))))
       (either PlanStands (u.row == row.DEFFN_MARKED) (ends_with_args (takes_args u.tree me s) me s) (plans_asked x q me s)
       (ends_standing (record s { globals = (takes_args u.tree me s).work.globals }) (ends_taken me.args (takes_args u.tree me s) me) (taken_well me.args (takes_args u.tree me s)))
       (by_asked (asks_of_others x q me s.own.lines s.home.lines) s (carried x q me s.own.lines s.home.lines)
-      (λ none. asked_well x q s.own.lines s.home.lines is (asked_in (is_open me.part me.stack) u.row u.tree h (around me s) s.home.lines at) none)))
+      (λ none. asked_well x q s.own.lines s.home.lines is (asked_in (at_homes (is_open me.part me.stack)) u.row u.tree h (around me s) s.home.lines at) none)))
 
   unless_standing : (o : Option Access) (u : Statement) (q : Place) (s : SeenLent) → me.place ≡ Some q → PlanStands (acts_unless o u (here q me s) me s)
   unfolding Planned PlanStands
@@ -503,7 +503,7 @@ module _ (me : Private) (w : Stands me) where
         λ g low high. entered_more (h == g) (g == h) (entered_in g me.stack) (same_test h g),
       )
 
-  enters_there : (s : SeenLent) (h : ℕ) (spot : Spot) (name : List ℕ) (mark : ℕ) (x : Asked) → Calls me s mark x → AskedIn (is_open me.part me.stack) x
+  enters_there : (s : SeenLent) (h : ℕ) (spot : Spot) (name : List ℕ) (mark : ℕ) (x : Asked) → Calls me s mark x → AskedIn (at_homes (is_open me.part me.stack)) x
       → Ends (access.Enter name mark) (answer.Entered h spot) (goes_in h spot x me)
   unfolding Calls AskedIn
   enters_there s h spot name mark (asked.CallMark n args back) why open_there = called_there h (place_in h spot) args back name mark spot refl why.0 (stands_so back open_there)

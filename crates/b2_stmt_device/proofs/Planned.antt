@@ -56,19 +56,19 @@ module _ (devices : List Device) (me : Private) (F : Planned → Type 0) (next :
   take_asked t = by (are_listed devices me.part (devices_to_take t)) refl
     where
       by : (b : Bool) → are_listed devices me.part (devices_to_take t) ≡ b → F (asks_or_fails (if b then Ok (access.OpenDevices (devices_to_take t)) else Err P48_DEVICE))
-      by true is = asks (access.OpenDevices (devices_to_take t)) (record { listed = listed_to_take devices me.part (devices_to_take t) is; terminal = refl; homes = refl; legal = tt })
+      by true is = asks (access.OpenDevices (devices_to_take t)) (record { listed = listed_to_take devices me.part (devices_to_take t) is; terminal = refl; homes = refl; legal = tt; kind = refl })
       by false is = failed P48_DEVICE
 
   free_asked : (addrs : List (List ℕ)) → F (asks_or_fails (asks_to_free devices me.part addrs))
   free_asked addrs = by (are_listed devices me.part addrs) refl
     where
       by : (b : Bool) → are_listed devices me.part addrs ≡ b → F (asks_or_fails (if b then Ok (access.CloseDevices addrs) else Err P48_DEVICE))
-      by true is = asks (access.CloseDevices addrs) (record { listed = listed_to_free devices me.part addrs is; terminal = refl; homes = refl; legal = tt })
+      by true is = asks (access.CloseDevices addrs) (record { listed = listed_to_free devices me.part addrs is; terminal = refl; homes = refl; legal = tt; kind = refl })
       by false is = failed P48_DEVICE
 
   held_asked : (held : List (List ℕ)) → AreListed devices me.part (to_free held).devices → F (frees_held held)
   held_asked [] are = next
-  held_asked (a ∷ held) are = asks (access.CloseDevices (a ∷ held)) (record { listed = are; terminal = refl; homes = refl; legal = tt })
+  held_asked (a ∷ held) are = asks (access.CloseDevices (a ∷ held)) (record { listed = are; terminal = refl; homes = refl; legal = tt; kind = refl })
 
   freeing_asked : (named : Option (List (List ℕ))) → F (plans_to_free devices me named)
   freeing_asked None = held_asked (those_listed devices me.part me.held) (held_to_free devices me.part me.held)

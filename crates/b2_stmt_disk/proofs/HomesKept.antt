@@ -2,7 +2,7 @@
 use Rattle.std.proofs.Common.{ℕ, Bool, List, Option, Some, None}
 use Rattle.b2_atom.specs.Tree.{Trees}
 use Rattle.b2_access.specs.Disks.{FourNumbers}
-use Rattle.b2_access.specs.Homes.{OutcomeIn, PlannedIn}
+use Rattle.b2_access.specs.Homes.{Naming, OutcomeNamed, PlannedNamed}
 use Rattle.b2_access.specs.Lending.{SeenLent}
 use Rattle.b2_access.specs.Views.{ChangeCame, DiskChanged, ChangeRefused, ChangeLater, change_came, limits_told, listing_told}
 use Rattle.b2_access.specs.Working.{LeadsWithin, PlansEachWithin, Worked}
@@ -19,16 +19,16 @@ use Rattle.b2_stmt_disk.specs.Listing.{listing_ends}
 use Rattle.b2_stmt_disk.specs.Plan.{ends, finishes, is_refused, repeats, works}
 use Rattle.b2_stmt_disk.proofs.Planned.{each_ended, each_planned}
 
-module _ (among : ℕ → Bool) where
+module _ (among : Naming) where
   Leads : Worked → Type 0
-  Leads w = OutcomeIn among w.outcome
+  Leads w = OutcomeNamed among w.outcome
 
   limits_in : (o : Option FourNumbers) (t : Trees) (me : Private) (s : SeenLent) → Leads (limits_end o t me s)
   unfolding Leads
   limits_in None t me s = tt
   limits_in (Some n) t me s = next_or_fails among _
 
-  change_in : (c : ChangeCame) → OutcomeIn among (change_ends c)
+  change_in : (c : ChangeCame) → OutcomeNamed among (change_ends c)
   change_in DiskChanged = tt
   change_in (ChangeRefused code) = tt
   change_in ChangeLater = tt
@@ -46,7 +46,7 @@ module _ (among : ℕ → Bool) where
 
 pub plans_within : (devices : List Device) → PlansEachWithin (works devices)
 plans_within devices among me s k =
-    each_planned devices me s (PlannedIn among) tt tt (λ code. tt) (λ a fits stays. marks_no_home devices me.part among a fits)
+    each_planned devices me s (PlannedNamed among) tt tt (λ code. tt) (λ a fits stays. marks_no_home devices me.part among.part a fits)
 
 pub leads_within : LeadsWithin ends
 unfolding Leads

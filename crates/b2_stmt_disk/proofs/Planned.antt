@@ -66,14 +66,14 @@ module _ (F : Planned → Type 0) (devices : List Device) (me : Private) (failed
   unfolding Asked
   limits_asked e (Put word (In n drive operands)) =
       at_drive drive (λ addr. named_file e operands >>= (λ name. Ok (access.Limits addr name)))
-      (λ addr listed. at_value (named_file e operands) (λ name. Ok (access.Limits addr name)) (λ name. asks (access.Limits addr name) (record { listed = (listed, tt); terminal = refl; homes = refl; legal = tt }) refl))
+      (λ addr listed. at_value (named_file e operands) (λ name. Ok (access.Limits addr name)) (λ name. asks (access.Limits addr name) (record { listed = (listed, tt); terminal = refl; homes = refl; legal = tt; kind = refl }) refl))
   limits_asked e t = failed S20_VARIABLE
 
   scratch_asked : (e : Context) (t : Trees) → Asked (asks_to_scratch d e t)
   unfolding Asked
   scratch_asked e (Put word (In n drive (In m name end))) =
       at_drive drive (λ addr. name_given e name >>= (λ x. Ok (access.Scratch addr x)))
-      (λ addr listed. at_value (name_given e name) (λ x. Ok (access.Scratch addr x)) (λ x. asks (access.Scratch addr x) (record { listed = (listed, tt); terminal = refl; homes = refl; legal = tt }) refl))
+      (λ addr listed. at_value (name_given e name) (λ x. Ok (access.Scratch addr x)) (λ x. asks (access.Scratch addr x) (record { listed = (listed, tt); terminal = refl; homes = refl; legal = tt; kind = refl }) refl))
   scratch_asked e t = failed S18_ALPHA
 
   format_asked : (e : Context) (t : Trees) → Asked (asks_to_format d e t)
@@ -81,12 +81,12 @@ module _ (F : Planned → Type 0) (devices : List Device) (me : Private) (failed
   format_asked e (Put scratch (Put disk (In n drive (Put ls (Put is (In m index (Put comma (Put end (Put equals (In k last more)))))))))) =
       at_drive drive (λ addr. sectors_given e index >>= (λ i. sectors_given e last >>= (λ l. Ok (access.Format addr i l))))
       (λ addr listed. at_value (sectors_given e index) (λ i. sectors_given e last >>= (λ l. Ok (access.Format addr i l)))
-      (λ i. at_value (sectors_given e last) (λ l. Ok (access.Format addr i l)) (λ l. asks (access.Format addr i l) (record { listed = (listed, tt); terminal = refl; homes = refl; legal = tt }) refl)))
+      (λ i. at_value (sectors_given e last) (λ l. Ok (access.Format addr i l)) (λ l. asks (access.Format addr i l) (record { listed = (listed, tt); terminal = refl; homes = refl; legal = tt; kind = refl }) refl)))
   format_asked e t = failed S17_NUMERIC
 
   list_asked : (t : Trees) → Asked (asks_to_list d t)
   unfolding Asked
-  list_asked (Put list (Put dc (In n drive end))) = at_drive drive (λ addr. Ok (access.ListDisk addr)) (λ addr listed. asks (access.ListDisk addr) (record { listed = (listed, tt); terminal = refl; homes = refl; legal = tt }) refl)
+  list_asked (Put list (Put dc (In n drive end))) = at_drive drive (λ addr. Ok (access.ListDisk addr)) (λ addr listed. asks (access.ListDisk addr) (record { listed = (listed, tt); terminal = refl; homes = refl; legal = tt; kind = refl }) refl)
   list_asked t = failed S23_DEVICE
 
   -- two platters that differ
@@ -94,8 +94,8 @@ module _ (F : Planned → Type 0) (devices : List Device) (me : Private) (failed
       → Asked (if same then Err P34_RANGE else Ok (moves a name b))
   unfolding Asked
   apart_asked true a name b is listed also = failed P34_RANGE
-  apart_asked false a None b is listed also = asks (access.MovePlatter a b) (record { listed = (listed, (also, tt)); terminal = refl; homes = refl; legal = differ a b is }) refl
-  apart_asked false a (Some name) b is listed also = asks (access.MoveFile a name b) (record { listed = (listed, (also, tt)); terminal = refl; homes = refl; legal = differ a b is }) refl
+  apart_asked false a None b is listed also = asks (access.MovePlatter a b) (record { listed = (listed, (also, tt)); terminal = refl; homes = refl; legal = differ a b is; kind = refl }) refl
+  apart_asked false a (Some name) b is listed also = asks (access.MoveFile a name b) (record { listed = (listed, (also, tt)); terminal = refl; homes = refl; legal = differ a b is; kind = refl }) refl
 
   move_asked : (e : Context) (t : Trees) → Asked (asks_to_move d e t)
   unfolding Asked

@@ -3,7 +3,7 @@ use Rattle.std.proofs.Common.{ℕ, ◌==◌, Bool, List, Option, subst}
 use Rattle.b2_atom.specs.Tree.{Trees}
 use Rattle.b2_atom.specs.Tree.Trees.{Put, In}
 use Rattle.b2_access.proofs.Choice.{either}
-use Rattle.b2_access.specs.Homes.{OutcomeIn, PlaceIn, PlannedIn}
+use Rattle.b2_access.specs.Homes.{Naming, OutcomeNamed, PlaceNamed, PlannedNamed}
 use Rattle.b2_flow.specs.declared.frame.Place.{Place}
 use Rattle.b2_access.specs.Lending.{SeenLent}
 use Rattle.b2_access.specs.Views.{loading_came, opening_came, place_came}
@@ -23,11 +23,11 @@ use Rattle.b2_stmt_file.specs.declared.file_answers.Came.{Came}
 use Rattle.b2_stmt_file.specs.declared.file_answers.Came.TheVariants as came
 use Rattle.b2_stmt_file.proofs.Planned.{each_ended, each_planned}
 
-module _ (among : ℕ → Bool) where
+module _ (among : Naming) where
   Leads : FileWorked → Type 0
-  Leads w = OutcomeIn among w.outcome
+  Leads w = OutcomeNamed among w.outcome
 
-  came_in : (c : Came) → OutcomeIn among (outcome_of c)
+  came_in : (c : Came) → OutcomeNamed among (outcome_of c)
   came_in (came.File s) = tt
   came_in (came.Refused code) = tt
   came_in came.Ended = tt
@@ -46,7 +46,7 @@ module _ (among : ℕ → Bool) where
 
 pub plans_within : (devices : List Device) → PlansEachWithin (works devices)
 plans_within devices among me s k =
-    each_planned devices me s (PlannedIn among) tt (λ p g is. goes_in among s.home.lines p g (subst (λ (o : Option Place). PlaceIn among o) is k.place)) (λ code. tt) (λ addr a listed is legal. at_disk_marks_none among addr a is)
+    each_planned devices me s (PlannedNamed among) tt (λ p g is. goes_in among s.home.lines p g (subst (λ (o : Option Place). PlaceNamed among o) is k.place)) (λ code. tt) (λ addr a listed is legal. at_disk_marks_none among.part addr a is)
 
 pub leads_within : LeadsWithin ends
 unfolding Leads

@@ -1,5 +1,5 @@
 -- What statements on programs on disks plan: they ask for an access at a platter that the partition may use; and how they finish.
-use Rattle.std.specs.Prelude.{◌≡◌, ◌⊎◌, ℕ, ◌==◌, ◌||◌, Bool, is_some, List, [], Result, Ok, refl, Option, None}
+use Rattle.std.specs.Prelude.{◌≡◌, ◌⊎◌, ℕ, ◌==◌, ◌||◌, Bool, true, is_some, List, [], Result, Ok, refl, Option, None}
 use Rattle.std.proofs.Common.{inl, inr}
 use Rattle.b2_base.specs.declared.codes.TheConstants.{S18_ALPHA, S26_PROGRAM_ONLY, S27_LEFT_OUT}
 use Rattle.b2_atom.specs.Tree.{Trees}
@@ -30,7 +30,7 @@ use Rattle.b2_access.proofs.Dispatch.{each_dispatch}
 use Rattle.b2_drive.specs.Asking.{asks_or_fails}
 use Rattle.b2_drive.specs.Drives.{DrivesSeen, drives_of}
 use Rattle.b2_drive.specs.FileNames.{name_given}
-use Rattle.b2_drive.proofs.Asked.{after_drive, after_name, after_value}
+use Rattle.b2_drive.proofs.Asked.{after_drive, after_name, after_value, is_of_drives}
 use Rattle.b2_stmt_program.specs.Loading.{asks_to_load, given_up}
 use Rattle.b2_stmt_program.specs.Plan.{asked_of, does, is_refused, works}
 use Rattle.b2_stmt_program.specs.Saving.{asks_to_save, lines_saved, old_named, saves}
@@ -41,6 +41,7 @@ pub record FitsHere (devices : List Device) (who entered : ℕ) (a : Access) : T
   pub terminal : terminal_of a ≡ None
   pub homes : (homes_of a ≡ []) ⊎ (homes_of a ≡ homes_marked entered)
   pub legal : IsLegal a
+  pub kind : is_of_drives a ≡ true
 
 -- what holds of each refusal, and of each access that fits and takes and frees no device
 module _ (F : Planned → Type 0) (devices : List Device) (me : Private) (failed : (code : ℕ) → F (planned.Done (outcome.Failed code))) (homes : ℕ) (asks : (a : Access) → FitsHere devices me.part homes a → holders_changed a ≡ [] → F (planned.Ask a)) where
@@ -56,7 +57,7 @@ module _ (F : Planned → Type 0) (devices : List Device) (me : Private) (failed
       after_drive F d failed drive (λ addr. old_named e (In k old Done) >>= (λ o. name_given e name >>= (λ x. Ok (saves addr o x (lines_saved lines)))))
       (λ addr listed. after_value F d failed (old_named e (In k old Done)) (λ o. name_given e name >>= (λ x. Ok (saves addr o x (lines_saved lines))))
       (λ o. after_name F d failed e name (λ x. Ok (saves addr o x (lines_saved lines)))
-      (λ x named. asks (saves addr o x (lines_saved lines)) (record { listed = (listed, tt); terminal = refl; homes = inl refl; legal = named }) refl)))
+      (λ x named. asks (saves addr o x (lines_saved lines)) (record { listed = (listed, tt); terminal = refl; homes = inl refl; legal = named; kind = refl }) refl)))
   save_asked e t = failed S18_ALPHA
 
   load_asked : (e : Context) (declared : Option (List ℕ)) (program : Bool) (t : Trees) → Asked (asks_to_load d e declared homes program t)
@@ -64,7 +65,7 @@ module _ (F : Planned → Type 0) (devices : List Device) (me : Private) (failed
   load_asked e declared program (Put word (In k run (In n drive (In m name end)))) =
       after_drive F d failed drive (λ addr. name_given e name >>= (λ x. Ok (access.LoadProgram addr x (k == 1 || program) (given_up (k == 1 || program) declared) homes)))
       (λ addr listed. after_value F d failed (name_given e name) (λ x. Ok (access.LoadProgram addr x (k == 1 || program) (given_up (k == 1 || program) declared) homes))
-      (λ x. asks (access.LoadProgram addr x (k == 1 || program) (given_up (k == 1 || program) declared) homes) (record { listed = (listed, tt); terminal = refl; homes = inr refl; legal = tt }) refl))
+      (λ x. asks (access.LoadProgram addr x (k == 1 || program) (given_up (k == 1 || program) declared) homes) (record { listed = (listed, tt); terminal = refl; homes = inr refl; legal = tt; kind = refl }) refl))
   load_asked e declared program t = failed S18_ALPHA
 
   each_asked : (e : Context) (declared : Option (List ℕ)) (program : Bool) (r : ℕ) (t : Trees) → F (asks_or_fails (asked_of d e declared homes program r t))
