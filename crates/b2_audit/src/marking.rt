@@ -135,6 +135,7 @@ fn touch_holders(seen: &mut Seen, who: Part, addresses: &[Addr])
 
 /// Marks the devices that an access reaches.
 #[tactic(auto, using(crate::proofs::InParts::taken_are_held, crate::proofs::InParts::freed_are_held))]
+#[inline(always)]
 fn touch_devices(seen: &mut Seen, who: Part, access: &Access)
     ensures { seen.new ≡ touch_all who (device_objects (reach access.now).devices) seen.old }
 {
@@ -153,6 +154,7 @@ fn touch_devices(seen: &mut Seen, who: Part, access: &Access)
 }
 
 /// Marks that names are touched.
+#[inline(always)]
 fn touch_names(seen: &mut Seen, who: Part, name: Option<Name8>, other: Option<Name8>)
     ensures { seen.new ≡ touch_all who (map Object.Name (if_any name ++ if_any other)) seen.old }
 {
@@ -354,6 +356,7 @@ fn mark_each_written(
 }
 
 /// Marks what an access wrote, by its answer. Memory fails only where it may write a device or a name.
+#[inline(always)]
 pub(crate) fn mark_written(
     seen: &mut Seen,
     who: Part,

@@ -364,6 +364,7 @@ pub fn finish_over<L: Language>(
 }
 
 /// The statement that a builder executes finishes, over texts and the `@` variables that were lent for it.
+#[inline(always)]
 pub fn finish_with<L: Language>(
     alloc: Global,
     me: &mut Private,

@@ -107,6 +107,7 @@ fn fast_on<L: Language>(
 
 /// Statements in the program of a home, one after another: at most so many, up to the first after which the turn doesn't go on. Those
 /// that are done fast are not opened. Where the last one asks for an access, the access goes to the caller.
+#[inline(always)]
 pub fn run_on<L: Language>(
     alloc: Global,
     me: &mut Private,

@@ -63,7 +63,11 @@ impl Layout {
         requires { place + width_of self ≤ length bytes.now }
         ensures { result ≡ sector_number_at self place bytes.now }
     {
-        BigEndian::read_uint(&bytes[place..], self.width()) as u32
+        let spelled = &bytes[place..];
+        match self {
+            Layout::Narrow => u32::from(BigEndian::read_u16(spelled)),
+            Layout::Wide => BigEndian::read_u24(spelled),
+        }
     }
 }
 
