@@ -37,8 +37,8 @@ use Rattle.b2_drive.proofs.Asked.{Fits, is_of_drives}
 use Rattle.b2_drive.specs.Asking.{asks_or_fails}
 use Rattle.b2_drive.specs.Drives.{DrivesSeen, drive_used, drives_of}
 use Rattle.b2_drive.specs.FileNames.{name_given}
-use Rattle.b2_stmt_device.proofs.Planned as stmt_device_planned
-use Rattle.b2_stmt_device.specs.Plan as stmt_device
+use Rattle.b2_stmt_disk.proofs.of_devices.Planned as stmt_device_planned
+use Rattle.b2_stmt_disk.specs.devices.Plan as stmt_device
 use Rattle.b2_stmt_disk.proofs.Planned as stmt_disk_planned
 use Rattle.b2_stmt_disk.specs.Plan as stmt_disk
 use Rattle.b2_stmt_file.proofs.Planned as stmt_file_planned
@@ -47,9 +47,9 @@ use Rattle.b2_stmt_io.proofs.Planned as stmt_io_planned
 use Rattle.b2_stmt_io.specs.Plan as stmt_io
 use Rattle.b2_stmt_mat.specs.Plan as stmt_mat
 use Rattle.b2_stmt_pack.specs.Plan as stmt_pack
-use Rattle.b2_stmt_program.specs.Loading.{asks_to_load, given_up}
-use Rattle.b2_stmt_program.specs.Plan as stmt_program
-use Rattle.b2_stmt_program.specs.Saving.{asks_to_save, lines_saved, old_named, saves}
+use Rattle.b2_stmt_disk.specs.programs.Loading.{asks_to_load, given_up}
+use Rattle.b2_stmt_disk.specs.programs.Plan as stmt_program
+use Rattle.b2_stmt_disk.specs.programs.Saving.{asks_to_save, lines_saved, old_named, saves}
 use Rattle.b2_stmt_var.specs.Plan as stmt_var
 
 -- ---- accesses

@@ -24,8 +24,8 @@ use Rattle.b2_access.specs.declared.accesses.Answer.TheVariants as answer
 use Rattle.b2_access.specs.declared.devices.Device.{Device}
 use Rattle.b2_access.specs.declared.objects.Object.TheVariants as object
 use Rattle.b2_access.proofs.Held.{other_holders_stay}
-use Rattle.b2_stmt_device.proofs.HeldLists.{AreAllIn, AreOf, all_once, all_stay_with, at_most, fewer, has_named, left, old_or_named, stays_without}
-use Rattle.b2_stmt_device.specs.Held.{held_after, with_devices, without_devices}
+use Rattle.b2_stmt_disk.proofs.of_devices.HeldLists.{AreAllIn, AreOf, all_once, all_stay_with, at_most, fewer, has_named, left, old_or_named, stays_without}
+use Rattle.b2_stmt_disk.specs.devices.Held.{held_after, with_devices, without_devices}
 use Rattle.b2_store.proofs.Holders.{freed, taken}
 use Rattle.b2_store.specs.DiskWork.{disks, serves}
 use Rattle.b2_store.specs.Holders.{all_held, own_among}

@@ -20,8 +20,8 @@ use Rattle.b2_access.specs.declared.private.Private.{Private}
 use Rattle.b2_access.proofs.Working.{as_it_comes, plans_keep_held}
 use Rattle.b2_stmt.specs.Plan as stmt
 use Rattle.b2_stmt.proofs.EachPlan.{each_plan}
-use Rattle.b2_stmt_device.specs.Held.{held_after, with_devices, without_devices}
-use Rattle.b2_stmt_device.specs.Plan as stmt_device
+use Rattle.b2_stmt_disk.specs.devices.Held.{held_after, with_devices, without_devices}
+use Rattle.b2_stmt_disk.specs.devices.Plan as stmt_device
 use Rattle.b2_stmt_disk.specs.Plan as stmt_disk
 use Rattle.b2_stmt_disk.proofs.Planned as stmt_disk_planned
 use Rattle.b2_stmt_file.specs.Plan as stmt_file
@@ -30,8 +30,8 @@ use Rattle.b2_stmt_io.specs.Plan as stmt_io
 use Rattle.b2_stmt_io.proofs.Planned as stmt_io_planned
 use Rattle.b2_stmt_mat.specs.Plan as stmt_mat
 use Rattle.b2_stmt_pack.specs.Plan as stmt_pack
-use Rattle.b2_stmt_program.specs.Plan as stmt_program
-use Rattle.b2_stmt_program.proofs.Planned as stmt_program_planned
+use Rattle.b2_stmt_disk.specs.programs.Plan as stmt_program
+use Rattle.b2_stmt_disk.proofs.of_programs.Planned as stmt_program_planned
 use Rattle.b2_stmt_var.specs.Plan as stmt_var
 use Rattle.b2_sched.specs.Choice.{basic, family_of, finish_by, plan_by}
 use Rattle.b2_sched.specs.Holding.{FinishesByAccess, KeepTheList}

@@ -38,7 +38,7 @@ use Rattle.b2_machine.specs.declared.statements.Builder.TheVariants as builder
 use Rattle.b2_machine.specs.declared.statements.Progress.{Progress}
 use Rattle.b2_machine.specs.declared.statements.Progress.TheVariants as progress
 use Rattle.b2_machine.proofs.OwnRules.{Own, ended_stays, line_stays, listed_stays, onward_stays, pressed_stays, put_stays, shown_stays, typed_stays}
-use Rattle.b2_stmt_device.specs.Held.{held_after}
+use Rattle.b2_stmt_disk.specs.devices.Held.{held_after}
 use Rattle.b2_store.specs.DiskWork.{disks, serves}
 use Rattle.b2_audit.proofs.InParts.{freed_are_held, taken_are_held}
 use Rattle.b2_sched.proofs.StepEnds.{begun_stays}

@@ -18,17 +18,17 @@ use Rattle.b2_access.proofs.Working.{as_it_comes}
 use Rattle.b2_stmt.specs.Plan as stmt
 use Rattle.b2_stmt.proofs.EachPlan.{MayAsk, each_plan}
 use Rattle.b2_drive.proofs.Asked.{Fits, is_of_drives}
-use Rattle.b2_stmt_device.proofs.Planned as stmt_device_planned
-use Rattle.b2_stmt_device.specs.Plan as stmt_device
+use Rattle.b2_stmt_disk.proofs.of_devices.Planned as stmt_device_planned
+use Rattle.b2_stmt_disk.specs.devices.Plan as stmt_device
 use Rattle.b2_stmt_disk.proofs.Planned as stmt_disk_planned
 use Rattle.b2_stmt_disk.specs.Plan as stmt_disk
 use Rattle.b2_stmt_io.specs.Plan as stmt_io
 use Rattle.b2_stmt_io.proofs.Planned as stmt_io_planned
 use Rattle.b2_stmt_mat.specs.Plan as stmt_mat
 use Rattle.b2_stmt_pack.specs.Plan as stmt_pack
-use Rattle.b2_stmt_program.proofs.Planned as stmt_program_planned
-use Rattle.b2_stmt_program.proofs.Planned.{FitsHere}
-use Rattle.b2_stmt_program.specs.Plan as stmt_program
+use Rattle.b2_stmt_disk.proofs.of_programs.Planned as stmt_program_planned
+use Rattle.b2_stmt_disk.proofs.of_programs.Planned.{FitsHere}
+use Rattle.b2_stmt_disk.specs.programs.Plan as stmt_program
 use Rattle.b2_stmt_var.specs.Plan as stmt_var
 
 -- no record is saved

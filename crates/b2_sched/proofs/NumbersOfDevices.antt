@@ -9,8 +9,8 @@ use Rattle.b2_access.specs.declared.devices.Device.{Device}
 use Rattle.b2_access.specs.declared.private.Private.{Private}
 use Rattle.b2_access.proofs.Choice.{either}
 use Rattle.b2_access.proofs.Dispatch.{each_dispatch}
-use Rattle.b2_stmt_device.specs.Plan.{does, finish, is_refused, plan, works}
-use Rattle.b2_stmt_device.specs.Selecting.{device_selected, selected}
+use Rattle.b2_stmt_disk.specs.devices.Plan.{does, finish, is_refused, plan, works}
+use Rattle.b2_stmt_disk.specs.devices.Selecting.{device_selected, selected}
 use Rattle.b2_sched.specs.Numbers.{FinishingHolds, GlobalsHold, PlanningHolds, PrivateHolds}
 use Rattle.b2_sched.proofs.NumbersFinished.{WorkedHolds}
 use Rattle.b2_sched.proofs.NumbersPut.{WorkingHolds, planned_holds, work_of_holds}

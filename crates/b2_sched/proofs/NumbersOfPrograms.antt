@@ -9,8 +9,8 @@ use Rattle.b2_access.specs.declared.accesses.Answer.{Answer}
 use Rattle.b2_access.specs.declared.devices.Device.{Device}
 use Rattle.b2_access.specs.declared.private.Private.{Private}
 use Rattle.b2_access.proofs.Dispatch.{each_dispatch}
-use Rattle.b2_stmt_program.specs.Loading.{loaded, loading_ends, replacing, started}
-use Rattle.b2_stmt_program.specs.Plan.{does, ended_by, finish, is_refused, plan, works}
+use Rattle.b2_stmt_disk.specs.programs.Loading.{loaded, loading_ends, replacing, started}
+use Rattle.b2_stmt_disk.specs.programs.Plan.{does, ended_by, finish, is_refused, plan, works}
 use Rattle.b2_sched.specs.Numbers.{FinishingHolds, GlobalsHold, PlanningHolds, PrivateHolds}
 use Rattle.b2_sched.proofs.NumbersAssigned.{common_holds}
 use Rattle.b2_sched.proofs.NumbersPut.{SteeredHolds, WorkingHolds, planned_holds}

@@ -9,13 +9,13 @@ use Rattle.b2_access.specs.declared.private.Private.{Private}
 use Rattle.b2_language.specs.Languages.{Ways}
 use Rattle.b2_stmt.specs.Clearing.{asks_access}
 use Rattle.b2_stmt.specs.Plan as stmt
-use Rattle.b2_stmt_device.specs.Plan as stmt_device
+use Rattle.b2_stmt_disk.specs.devices.Plan as stmt_device
 use Rattle.b2_stmt_disk.specs.Plan as stmt_disk
 use Rattle.b2_stmt_file.specs.Plan as stmt_file
 use Rattle.b2_stmt_io.specs.Plan as stmt_io
 use Rattle.b2_stmt_mat.specs.Plan as stmt_mat
 use Rattle.b2_stmt_pack.specs.Plan as stmt_pack
-use Rattle.b2_stmt_program.specs.Plan as stmt_program
+use Rattle.b2_stmt_disk.specs.programs.Plan as stmt_program
 use Rattle.b2_stmt_var.specs.Plan as stmt_var
 use Rattle.b2_sched.specs.declared.choice.Family.{Family}
 use Rattle.b2_sched.specs.declared.choice.Family.TheVariants as family

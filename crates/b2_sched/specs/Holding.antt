@@ -22,7 +22,7 @@ use Rattle.b2_boot.specs.Boots.{BootState}
 use Rattle.b2_boot.specs.declared.log.Event.{Event}
 use Rattle.b2_language.specs.Languages.{Ways}
 use Rattle.b2_machine.specs.Touched.{asking}
-use Rattle.b2_stmt_device.specs.Held.{held_after}
+use Rattle.b2_stmt_disk.specs.devices.Held.{held_after}
 use Rattle.b2_store.specs.DiskWork.{serves}
 use Rattle.b2_sched.specs.Choice.{basic}
 use Rattle.b2_sched.specs.EachStep.{AtEachStep, AtSomeStep}

@@ -7,12 +7,12 @@ use Rattle.b2_access.proofs.OpenFiles.{finishes_keep_open, plans_keep_open, stee
 use Rattle.b2_access.proofs.Working as form
 use Rattle.b2_stmt.specs.Plan as stmt
 use Rattle.b2_stmt.proofs.EachPlan.{each_plan}
-use Rattle.b2_stmt_device.specs.Plan as stmt_device
+use Rattle.b2_stmt_disk.specs.devices.Plan as stmt_device
 use Rattle.b2_stmt_disk.specs.Plan as stmt_disk
 use Rattle.b2_stmt_io.specs.Plan as stmt_io
 use Rattle.b2_stmt_mat.specs.Plan as stmt_mat
 use Rattle.b2_stmt_pack.specs.Plan as stmt_pack
-use Rattle.b2_stmt_program.specs.Plan as stmt_program
+use Rattle.b2_stmt_disk.specs.programs.Plan as stmt_program
 use Rattle.b2_stmt_var.specs.Plan as stmt_var
 
 -- statements on variables

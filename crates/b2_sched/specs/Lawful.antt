@@ -16,10 +16,10 @@ use Rattle.b2_stmt.specs.Clearing.{asks_access}
 use Rattle.b2_stmt.specs.Plan as stmt
 use Rattle.b2_stmt.proofs.EachPlan.{each_plan}
 use Rattle.b2_stmt.proofs.LeftAlone as stmt_laws
-use Rattle.b2_stmt_device.specs.Plan as stmt_device
-use Rattle.b2_stmt_device.proofs.LeftAlone as stmt_device_laws
-use Rattle.b2_stmt_device.proofs.ByTable as stmt_device_table
-use Rattle.b2_stmt_device.proofs.Listed as stmt_device_listed
+use Rattle.b2_stmt_disk.specs.devices.Plan as stmt_device
+use Rattle.b2_stmt_disk.proofs.of_devices.LeftAlone as stmt_device_laws
+use Rattle.b2_stmt_disk.proofs.of_devices.ByTable as stmt_device_table
+use Rattle.b2_stmt_disk.proofs.of_devices.Listed as stmt_device_listed
 use Rattle.b2_stmt_disk.specs.Plan as stmt_disk
 use Rattle.b2_stmt_disk.proofs.LeftAlone as stmt_disk_laws
 use Rattle.b2_stmt_disk.proofs.ByTable as stmt_disk_table
@@ -36,10 +36,10 @@ use Rattle.b2_stmt_mat.specs.Plan as stmt_mat
 use Rattle.b2_stmt_mat.proofs.LeftAlone as stmt_mat_laws
 use Rattle.b2_stmt_pack.specs.Plan as stmt_pack
 use Rattle.b2_stmt_pack.proofs.LeftAlone as stmt_pack_laws
-use Rattle.b2_stmt_program.specs.Plan as stmt_program
-use Rattle.b2_stmt_program.proofs.LeftAlone as stmt_program_laws
-use Rattle.b2_stmt_program.proofs.ByTable as stmt_program_table
-use Rattle.b2_stmt_program.proofs.Listed as stmt_program_listed
+use Rattle.b2_stmt_disk.specs.programs.Plan as stmt_program
+use Rattle.b2_stmt_disk.proofs.of_programs.LeftAlone as stmt_program_laws
+use Rattle.b2_stmt_disk.proofs.of_programs.ByTable as stmt_program_table
+use Rattle.b2_stmt_disk.proofs.of_programs.Listed as stmt_program_listed
 use Rattle.b2_stmt_var.specs.Plan as stmt_var
 use Rattle.b2_stmt_var.proofs.LeftAlone as stmt_var_laws
 use Rattle.b2_sched.specs.Choice.{basic, family_of, finish_by, is_at_once, is_built, plan_by}

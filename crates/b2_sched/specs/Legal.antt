@@ -14,16 +14,16 @@ use Rattle.b2_stmt.proofs.EachPlan.{MayAsk, each_plan}
 use Rattle.b2_stmt_mat.specs.Plan as stmt_mat
 use Rattle.b2_stmt_pack.specs.Plan as stmt_pack
 use Rattle.b2_stmt_var.specs.Plan as stmt_var
-use Rattle.b2_stmt_device.specs.Plan as stmt_device
-use Rattle.b2_stmt_device.proofs.Legal as stmt_device_laws
+use Rattle.b2_stmt_disk.specs.devices.Plan as stmt_device
+use Rattle.b2_stmt_disk.proofs.of_devices.Legal as stmt_device_laws
 use Rattle.b2_stmt_disk.specs.Plan as stmt_disk
 use Rattle.b2_stmt_disk.proofs.Legal as stmt_disk_laws
 use Rattle.b2_stmt_file.specs.Plan as stmt_file
 use Rattle.b2_stmt_file.proofs.Legal as stmt_file_laws
 use Rattle.b2_stmt_io.specs.Plan as stmt_io
 use Rattle.b2_stmt_io.proofs.Legal as stmt_io_laws
-use Rattle.b2_stmt_program.specs.Plan as stmt_program
-use Rattle.b2_stmt_program.proofs.Legal as stmt_program_laws
+use Rattle.b2_stmt_disk.specs.programs.Plan as stmt_program
+use Rattle.b2_stmt_disk.proofs.of_programs.Legal as stmt_program_laws
 
 abbrev Fine : Planning → Type 0
 Fine x = IsLegalPlan x.planned

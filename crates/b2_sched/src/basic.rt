@@ -27,8 +27,8 @@ impl Language for Basic {
             || b2_stmt_mat::is_built(row)
             || b2_stmt_pack::is_built(row)
             || b2_stmt_file::is_built(row)
-            || b2_stmt_program::is_built(row)
-            || b2_stmt_device::is_built(row)
+            || b2_stmt_disk::programs::is_built(row)
+            || b2_stmt_disk::devices::is_built(row)
             || b2_stmt_disk::is_built(row)
     }
 
@@ -46,8 +46,8 @@ impl Language for Basic {
             Family::Arrays => b2_stmt_mat::plan(alloc, me, lent, devices),
             Family::Packed => b2_stmt_pack::plan(alloc, me, lent, devices),
             Family::Files => b2_stmt_file::plan(alloc, me, lent, devices),
-            Family::Programs => b2_stmt_program::plan(alloc, me, lent, devices),
-            Family::Devices => b2_stmt_device::plan(alloc, me, lent, devices),
+            Family::Programs => b2_stmt_disk::programs::plan(alloc, me, lent, devices),
+            Family::Devices => b2_stmt_disk::devices::plan(alloc, me, lent, devices),
             Family::Disks => b2_stmt_disk::plan(alloc, me, lent, devices),
         }
     }
@@ -68,8 +68,8 @@ impl Language for Basic {
             Family::Arrays => b2_stmt_mat::finish(alloc, me, lent, access, answer),
             Family::Packed => b2_stmt_pack::finish(alloc, me, lent, access, answer),
             Family::Files => b2_stmt_file::finish(alloc, me, lent, access, answer),
-            Family::Programs => b2_stmt_program::finish(alloc, me, lent, access, answer),
-            Family::Devices => b2_stmt_device::finish(alloc, me, lent, access, answer),
+            Family::Programs => b2_stmt_disk::programs::finish(alloc, me, lent, access, answer),
+            Family::Devices => b2_stmt_disk::devices::finish(alloc, me, lent, access, answer),
             Family::Disks => b2_stmt_disk::finish(alloc, me, lent, access, answer),
         }
     }
@@ -121,8 +121,8 @@ impl Language for Basic {
             Family::Arrays => b2_stmt_mat::plan(alloc, me, lent, devices),
             Family::Packed => b2_stmt_pack::plan(alloc, me, lent, devices),
             Family::Files => b2_stmt_file::plan(alloc, me, lent, devices),
-            Family::Programs => b2_stmt_program::plan(alloc, me, lent, devices),
-            Family::Devices => b2_stmt_device::plan(alloc, me, lent, devices),
+            Family::Programs => b2_stmt_disk::programs::plan(alloc, me, lent, devices),
+            Family::Devices => b2_stmt_disk::devices::plan(alloc, me, lent, devices),
             Family::Disks => b2_stmt_disk::plan(alloc, me, lent, devices),
         }
     }

@@ -49,9 +49,9 @@ pub fn family_of(row: u16) -> Family
         Family::Packed
     } else if b2_stmt_file::is_built(row) {
         Family::Files
-    } else if b2_stmt_program::is_built(row) {
+    } else if b2_stmt_disk::programs::is_built(row) {
         Family::Programs
-    } else if b2_stmt_device::is_built(row) {
+    } else if b2_stmt_disk::devices::is_built(row) {
         Family::Devices
     } else {
         Family::Disks

@@ -8,7 +8,7 @@
 //! where their unit was found. What holds of the statements of each crate holds of the language.
 //!
 //! Stands on `b2_machine` for a turn, on `b2_language` for what a language is, on `b2_stmt_var`, `b2_stmt`, `b2_stmt_io`, `b2_stmt_mat`,
-//! `b2_stmt_pack`, `b2_stmt_device`, `b2_stmt_disk`, `b2_stmt_file` and `b2_stmt_program` for statements, on `b2_store` for the store,
+//! `b2_stmt_pack`, `b2_stmt_disk` and `b2_stmt_file` for statements, on `b2_store` for the store,
 //! on `b2_audit` for the watch and its marks, on `b2_access` for what a partition has for itself, on `b2_boot` for boots and events, on
 //! `b2_rows`, `b2_text`, `b2_flow` and `b2_atom` for units, lines and places, and on `b2_base`.
 //! The definitions are in `specs/`: which crate has a row in `Choice`, the laws of the language in `Lawful` and `Legal`, a turn and

@@ -12,3 +12,5 @@ pub mod LeftAlone
 pub mod Listed
 pub mod ByTable
 pub mod Legal
+pub mod of_devices
+pub mod of_programs

@@ -6,3 +6,5 @@ pub mod Listing
 pub mod Moving
 pub mod Plan
 pub mod Laws
+pub mod devices
+pub mod programs

@@ -1,5 +1,0 @@
-use Rattle.b2_stmt_device.proofs.ByTable.{by_table}
-use Rattle.b2_stmt_device.proofs.laws.statements_plan_by_what_is_listed.Goals as goal
-
-pub returns : goal.returns
-returns c = by_table

@@ -1,6 +1,0 @@
-use Rattle.std.proofs.Common.{sym}
-use Rattle.b2_stmt_device.proofs.ListRows.{as_it_was, no_fourth}
-use Rattle.b2_stmt_device.proofs.lists.add_fourth.Goals as goal
-
-pub returns-else-is_at : goal.returns-else-is_at
-returns-else-is_at c = as_it_was _ _ (no_fourth c.args.text.now (sym c.if-is_at.ensures))

@@ -1,0 +1,5 @@
+use Rattle.b2_stmt_disk.proofs.of_programs.LeftAlone.{leave_the_rest}
+use Rattle.b2_stmt_disk.proofs.programs.laws.statements_leave_the_rest.Goals as goal
+
+pub returns : goal.returns
+returns c = leave_the_rest

@@ -1,9 +1,0 @@
--- What statements on programs on disks ask for may be asked for.
-use Rattle.b2_access.specs.LegalPlans.{IsLegalPlan}
-use Rattle.b2_access.proofs.Working.{as_it_comes}
-use Rattle.b2_stmt_program.specs.Laws.{StatementsPlanLegally}
-use Rattle.b2_stmt_program.specs.Plan.{works}
-use Rattle.b2_stmt_program.proofs.Planned.{FitsHere, each_planned}
-
-pub plans_legally : StatementsPlanLegally
-plans_legally devices me s = as_it_comes IsLegalPlan me s (works devices me s) (each_planned devices me s IsLegalPlan tt (λ code. tt) (λ a fits stays. FitsHere.legal fits))

@@ -1,5 +1,0 @@
-use Rattle.b2_stmt_program.proofs.Listed.{asked_are_listed}
-use Rattle.b2_stmt_program.proofs.laws.asked_devices_are_listed.Goals as goal
-
-pub returns : goal.returns
-returns c = asked_are_listed

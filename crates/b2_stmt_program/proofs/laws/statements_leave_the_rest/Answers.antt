@@ -1,5 +1,0 @@
-use Rattle.b2_stmt_program.proofs.LeftAlone.{leave_the_rest}
-use Rattle.b2_stmt_program.proofs.laws.statements_leave_the_rest.Goals as goal
-
-pub returns : goal.returns
-returns c = leave_the_rest
