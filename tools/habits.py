@@ -83,7 +83,7 @@ HABITS = [Habit(*row) for row in [
     ('SAVE DC T("P")', "S13", r"\bSAVE (DC )?T *\(\"", 'the name once more, after SCRATCH: SCRATCH T,"P":SAVE T,("P"),"P"', 'SAVE T,"P":SCRATCH T,"P":SAVE T,("P"),"P"'),
     ('LOAD DC T "P" 100,200', "S25", r"\bLOAD\b.*\" *,? *\d", 'LOAD takes no lines: type CLEAR P 100,200 before it; in a program LOAD replaces all lines', "LIMITS T,A,B,C"),
     ('SCRATCH F "P"', "S27", r"^[FR]\b", 'T, or T/D12 for another disk: SCRATCH T,"P"', 'DATASAVE DC OPEN T,5,"H":SCRATCH T,"H"'),
-    ("DATALOAD BA T(0,L)A$()", "S22", r"\bDATA ?(LOAD|SAVE) *(BA|DA)\b", "records of a file by DATALOAD DC and DATASAVE DC; sectors are not reached by their numbers",
+    ("DATALOAD BA T(0,L)A$()", "S27", r"\bDATA ?(LOAD|SAVE) *(BA|DA)\b", "records of a file by DATALOAD DC and DATASAVE DC; sectors are not reached by their numbers",
      'DATASAVE DC OPEN T,5,"S":DATASAVE DC A$'),
     ("$RELEASE TERMINAL TO 2", "S25", r"\$RELEASE *TERMINAL *TO\b", "leave TO and the partition out: the order in the boot file says whose it is then", "$RELEASE TERMINAL"),
     ("$GIO/005", "S27", r"^\$(GIO|IF|TRAN|FORMAT|INIT|MSG|PSTAT)", "leave it out: no program talks to a device by itself", "PRINT"),

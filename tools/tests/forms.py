@@ -25,6 +25,9 @@ LEAST = 3
 # What the real machine has and this one leaves out: no line has it.
 LEFT_OUT = {'LEFT_OUT', 'SELECT_LEFT_OUT', 'MAT_LEFT_OUT'}
 
+# What is read and listed, and not executed yet.
+UNBUILT = {'SAVE_RECORD', 'LOAD_RECORD', 'SAVE_BLOCK', 'LOAD_BLOCK'}
+
 CODE = re.compile(r'\^?ERR [A-Z][0-9]{2}(?: AT ([0-9]+))?')
 # Statements after which the next one isn't known from the text.
 UNKNOWN = {'IF_END', 'LOAD', 'CLEAR', 'CLEAR_P', 'RUN', 'CONTINUE'}
@@ -229,7 +232,7 @@ class Machine:
 
 # Statements that go on with the one after them, whatever they do.
 STEADY = {row for _, row in table()[1]} | {'ASSIGNMENT'}
-STEADY -= UNKNOWN | ENDING | LEFT_OUT | {'GOTO', 'GOSUB', 'GOSUB_MARKED', 'RETURN', 'RETURN_CLEAR', 'ON', 'IF', 'ELSE', 'ERROR'}
+STEADY -= UNKNOWN | ENDING | LEFT_OUT | UNBUILT | {'GOTO', 'GOSUB', 'GOSUB_MARKED', 'RETURN', 'RETURN_CLEAR', 'ON', 'IF', 'ELSE', 'ERROR'}
 
 
 def typed_lines(lines):
@@ -295,7 +298,7 @@ def ways_of(row, is_common):
 
 def wanted():
     """How often each form is wanted, and each way of one: of what stands in expressions anywhere, of all else in each form."""
-    forms = [row for _, row in table()[1] if row not in LEFT_OUT] + ['ASSIGNMENT']
+    forms = [row for _, row in table()[1] if row not in LEFT_OUT | UNBUILT] + ['ASSIGNMENT']
     ways = {('IF', 'IF', None, way): LEAST for way in ('true', 'false')}
     for form, rows, is_common in [(None, EVERYWHERE, True)] + [(form, [form], False) for form in forms]:
         for row in rows:

@@ -40,7 +40,9 @@ def known_words():
     source = (SOURCES / 'words.rt').read_text()
     texts = re.findall(r'^    b"([^"]+)",$', source, re.M)
     codes = {name: int(code, 16) for name, code in re.findall(r'^pub const (\w+): u8 = 0x([0-9A-F]+);', source, re.M)}
-    return {name: texts[code - 0x80] for name, code in codes.items() if 0x80 <= code < 0x80 + len(texts)}, texts
+    words = {name: texts[code - 0x80] for name, code in codes.items() if 0x80 <= code <= codes['LAST']}
+    # The short words are no words elsewhere, so they are not among the texts.
+    return {**words, **{name: name for name, code in codes.items() if codes['LAST'] < code < codes['LINE_MARK']}}, texts
 
 
 @cache
@@ -138,6 +140,8 @@ class Reader:
             case 'Pair':
                 after = Reader(self.line[self.place + width:])
                 return ahead == values[0] and after.word_ahead()[0] == values[1]
+            case 'ShortAfter':
+                return ahead == values[0] and Reader(self.line[self.place + width:]).is_short(values[1])
             case 'Letters':
                 return re.match(' *'.join(values), self.rest()) is not None
             case 'Number':
@@ -159,6 +163,10 @@ class Reader:
             case 'PrintItem':
                 return self.is_among('TAB(', 'HEXOF(') or self.is_among('AT(', 'BOX(') or self.is_alpha() or self.is_numeric()
         raise ValueError(start)
+
+    def is_short(self, word):
+        """Whether a short word stands ahead, where no longer word begins."""
+        return self.rest().startswith(word) and self.word_ahead()[0] == word[0]
 
     def is_alpha(self):
         return self.word_ahead()[0] == '"' or self.is_among('HEX(', 'BIN(') or re.match(LEAVES['AlphaName'], self.rest()) is not None
@@ -188,6 +196,10 @@ class Reader:
                 ahead, width = self.word_ahead()
                 unit.ways.append((*here, ahead))
                 self.place += width
+            case 'ShortWord':
+                if not self.is_short(values[0]):
+                    raise Unread(f'{values[0]} at {self.rest()!r}')
+                self.place += len(values[0])
             case 'Ignored':
                 self.takes(values[0])
             case 'Comma':

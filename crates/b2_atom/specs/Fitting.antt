@@ -2,8 +2,9 @@
 use Rattle.std.specs.Prelude.{◌≡◌, ℕ, zero, suc, ◌&&◌, ◌||◌, ◌==◌, not, Bool, true, false, List, [], ◌∷◌}
 use Rattle.b2_base.specs.Lexical.{is_decimal}
 use Rattle.b2_base.specs.Byte as byte
+use Rattle.b2_atom.specs.Words.{is_short}
 use Rattle.b2_atom.specs.Tokens.{Token}
-use Rattle.b2_atom.specs.Tokens.Token.{Coded, Plain, Lined}
+use Rattle.b2_atom.specs.Tokens.Token.{Coded, Short, Plain, Lined}
 use Rattle.b2_atom.specs.Tree.{Trees, tokens}
 use Rattle.b2_atom.specs.Tree.Trees.{Done, Put, In}
 use Rattle.b2_atom.specs.Table.{forms}
@@ -19,7 +20,7 @@ use Rattle.b2_atom.specs.declared.forms.Position.{Position}
 use Rattle.b2_atom.specs.declared.forms.Rule.{Rule}
 use Rattle.b2_atom.specs.declared.forms.Form.{Form}
 use Rattle.b2_atom.specs.declared.forms.Item.{Item}
-use Rattle.b2_atom.specs.declared.forms.Item.TheVariants.{Word, Sign, Among, ProgramWord, Ignored, Comma, End, Typed, Part, Maybe, Either, Many, Nest, Statement}
+use Rattle.b2_atom.specs.declared.forms.Item.TheVariants.{Word, Sign, Among, ProgramWord, Ignored, ShortWord, Comma, End, Typed, Part, Maybe, Either, Many, Nest, Statement}
 
 abbrev pub leaf_number : Leaf → ℕ
 leaf_number leaf.Number = 0
@@ -46,6 +47,7 @@ fits_token o (Sign c code) (Coded d) = d == c
 fits_token o (Among low high code) (Coded d) = is_among low high d
 fits_token origin.Immediate (ProgramWord c) (Coded d) = false
 fits_token o (ProgramWord c) (Coded d) = d == c
+fits_token o (ShortWord c) (Short d) = d == c && is_short d
 fits_token o Comma (Coded d) = d == byte.comma
 fits_token o (Typed k code) (Plain j w) = leaf_number j == leaf_number k && is_whole j w
 fits_token o (Typed k code) (Lined high low) = leaf_number k == 7 && (is_decimal high && is_decimal low)

@@ -2,12 +2,12 @@
 use Rattle.std.specs.Prelude.{◌≡◌, ℕ, ◌-◌, ◌<◌, ◌&&◌, ◌||◌, ◌==◌, not, nat_lt, Bool, true, false, List, [], ◌∷◌, ◌++◌, length, drop, codes, if◌then◌else◌}
 use Rattle.b2_base.specs.Byte as byte
 use Rattle.b2_base.specs.Lexical.{all_printable, first, is_decimal, is_hex_digit, is_letter}
-use Rattle.b2_atom.specs.Words.{Text, skipped, ahead, kept_byte, word_text}
+use Rattle.b2_atom.specs.Words.{Text, skipped, ahead, kept_byte, word_text, is_short}
 use Rattle.b2_atom.specs.Tokens.{Token, token_atoms, is_word}
-use Rattle.b2_atom.specs.Tokens.Token.{Coded, Plain, Lined}
+use Rattle.b2_atom.specs.Tokens.Token.{Coded, Short, Plain, Lined}
 use Rattle.b2_atom.specs.Tree.{one}
 use Rattle.b2_atom.specs.Leaves.{is_alpha_name, name_width, leaf_width}
-use Rattle.b2_atom.specs.Grammar.{class_at, is_line, is_among, read_leaf, begins_let, spelled_after}
+use Rattle.b2_atom.specs.Grammar.{class_at, is_line, is_among, read_leaf, short_word, begins_let, spelled_after}
 use Rattle.b2_atom.specs.declared.words.TheConstants as word
 use Rattle.b2_atom.specs.declared.words.Origin.{Origin}
 use Rattle.b2_atom.specs.declared.words.Origin.TheVariants as origin
@@ -27,15 +27,18 @@ abbrev pub is_in : ℕ → Text → Bool
 is_in b [] = false
 is_in b (c ∷ cs) = b == c || is_in b cs
 
--- a token that may stand in a line: a word of the table, a sign, a whole leaf, or a line number of decimal digits
+-- a token that may stand in a line: a word of the table, a sign, a short word, a whole leaf, or a line number of decimal
+-- digits
 abbrev pub good_token : Token → Bool
 good_token (Coded c) = is_among word.REM word.LAST c || is_in c plain_signs
+good_token (Short c) = is_short c
 good_token (Plain k w) = is_whole k w
 good_token (Lined high low) = is_decimal high && is_decimal low
 
 -- a word or a sign that isn't a letter, also a comparison sign
 abbrev pub is_word_or_sign : Token → Bool
 is_word_or_sign (Coded c) = not (is_letter c)
+is_word_or_sign (Short c) = false
 is_word_or_sign (Plain leaf.Relation w) = true
 is_word_or_sign (Plain k w) = false
 is_word_or_sign (Lined high low) = false
@@ -66,6 +69,7 @@ is_unrelated t = true
 -- the two letters that stand after others: of B E G
 abbrev pub is_lettered : ℕ → Token → Bool
 is_lettered c (Coded d) = not (is_letter d) || (c == byte.upper_b && d == byte.upper_e) || (c == byte.upper_e && d == byte.upper_g)
+is_lettered c (Short d) = false
 is_lettered c (Plain k w) = false
 is_lettered c (Lined high low) = true
 
@@ -92,6 +96,7 @@ may_follow_leaf k t = not (is_free_text t)
 -- whether a token may stand directly after another, so that neither runs on into the other
 abbrev pub may_follow : Token → Token → Bool
 may_follow (Coded c) t = may_follow_code c t
+may_follow (Short c) t = not (is_free_text t)
 may_follow (Plain k w) t = may_follow_leaf k t
 may_follow (Lined high low) t = is_word_or_sign t
 
@@ -115,11 +120,13 @@ is_classed k = true
 
 abbrev pub has_class : Token → Bool
 has_class (Coded c) = true
+has_class (Short c) = false
 has_class (Plain k w) = is_classed k
 has_class (Lined high low) = false
 
 abbrev pub token_class : Token → ℕ
 token_class (Coded c) = c
+token_class (Short c) = c
 token_class (Plain k w) = first w
 token_class (Lined high low) = word.LINE_MARK
 
@@ -140,6 +147,7 @@ here o t s = skipped o s
 -- a text from which a token is read, with what is left
 abbrev pub Reads : Origin → Token → Text → Text → Type 0
 Reads o (Coded c) s rest = ahead o (skipped o s) ≡ (c, rest)
+Reads o (Short c) s rest = short_word o c s ≡ one (Short c) rest
 Reads o (Plain k w) s rest = (code : ℕ) → read_leaf o k code s ≡ one (Plain k w) rest
 Reads o (Lined high low) s rest = (code : ℕ) → read_leaf o leaf.LineNumber code s ≡ one (Lined high low) rest
 

@@ -4,11 +4,11 @@ ghost use Rattle.b2_base.specs.Lexical as lexical;
 ghost use Rattle.b2_atom.specs.Words.{kept_byte};
 ghost use Rattle.b2_atom.specs.Tokens as tokens;
 ghost use Rattle.b2_atom.specs.Tokens.{kept_text, maybe_spaced};
-ghost use Rattle.b2_atom.specs.Tokens.Token.{Coded, Plain, Lined};
+ghost use Rattle.b2_atom.specs.Tokens.Token.{Coded, Short, Plain, Lined};
 ghost use Rattle.b2_atom.specs.Tree.{seen_output, bytes_of, noted, Puts};
 
 use crate::forms::Leaf;
-use crate::words::{FN, LINE_MARK, Origin, REM, kept_byte, word_text};
+use crate::words::{FN, LINE_MARK, Origin, REM, kept_byte, short_text, word_text};
 use b2_base::lexical::{at, first, is_letter, without_zeros};
 use std::alloc::{AllocError, AllocFailed, Global};
 
@@ -177,6 +177,18 @@ fn list_code(source: &mut Source, code: u8) -> Result<(), Stop>
     Ok(())
 }
 
+/// Appends a short word to a source.
+fn list_short(source: &mut Source, code: u8) -> Result<(), Stop>
+    ensures { Puts (seen_output (Output.Listed source.old)) (Short code) (seen_output (Output.Listed source.new)) result }
+{
+    let is_apart = source.wordy || source.operand;
+    push_gap(source, is_apart)?;
+    source.bytes.extend_from_slice(short_text(code))?;
+    source.wordy = true;
+    source.operand = false;
+    Ok(())
+}
+
 /// Whether a blank stands before what is typed by hand.
 fn is_text_apart(source: &Source, origin: Origin, leaf: Leaf, bytes: &[u8]) -> bool
     ensures { result ≡ tokens.is_apart source.now.wordy source.now.operand (Plain leaf (kept_text origin leaf bytes.now)) }
@@ -239,6 +251,20 @@ pub fn put_code(output: &mut Output, code: u8) -> Result<(), Stop>
             Ok(())
         }
         Output::Listed(source) => list_code(source, code),
+    }
+}
+
+/// Puts a short word.
+pub fn put_short(output: &mut Output, code: u8) -> Result<(), Stop>
+    ensures { Puts (seen_output output.old) (Short code) (seen_output output.new) result }
+{
+    match output {
+        Output::Silent | Output::Noted(_) => Ok(()),
+        Output::Written(bytes) => {
+            bytes.push(code)?;
+            Ok(())
+        }
+        Output::Listed(source) => list_short(source, code),
     }
 }
 

@@ -10,7 +10,7 @@ use crate::rows;
 use crate::table::FORMS;
 use crate::words::{
     ABS_OPEN, AT_OPEN, BIN_OPEN, BOX_OPEN, FN, HASH_TERM, HEX_OPEN, HEXOF_OPEN, LINE_MARK, Origin,
-    STR_OPEN, TAB_OPEN, ahead, begins_with, is_source, kept_byte, skipped,
+    STR_OPEN, TAB_OPEN, ahead, begins_with, is_source, kept_byte, short_stands, skipped,
 };
 use b2_base::codes;
 use b2_base::lexical::{at, first, is_digit, is_hex_digit, is_letter, rest_after};
@@ -113,6 +113,9 @@ fn starts_by(origin: Origin, start: Start, class: u8, after: &[u8], text: &[u8])
         Start::Pair(one, next) => class == one && class_at(origin, after) == next,
         Start::Letters(one, second, third) => {
             class == one && spelled_after(origin, after, second, third)
+        }
+        Start::ShortAfter(one, short) => {
+            class == one && short_stands(origin, short, skipped(origin, after))
         }
         Start::Number => is_digit(class) || class == b'.',
         Start::Line => is_line(origin, class),

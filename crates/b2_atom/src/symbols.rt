@@ -6,8 +6,8 @@ ghost use Rattle.b2_atom.specs.Grammar as spec;
 
 use crate::forms::{Item, Leaf};
 use crate::leaves::{leaf_width, missing, refused};
-use crate::output::{Output, Stop, put_code, put_line_number, put_text};
-use crate::words::{LINE_MARK, Origin, ahead, is_source, skipped};
+use crate::output::{Output, Stop, put_code, put_line_number, put_short, put_text};
+use crate::words::{LINE_MARK, Origin, ahead, is_source, short_stands, short_width, skipped};
 use b2_base::codes;
 use b2_base::lexical::{all_printable, at, digits_width, first_bytes, is_decimal, rest_after};
 
@@ -72,6 +72,24 @@ fn program_word<'a>(
     }
     put_code(out, wanted)?;
     Ok(after)
+}
+
+/// Reads a short word.
+#[tactic(auto, unfolding(crate::specs::Grammar::short_word))]
+fn short_word<'a>(
+    out: &mut Output,
+    origin: Origin,
+    wanted: u8,
+    text: &'a [u8],
+) -> Result<&'a [u8], Stop>
+    ensures { Takes (seen_output out.old) (spec.short_word origin wanted text.now) (seen_output out.new) result }
+{
+    let here = skipped(origin, text);
+    if !short_stands(origin, wanted, here) {
+        return Err(refused(origin, codes::S22_WORD, here));
+    }
+    put_short(out, wanted)?;
+    Ok(rest_after(here, short_width(origin)))
 }
 
 /// Reads a comma, which a source may leave out.
@@ -252,6 +270,7 @@ pub fn read_item<'a>(
         Item::Among(low, high, code) => among(out, origin, low, high, code, text),
         Item::ProgramWord(word) => program_word(out, origin, word, text),
         Item::Ignored(word) => Ok(ignored(origin, word, text)),
+        Item::ShortWord(word) => short_word(out, origin, word, text),
         Item::Comma => optional_comma(out, origin, text),
         Item::LeftOut => Err(Stop::At(codes::S27_LEFT_OUT, skipped(origin, text).len())),
         Item::End => end_of_line(out, origin, text),

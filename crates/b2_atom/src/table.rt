@@ -414,7 +414,7 @@ pub const ROWS_2: [&[Item]; 64] = [
 
 /// The rows from 192 on.
 #[rattlefmt::skip]
-pub const ROWS_3: [&[Item]; 66] = [
+pub const ROWS_3: [&[Item]; 72] = [
     // INPUT
     &[Item::Word(words::INPUT), Item::Maybe(Start::Code(b'"'), rows::PROMPT), Item::Part(rows::RECEIVER), Item::Many(Start::Code(b','), rows::COMMA_RECEIVER)],
     // LINPUT
@@ -549,11 +549,23 @@ pub const ROWS_3: [&[Item]; 66] = [
     &[Item::Part(rows::SUM), Item::Sign(b',', codes::S13_SEPARATOR), Item::Part(rows::SUM)],
     // RELEASE
     &[Item::Word(words::DOLLAR_RELEASE), Item::Word(words::TERMINAL)],
+    // SECTOR
+    &[Item::Sign(b'(', codes::S10_OPEN), Item::Nest(rows::SECTOR_NUMBERS), Item::Sign(b')', codes::S11_CLOSE)],
+    // SECTOR_NUMBERS
+    &[Item::Part(rows::SUM), Item::Maybe(Start::Code(b','), rows::COMMA_NUMERIC_RECEIVER)],
+    // SAVE_RECORD
+    &[Item::Word(words::DATASAVE), Item::ShortWord(words::DA), Item::Part(rows::DRIVE_COMMA), Item::Part(rows::SECTOR), Item::Either(Start::Code(words::END), rows::END, rows::SAVED_LIST)],
+    // LOAD_RECORD
+    &[Item::Word(words::DATALOAD), Item::ShortWord(words::DA), Item::Part(rows::DRIVE_COMMA), Item::Part(rows::SECTOR), Item::Part(rows::LOADED), Item::Many(Start::Code(b','), rows::COMMA_LOADED)],
+    // SAVE_BLOCK
+    &[Item::Word(words::DATASAVE), Item::ShortWord(words::BA), Item::Part(rows::DRIVE_COMMA), Item::Part(rows::SECTOR), Item::Part(rows::BUFFER)],
+    // LOAD_BLOCK
+    &[Item::Word(words::DATALOAD), Item::ShortWord(words::BA), Item::Part(rows::DRIVE_COMMA), Item::Part(rows::SECTOR), Item::Part(rows::BUFFER)],
 ];
 
 /// The statements, by what they begin with; the first that begins is the one.
 #[rattlefmt::skip]
-pub const FORMS: [Form; 72] = [
+pub const FORMS: [Form; 76] = [
     Form { start: Start::Code(words::REM), rule: Rule::Anywhere, row: rows::REMARK },
     Form { start: Start::Code(b'%'), rule: Rule::First, row: rows::IMAGE_LINE },
     Form { start: Start::Among(words::DIM, words::COM), rule: Rule::Anywhere, row: rows::DIM },
@@ -614,7 +626,11 @@ pub const FORMS: [Form; 72] = [
     Form { start: Start::Code(words::LIMITS), rule: Rule::Anywhere, row: rows::LIMITS },
     Form { start: Start::Pair(words::SCRATCH, words::DISK), rule: Rule::Anywhere, row: rows::SCRATCH_DISK },
     Form { start: Start::Code(words::SCRATCH), rule: Rule::Anywhere, row: rows::SCRATCH },
+    Form { start: Start::ShortAfter(words::DATASAVE, words::DA), rule: Rule::Anywhere, row: rows::SAVE_RECORD },
+    Form { start: Start::ShortAfter(words::DATASAVE, words::BA), rule: Rule::Anywhere, row: rows::SAVE_BLOCK },
     Form { start: Start::Code(words::DATASAVE), rule: Rule::Anywhere, row: rows::DATASAVE },
+    Form { start: Start::ShortAfter(words::DATALOAD, words::DA), rule: Rule::Anywhere, row: rows::LOAD_RECORD },
+    Form { start: Start::ShortAfter(words::DATALOAD, words::BA), rule: Rule::Anywhere, row: rows::LOAD_BLOCK },
     Form { start: Start::Code(words::DATALOAD), rule: Rule::Anywhere, row: rows::DATALOAD },
     Form { start: Start::Code(words::DSKIP), rule: Rule::Anywhere, row: rows::DSKIP },
     Form { start: Start::Code(words::DBACKSPACE), rule: Rule::Anywhere, row: rows::DBACKSPACE },

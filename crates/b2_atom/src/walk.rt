@@ -90,6 +90,7 @@ fn take_item<'a>(
         | Item::Among(_, _, _)
         | Item::ProgramWord(_)
         | Item::Ignored(_)
+        | Item::ShortWord(_)
         | Item::Comma
         | Item::LeftOut
         | Item::End

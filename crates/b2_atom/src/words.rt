@@ -238,6 +238,12 @@ pub const BOX_OPEN: u8 = 0xEB;
 /// The last word.
 pub const LAST: u8 = 0xEB;
 
+/// A short word: two letters that are a word where a row asks for it, and nowhere else.
+pub const DA: u8 = 0xEC;
+
+/// The other short word.
+pub const BA: u8 = 0xED;
+
 /// The words in the order of their codes, and after them those that this machine leaves out.
 #[rattlefmt::skip]
 pub const WORDS: [&[u8]; 130] = [
@@ -473,6 +479,50 @@ pub fn word_text(code: u8) -> &'static [u8]
     ensures { result.now ≡ spec.word_text code }
 {
     text_in(words(), usize::from(code.saturating_sub(REM)))
+}
+
+/// Whether a code is that of a short word.
+pub fn is_short(code: u8) -> bool
+    ensures { result ≡ spec.is_short code }
+{
+    code == DA || code == BA
+}
+
+/// The letters of a short word.
+pub fn short_text(code: u8) -> &'static [u8]
+    ensures { result.now ≡ spec.short_text code }
+{
+    match code {
+        DA => b"DA",
+        BA => b"BA",
+        _ => &[],
+    }
+}
+
+/// Whether a short word stands at a text: its letters, where no longer word begins, or its code among atoms.
+pub fn short_stands(origin: Origin, code: u8, text: &[u8]) -> bool
+    ensures { result ≡ spec.short_stands origin code text.now }
+{
+    if !is_short(code) {
+        return false;
+    }
+    match origin {
+        Origin::Program | Origin::Immediate => {
+            let letters = short_text(code);
+            class_at(origin, text) == first(letters) && begins_with(letters, text)
+        }
+        Origin::Atoms => first(text) == code,
+    }
+}
+
+/// How many bytes a short word takes.
+pub fn short_width(origin: Origin) -> usize
+    ensures { result ≡ spec.short_width origin }
+{
+    match origin {
+        Origin::Program | Origin::Immediate => 2,
+        Origin::Atoms => 1,
+    }
 }
 
 /// A word, or a longer one that is typed with blanks in it, and what follows it.

@@ -8,7 +8,7 @@ use Rattle.b2_dectext.specs.NumberText.{number_len, number_value}
 use Rattle.b2_alpha.specs.Values.{value_of}
 use Rattle.b2_atom.specs.Words.{Text}
 use Rattle.b2_atom.specs.Tokens.{Token}
-use Rattle.b2_atom.specs.Tokens.Token.{Coded, Plain, Lined}
+use Rattle.b2_atom.specs.Tokens.Token.{Coded, Short, Plain, Lined}
 use Rattle.b2_atom.specs.Tree.{Trees}
 use Rattle.b2_atom.specs.Tree.Trees.{Done, Put, In}
 use Rattle.b2_atom.specs.declared.rows.TheConstants as row
@@ -96,6 +96,7 @@ hex_bytes t = Err S18_ALPHA
 -- the text of a token, and the branch that a tree takes first
 abbrev pub token_text : Token → Text
 token_text (Coded c) = []
+token_text (Short c) = []
 token_text (Plain k text) = text
 token_text (Lined high low) = []
 

@@ -1,5 +1,5 @@
 // Atoms, as rows write them.
-use b2_atom::words::{LAST, LINE_MARK, REM, word_text};
+use b2_atom::words::{BA, DA, LAST, LINE_MARK, REM, is_short, short_text, word_text};
 use b2_base::cut;
 use b2_base::lexical::{
     capped_value, decimal_byte, decimal_of, digits_width, is_decimal, is_printable,
@@ -8,6 +8,12 @@ use b2_cases::Sheet;
 
 /// The code of the word of a spelling, None where there is no such word.
 fn word_of(spelling: &[u8]) -> Option<u8> {
+    if spelling == short_text(DA) {
+        return Some(DA);
+    }
+    if spelling == short_text(BA) {
+        return Some(BA);
+    }
     for code in REM..=LAST {
         if word_text(code) == spelling {
             return Some(code);
@@ -81,6 +87,10 @@ fn show_atom(sheet: &mut Sheet<'_>, atom: u8) {
     if atom >= REM && atom <= LAST {
         sheet.show("{");
         sheet.show_letters(word_text(atom));
+        sheet.show("}");
+    } else if is_short(atom) {
+        sheet.show("{");
+        sheet.show_letters(short_text(atom));
         sheet.show("}");
     } else if is_printable(atom) && !matches!(atom, b'\\' | b'|' | b'{' | b'}') {
         sheet.show_letter(atom);

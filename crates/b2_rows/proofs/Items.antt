@@ -2,9 +2,9 @@
 use Rattle.std.proofs.Common.{◌≡◌, ℕ, Bool, true, false, if◌then◌else◌, ◌==◌, ◌&&◌, nat_le, nat_lt, [], ◌∷◌, length, take, drop, map, get_or, refl, sym, ap, subst, arith, Ok, Err, is_ok}
 use Rattle.std.proofs.lemmas.Bool.Decides.{nat_tests}
 use Rattle.b2_base.specs.Lexical.{all_printable, first, is_decimal}
-use Rattle.b2_atom.specs.Words.{Text, kept_byte}
+use Rattle.b2_atom.specs.Words.{Text, kept_byte, is_short}
 use Rattle.b2_atom.specs.Tokens.{kept_text}
-use Rattle.b2_atom.specs.Tokens.Token.{Coded, Plain, Lined}
+use Rattle.b2_atom.specs.Tokens.Token.{Coded, Short, Plain, Lined}
 use Rattle.b2_atom.specs.Tree.{Trees, Outcome, Parser, one, nothing, preceded, and_then, under, also}
 use Rattle.b2_atom.specs.Tree.Trees.{Done, Put, In}
 use Rattle.b2_atom.specs.Leaves.{leaf_width, missing}
@@ -15,7 +15,7 @@ use Rattle.b2_atom.specs.declared.output.Stop.{Stop}
 use Rattle.b2_atom.specs.declared.output.Stop.TheVariants.{At}
 use Rattle.b2_atom.specs.declared.forms.Leaf.{Leaf}
 use Rattle.b2_atom.specs.declared.forms.Leaf.TheVariants as leaf
-use Rattle.b2_atom.proofs.Booleans.{both, equal}
+use Rattle.b2_atom.proofs.Booleans.{and_right, both, equal}
 use Rattle.b2_rows.specs.Leaves.{is_leaf, after_leaf, put_leaf}
 use Rattle.b2_rows.specs.Rows.{tree_of}
 use Rattle.b2_rows.proofs.Levels.{Up}
@@ -43,6 +43,11 @@ pub among_case : (b : Bool) (low high : ℕ) (t : Text) (e : Stop) (q : Parser T
     → Holds v (and_then (if b then one (Coded (first t)) (drop 1 t) else Err e) q)
 among_case true low high t e q v is h = holds_preceded v (Put (Coded (first t)) Done) (q (drop 1 t)) (h is)
 among_case false low high t e q v is h = tt
+
+pub short_case : (b : Bool) (c : ℕ) (t : Text) (e : Stop) (q : Parser Text) (v : Trees → Text → Type 0) → (is_short c && first t == c) ≡ b
+    → (first t ≡ c → Holds (λ a r. v (Put (Short c) a) r) (q (drop 1 t))) → Holds v (and_then (if b then one (Short c) (drop 1 t) else Err e) q)
+short_case true c t e q v is h = holds_preceded v (Put (Short c) Done) (q (drop 1 t)) (h (equal (first t) c (and_right (is_short c) _ is)))
+short_case false c t e q v is h = tt
 
 pub nothing_case : (t : Text) (q : Parser Text) (v : Trees → Text → Type 0) → Holds v (q t) → Holds v (and_then (nothing t) q)
 nothing_case t q v h = holds_preceded v Done (q t) h

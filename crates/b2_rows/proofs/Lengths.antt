@@ -11,7 +11,7 @@ use Rattle.b2_atom.specs.declared.forms.Start.{Start}
 use Rattle.b2_atom.specs.declared.forms.Leaf.{Leaf}
 use Rattle.b2_atom.specs.declared.forms.Leaf.TheVariants as leaf
 use Rattle.b2_atom.specs.declared.forms.Item.{Item}
-use Rattle.b2_atom.specs.declared.forms.Item.TheVariants.{Word, Sign, Among, ProgramWord, Ignored, Comma, LeftOut, End, Typed, Part, Maybe, Either, Many, Nest, Statement}
+use Rattle.b2_atom.specs.declared.forms.Item.TheVariants.{Word, Sign, Among, ProgramWord, Ignored, ShortWord, Comma, LeftOut, End, Typed, Part, Maybe, Either, Many, Nest, Statement}
 use Rattle.b2_atom.proofs.Booleans.{and_left, and_right, or_cases}
 use Rattle.b2_rows.specs.Leaves.{is_leaf, leaf_size, after_leaf}
 use Rattle.b2_rows.specs.Rows.{fits_unit, is_phrase, after_phrase, is_list, after_list, When, Stands, rest_by}
@@ -51,6 +51,7 @@ rest_no_longer (Word c ∷ is) t = over _ (drop 1 t) t (rest_no_longer is (drop 
 rest_no_longer (Sign c code ∷ is) t = over _ (drop 1 t) t (rest_no_longer is (drop 1 t)) (dropped_no_longer 1 t)
 rest_no_longer (Among low high code ∷ is) t = over _ (drop 1 t) t (rest_no_longer is (drop 1 t)) (dropped_no_longer 1 t)
 rest_no_longer (ProgramWord c ∷ is) t = over _ (drop 1 t) t (rest_no_longer is (drop 1 t)) (dropped_no_longer 1 t)
+rest_no_longer (ShortWord c ∷ is) t = over _ (drop 1 t) t (rest_no_longer is (drop 1 t)) (dropped_no_longer 1 t)
 rest_no_longer (Ignored c ∷ is) t = rest_no_longer is t
 rest_no_longer (Comma ∷ is) t = over _ (drop 1 t) t (rest_no_longer is (drop 1 t)) (dropped_no_longer 1 t)
 rest_no_longer (LeftOut ∷ is) t = omega arith
@@ -141,6 +142,7 @@ rest_shorter row ih (Word c ∷ is) t h s = first_or_later (nat_lt 0 c) _ _ (dro
 rest_shorter row ih (Sign c code ∷ is) t h s = first_or_later (nat_lt 0 c) _ _ (drop 1 t) t h (rest_no_longer is (drop 1 t)) (dropped_no_longer 1 t) (λ some. byte_shorter c t some s.0) (λ later. rest_shorter row ih is (drop 1 t) later s.1)
 rest_shorter row ih (Among low high code ∷ is) t h s = first_or_later (nat_lt 0 low) _ _ (drop 1 t) t h (rest_no_longer is (drop 1 t)) (dropped_no_longer 1 t) (λ some. among_shorter low high t some s.0) (λ later. rest_shorter row ih is (drop 1 t) later s.1)
 rest_shorter row ih (ProgramWord c ∷ is) t h s = first_or_later (nat_lt 0 c) _ _ (drop 1 t) t h (rest_no_longer is (drop 1 t)) (dropped_no_longer 1 t) (λ some. byte_shorter c t some s.0) (λ later. rest_shorter row ih is (drop 1 t) later s.1)
+rest_shorter row ih (ShortWord c ∷ is) t h s = first_or_later (nat_lt 0 c) _ _ (drop 1 t) t h (rest_no_longer is (drop 1 t)) (dropped_no_longer 1 t) (λ some. byte_shorter c t some s.0) (λ later. rest_shorter row ih is (drop 1 t) later s.1)
 rest_shorter row ih (Ignored c ∷ is) t h s = rest_shorter row ih is t h s
 rest_shorter row ih (Comma ∷ is) t h s = below _ (drop 1 t) t (rest_no_longer is (drop 1 t)) (byte_shorter byte.comma t refl s.0)
 rest_shorter row ih (LeftOut ∷ is) t h s = absurd s

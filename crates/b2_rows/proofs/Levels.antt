@@ -12,7 +12,7 @@ use Rattle.b2_atom.specs.declared.forms.Leaf.TheVariants as leaf
 use Rattle.b2_atom.specs.declared.forms.Start.{Start}
 use Rattle.b2_atom.specs.declared.forms.Position.{Position}
 use Rattle.b2_atom.specs.declared.forms.Item.{Item}
-use Rattle.b2_atom.specs.declared.forms.Item.TheVariants.{Word, Sign, Among, ProgramWord, Ignored, Comma, LeftOut, End, Typed, Part, Maybe, Either, Many, Nest, Statement}
+use Rattle.b2_atom.specs.declared.forms.Item.TheVariants.{Word, Sign, Among, ProgramWord, Ignored, ShortWord, Comma, LeftOut, End, Typed, Part, Maybe, Either, Many, Nest, Statement}
 use Rattle.b2_atom.proofs.reading.Sound.{Takes, takes_level, takes_deep, takes_many, takes_statement}
 use Rattle.b2_rows.specs.Leaves.{leaf_size, after_leaf}
 use Rattle.b2_rows.specs.Rows.{reading_row, reading_list, after_phrase, after_list, fits_unit}
@@ -67,6 +67,7 @@ up_item d e p q hd h (Sign c code) t = λ x is. is
 up_item d e p q hd h (Among low high code) t = λ x is. is
 up_item d e p q hd h (ProgramWord c) t = λ x is. is
 up_item d e p q hd h (Ignored c) t = λ x is. is
+up_item d e p q hd h (ShortWord c) t = λ x is. is
 up_item d e p q hd h Comma t = λ x is. is
 up_item d e p q hd h LeftOut t = λ x is. is
 up_item d e p q hd h End t = λ x is. is

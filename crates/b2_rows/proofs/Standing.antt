@@ -1,25 +1,25 @@
 -- A row that is read stands item by item, and makes its tree.
-use Rattle.std.proofs.Common.{◌≡◌, ◌≤◌, ℕ, Bool, true, false, if◌then◌else◌, ◌==◌, List, [], ◌∷◌, length, drop, refl, sym, ap, subst, ◌∙◌, Ok, Err, is_ok}
+use Rattle.std.proofs.Common.{◌≡◌, ◌≤◌, ℕ, Bool, true, false, if◌then◌else◌, ◌==◌, ◌&&◌, List, [], ◌∷◌, length, drop, refl, sym, ap, subst, ◌∙◌, Ok, Err, is_ok}
 use Rattle.b2_base.specs.Lexical.{first}
 use Rattle.b2_base.specs.Byte as byte
-use Rattle.b2_atom.specs.Words.{Text}
-use Rattle.b2_atom.specs.Tokens.Token.{Coded}
+use Rattle.b2_atom.specs.Words.{Text, is_short}
+use Rattle.b2_atom.specs.Tokens.Token.{Coded, Short}
 use Rattle.b2_atom.specs.Tree.{Trees, Outcome, Parser, and_then, under, also}
 use Rattle.b2_atom.specs.Tree.Trees.{Done, Put, In}
 use Rattle.b2_atom.specs.Leaves.{refused}
-use Rattle.b2_atom.specs.Grammar.{is_among, among, reader, item, many, items, level, absent, row_items, starts, symbol, program_word, ignored, optional_comma, end_of_line, read_leaf, statement_within}
+use Rattle.b2_atom.specs.Grammar.{is_among, among, reader, item, many, items, level, absent, row_items, starts, symbol, program_word, ignored, short_word, optional_comma, end_of_line, read_leaf, statement_within}
 use Rattle.b2_atom.specs.Lines.{left_after}
 use Rattle.b2_atom.specs.declared.words.Origin.TheVariants.{Atoms}
 use Rattle.b2_atom.specs.declared.forms.Start.{Start}
 use Rattle.b2_atom.specs.declared.forms.Leaf.{Leaf}
 use Rattle.b2_atom.specs.declared.forms.Item.{Item}
-use Rattle.b2_atom.specs.declared.forms.Item.TheVariants.{Word, Sign, Among, ProgramWord, Ignored, Comma, LeftOut, End, Typed, Part, Maybe, Either, Many, Nest, Statement}
+use Rattle.b2_atom.specs.declared.forms.Item.TheVariants.{Word, Sign, Among, ProgramWord, Ignored, ShortWord, Comma, LeftOut, End, Typed, Part, Maybe, Either, Many, Nest, Statement}
 use Rattle.b2_atom.proofs.Booleans.{and_left, and_right, both}
 use Rattle.b2_rows.specs.Leaves.{put_leaf, after_leaf}
 use Rattle.b2_rows.specs.Rows.{reading_row, reading_list, tree_of, fits_unit, is_phrase, tree_at, after_phrase, is_list, list_at, after_list, When, Stands, tree_by, rest_by, RowStands}
 use Rattle.b2_rows.specs.Laws.{EachRowStands}
 use Rattle.b2_rows.proofs.Levels.{no_statement, in_parentheses, at_level, up_level, up_nest, list_up, short_drop, short_leaf, short_part, short_list, is_short, short_of}
-use Rattle.b2_rows.proofs.Items.{Holds, holds_preceded, holds_map, symbol_case, among_case, nothing_case, end_case, leaf_case, part_case, list_case}
+use Rattle.b2_rows.proofs.Items.{Holds, holds_preceded, holds_map, symbol_case, among_case, short_case, nothing_case, end_case, leaf_case, part_case, list_case}
 
 -- what the items of a row say of a text, of a tree and of a rest
 abbrev pub Row : List Item → Text → Trees → Text → Type 0
@@ -66,11 +66,14 @@ a_leaf : (k : Leaf) (t : Text) (a b : Trees) → a ≡ b → put_leaf k t a ≡ 
 a_leaf k t a b h = ap (put_leaf k t) h
 
 stands : (is : List Item) (t : Text) → length t ≤ 256 → Holds (Row is t) (in_row is t)
-unfolding items item symbol among program_word ignored optional_comma end_of_line read_leaf statement_within
+unfolding items item symbol among program_word ignored short_word optional_comma end_of_line read_leaf statement_within
 stands [] t short = (tt, refl, refl)
 stands (Word c ∷ is) t short = symbol_case (first t == c) c t (refused Atoms 22 t) (in_row is) _ refl (λ is_c. a_byte c is t is_c (stands is (drop 1 t) (short_drop 1 t short)))
 stands (Sign c code ∷ is) t short = symbol_case (first t == c) c t (refused Atoms code t) (in_row is) _ refl (λ is_c. a_byte c is t is_c (stands is (drop 1 t) (short_drop 1 t short)))
 stands (ProgramWord c ∷ is) t short = symbol_case (first t == c) c t (refused Atoms 22 t) (in_row is) _ refl (λ is_c. a_byte c is t is_c (stands is (drop 1 t) (short_drop 1 t short)))
+stands (ShortWord c ∷ is) t short =
+    short_case (is_short c && first t == c) c t (refused Atoms 22 t) (in_row is) _ refl (λ is_c.
+    holds_map (Row is (drop 1 t)) _ (in_row is (drop 1 t)) (λ a r k. ((is_c, k.0), ap (Put (Short c)) k.1, k.2)) (stands is (drop 1 t) (short_drop 1 t short)))
 stands (Comma ∷ is) t short = symbol_case (first t == byte.comma) byte.comma t (refused Atoms 13 t) (in_row is) _ refl (λ is_c. a_byte byte.comma is t is_c (stands is (drop 1 t) (short_drop 1 t short)))
 stands (Among low high code ∷ is) t short =
     among_case (is_among low high (first t)) low high t (refused Atoms code t) (in_row is) _ refl (λ is_c.

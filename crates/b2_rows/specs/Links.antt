@@ -3,7 +3,7 @@ use Rattle.std.specs.Prelude.{◌≡◌, ◌<◌, ℕ, true, length, drop}
 use Rattle.b2_base.specs.Lexical.{first}
 use Rattle.b2_atom.specs.Words.{Text}
 use Rattle.b2_atom.specs.Tokens.{Token}
-use Rattle.b2_atom.specs.Tokens.Token.{Coded, Plain, Lined}
+use Rattle.b2_atom.specs.Tokens.Token.{Coded, Short, Plain, Lined}
 use Rattle.b2_atom.specs.Tree.{Trees}
 use Rattle.b2_atom.specs.Tree.Trees.{Done, Put, In}
 use Rattle.b2_atom.specs.declared.forms.Start.{Start}
@@ -12,6 +12,7 @@ use Rattle.b2_rows.specs.Rows.{is_phrase, tree_at, after_phrase, is_list, list_a
 -- the word or sign of a token, and 0 of what is typed by hand
 abbrev pub token_code : Token → ℕ
 token_code (Coded c) = c
+token_code (Short c) = c
 token_code (Plain k w) = 0
 token_code (Lined high low) = 0
 

@@ -3,7 +3,7 @@ use Rattle.std.specs.Prelude.{◌≡◌, ℕ, List, [], ◌∷◌, Bool, true, f
 use Rattle.b2_base.specs.Byte as byte
 use Rattle.b2_base.specs.Lexical.{first}
 use Rattle.b2_atom.specs.Words.{Text}
-use Rattle.b2_atom.specs.Tokens.Token.{Coded}
+use Rattle.b2_atom.specs.Tokens.Token.{Coded, Short}
 use Rattle.b2_atom.specs.Tree.{Trees, Outcome, also}
 use Rattle.b2_atom.specs.Tree.Trees.{Done, Put, In}
 use Rattle.b2_atom.specs.Grammar.{is_among, part, starts, many, reader}
@@ -11,7 +11,7 @@ use Rattle.b2_atom.specs.Lines.{left_after}
 use Rattle.b2_atom.specs.declared.words.Origin.TheVariants.{Atoms}
 use Rattle.b2_atom.specs.declared.forms.Start.{Start}
 use Rattle.b2_atom.specs.declared.forms.Item.{Item}
-use Rattle.b2_atom.specs.declared.forms.Item.TheVariants.{Word, Sign, Among, ProgramWord, Ignored, Comma, LeftOut, End, Typed, Part, Maybe, Either, Many, Nest, Statement}
+use Rattle.b2_atom.specs.declared.forms.Item.TheVariants.{Word, Sign, Among, ProgramWord, Ignored, ShortWord, Comma, LeftOut, End, Typed, Part, Maybe, Either, Many, Nest, Statement}
 use Rattle.b2_rows.specs.Leaves.{is_leaf, after_leaf, put_leaf}
 
 -- what the table reads of a row in a unit: the statement that follows a THEN, ELSE or ERROR is a unit of its own
@@ -64,6 +64,7 @@ Stands (Sign c code ∷ is) t = (first t ≡ c) × Stands is (drop 1 t)
 Stands (Among low high code ∷ is) t = (is_among low high (first t) ≡ true) × Stands is (drop 1 t)
 Stands (ProgramWord c ∷ is) t = (first t ≡ c) × Stands is (drop 1 t)
 Stands (Ignored c ∷ is) t = Stands is t
+Stands (ShortWord c ∷ is) t = (first t ≡ c) × Stands is (drop 1 t)
 Stands (Comma ∷ is) t = (first t ≡ byte.comma) × Stands is (drop 1 t)
 Stands (LeftOut ∷ is) t = ⊥
 Stands (End ∷ is) t = (t ≡ []) × Stands is t
@@ -84,6 +85,7 @@ tree_by (Sign c code ∷ is) t = Put (Coded c) (tree_by is (drop 1 t))
 tree_by (Among low high code ∷ is) t = Put (Coded (first t)) (tree_by is (drop 1 t))
 tree_by (ProgramWord c ∷ is) t = Put (Coded c) (tree_by is (drop 1 t))
 tree_by (Ignored c ∷ is) t = tree_by is t
+tree_by (ShortWord c ∷ is) t = Put (Short c) (tree_by is (drop 1 t))
 tree_by (Comma ∷ is) t = Put (Coded byte.comma) (tree_by is (drop 1 t))
 tree_by (LeftOut ∷ is) t = Done
 tree_by (End ∷ is) t = tree_by is t
@@ -103,6 +105,7 @@ rest_by (Sign c code ∷ is) t = rest_by is (drop 1 t)
 rest_by (Among low high code ∷ is) t = rest_by is (drop 1 t)
 rest_by (ProgramWord c ∷ is) t = rest_by is (drop 1 t)
 rest_by (Ignored c ∷ is) t = rest_by is t
+rest_by (ShortWord c ∷ is) t = rest_by is (drop 1 t)
 rest_by (Comma ∷ is) t = rest_by is (drop 1 t)
 rest_by (LeftOut ∷ is) t = []
 rest_by (End ∷ is) t = rest_by is t

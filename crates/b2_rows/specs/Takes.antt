@@ -4,7 +4,7 @@ use Rattle.b2_atom.specs.Grammar.{row_items}
 use Rattle.b2_atom.specs.declared.forms.Leaf.{Leaf}
 use Rattle.b2_atom.specs.declared.forms.Leaf.TheVariants as leaf
 use Rattle.b2_atom.specs.declared.forms.Item.{Item}
-use Rattle.b2_atom.specs.declared.forms.Item.TheVariants.{Word, Sign, Among, ProgramWord, Ignored, Comma, LeftOut, End, Typed, Part, Maybe, Either, Many, Nest, Statement}
+use Rattle.b2_atom.specs.declared.forms.Item.TheVariants.{Word, Sign, Among, ProgramWord, Ignored, ShortWord, Comma, LeftOut, End, Typed, Part, Maybe, Either, Many, Nest, Statement}
 
 abbrev pub leaf_takes : Leaf → Bool
 leaf_takes leaf.Text = false
@@ -18,6 +18,7 @@ items_take row (Sign c code ∷ is) = nat_lt 0 c || items_take row is
 items_take row (Among low high code ∷ is) = nat_lt 0 low || items_take row is
 items_take row (ProgramWord c ∷ is) = nat_lt 0 c || items_take row is
 items_take row (Ignored c ∷ is) = items_take row is
+items_take row (ShortWord c ∷ is) = nat_lt 0 c || items_take row is
 items_take row (Comma ∷ is) = true
 items_take row (LeftOut ∷ is) = true
 items_take row (End ∷ is) = items_take row is

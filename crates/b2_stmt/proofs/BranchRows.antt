@@ -3,7 +3,7 @@ use Rattle.std.proofs.Common.{◌≡◌, ℕ, ◌+◌, ◌==◌, Bool, true, fal
 use Rattle.b2_base.specs.Lexical.{first}
 use Rattle.b2_base.specs.declared.codes.TheConstants.{S15_LINE_NUMBER, D87_FILE_NAME}
 use Rattle.b2_atom.specs.Words.{Text}
-use Rattle.b2_atom.specs.Tokens.Token.{Coded, Plain, Lined}
+use Rattle.b2_atom.specs.Tokens.Token.{Coded, Short, Plain, Lined}
 use Rattle.b2_atom.specs.Tree.{Trees}
 use Rattle.b2_atom.specs.Tree.Trees.{Done, Put, In}
 use Rattle.b2_atom.specs.Grammar.{row_items, starts}
@@ -63,6 +63,7 @@ line_goal k t ok = ap (named_goal k 1) (stands_of row.LINE_NUMBER line_items t l
 no_line : (k : ℕ) (t : Trees) → named_goal k 0 t ≡ goal.Unit (k + 1)
 no_line k Done = refl
 no_line k (Put (Coded c) t) = refl
+no_line k (Put (Short c) t) = refl
 no_line k (Put (Plain l w) t) = refl
 no_line k (Put (Lined high low) t) = refl
 no_line k (In n a t) = refl

@@ -3,7 +3,7 @@ use Rattle.std.proofs.Common.{◌≡◌, ◌≤◌, ◌<◌, ℕ, ◌+◌, ◌==
 use Rattle.std.proofs.lemmas.Bool.Decides.{nat_tests}
 use Rattle.std.proofs.lemmas.Option.{slice_get_within}
 use Rattle.b2_atom.specs.Words.{Text}
-use Rattle.b2_atom.specs.Tokens.Token.{Coded, Plain, Lined}
+use Rattle.b2_atom.specs.Tokens.Token.{Coded, Short, Plain, Lined}
 use Rattle.b2_atom.specs.Tree.{Trees}
 use Rattle.b2_atom.specs.Tree.Trees.{Done, Put, In}
 use Rattle.b2_atom.specs.Lines.{is_line}
@@ -29,6 +29,7 @@ named_unit : (k n : ℕ) (t : Trees) → k < 255 → IsUnit (named_goal k n t)
 named_unit k n Done h = omega arith
 named_unit k n (In m a t) h = omega arith
 named_unit k n (Put (Coded c) t) h = omega arith
+named_unit k n (Put (Short c) t) h = omega arith
 named_unit k n (Put (Plain l w) t) h = omega arith
 named_unit k n (Put (Lined high low) t) h = by_test (n == 1)
   where

@@ -2,7 +2,7 @@
 use Rattle.std.proofs.Common.{◌==◌, ℕ, List, [], ◌∷◌, length, Option, Some, None, Ok, Err, subst, sym}
 use Rattle.b2_alpha.specs.Values.{value_of}
 use Rattle.b2_base.specs.Lexical.{skip_blanks}
-use Rattle.b2_atom.specs.Tokens.Token.{Coded, Lined, Plain}
+use Rattle.b2_atom.specs.Tokens.Token.{Coded, Short, Lined, Plain}
 use Rattle.b2_atom.specs.Tree.{Trees}
 use Rattle.b2_atom.specs.Tree.Trees.{Done, Put, In}
 use Rattle.b2_atom.specs.declared.rows.TheConstants as row
@@ -73,6 +73,7 @@ number_converted (In n x (Put to (In m receiver (Put comma (In k a t))))) w = st
 number_converted (In n x (Put to (In m receiver (Put comma (Put opening Done))))) w = stay w.globals
 number_converted (In n x (Put to (In m receiver (Put comma (Put opening (In k a t)))))) w = stay w.globals
 number_converted (In n x (Put to (In m receiver (Put comma (Put opening (Put (Coded c) end)))))) w = stay w.globals
+number_converted (In n x (Put to (In m receiver (Put comma (Put opening (Put (Short c) end)))))) w = stay w.globals
 number_converted (In n x (Put to (In m receiver (Put comma (Put opening (Put (Lined high low) end)))))) w = stay w.globals
 number_converted (In n x (Put to (In m receiver (Put comma (Put opening (Put (Plain k image) end)))))) w = image_from_reaches (value (context_of w) level.Sum x) (image_of image) receiver w
 

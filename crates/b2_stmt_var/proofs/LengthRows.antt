@@ -15,7 +15,7 @@ use Rattle.b2_atom.specs.declared.forms.Start.{Start}
 use Rattle.b2_atom.specs.declared.forms.Start.TheVariants as start
 use Rattle.b2_atom.specs.declared.forms.Leaf.TheVariants as leaf
 use Rattle.b2_atom.specs.declared.forms.Item.{Item}
-use Rattle.b2_atom.specs.declared.forms.Item.TheVariants.{Word, Sign, Among, ProgramWord, Ignored, Comma, LeftOut, End, Typed, Part, Maybe, Either, Many, Nest, Statement}
+use Rattle.b2_atom.specs.declared.forms.Item.TheVariants.{Word, Sign, Among, ProgramWord, Ignored, ShortWord, Comma, LeftOut, End, Typed, Part, Maybe, Either, Many, Nest, Statement}
 use Rattle.b2_rows.specs.Rows.{reading_row, tree_of, fits_unit, is_phrase, tree_at, after_phrase}
 use Rattle.b2_rows.proofs.Levels.{no_statement, in_parentheses, at_level, up_level, Up}
 use Rattle.b2_rows.proofs.ListEnds.{also_done}
@@ -50,6 +50,7 @@ same_item p q (Sign c code) h t = refl
 same_item p q (Among low high code) h t = refl
 same_item p q (ProgramWord c) h t = refl
 same_item p q (Ignored c) h t = refl
+same_item p q (ShortWord c) h t = refl
 same_item p q Comma h t = refl
 same_item p q LeftOut h t = refl
 same_item p q End h t = refl

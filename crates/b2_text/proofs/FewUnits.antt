@@ -5,7 +5,7 @@ use Rattle.std.proofs.lemmas.List.{length-append, length-map}
 use Rattle.std.proofs.lemmas.List.Elements.{All-head, All-tail}
 use Rattle.std.specs.List.{All}
 use Rattle.b2_atom.specs.Words.{Text}
-use Rattle.b2_atom.specs.Tokens.Token.{Coded, Plain, Lined}
+use Rattle.b2_atom.specs.Tokens.Token.{Coded, Short, Plain, Lined}
 use Rattle.b2_atom.specs.Tree.{Trees, atoms}
 use Rattle.b2_atom.specs.Tree.Trees.{Done, Put, In}
 use Rattle.b2_atom.specs.Grammar.{reader, statement, row_items}
@@ -76,6 +76,7 @@ Spares n s is = (t : Trees) → length (atoms t) < n → Fits Atoms 32 32 is t �
 after_word : (n s c : ℕ) (is : List Item) → Spares n s is → Spares (suc n) (s + 2) (Word c ∷ is)
 after_word n s c is h Done few fits long = cc
 after_word n s c is h (Put (Coded d) ts) few fits long = let rest = h ts (omega (arith, few)) fits.1 long in omega (arith, rest)
+after_word n s c is h (Put (Short d) ts) few fits long = cc
 after_word n s c is h (Put (Plain k w) ts) few fits long = cc
 after_word n s c is h (Put (Lined a b) ts) few fits long = cc
 after_word n s c is h (In m t ts) few fits long = absurd fits
@@ -230,6 +231,7 @@ further_row (Put (Coded d) (In m t ts)) fits long =
     omega (arith, it, both, none)
 further_row (Put (Coded d) (Put x ts)) fits long = cc
 further_row (Put (Coded d) Done) fits long = cc
+further_row (Put (Short d) ts) fits long = cc
 further_row (Put (Plain k w) ts) fits long = cc
 further_row (Put (Lined a b) ts) fits long = cc
 further_row (In m t ts) fits long = absurd fits

@@ -1,7 +1,7 @@
 -- A tree that some kind of line allows is one that a line of atoms allows, also where more parentheses may be open.
 use Rattle.std.proofs.Common.{◌≡◌, ℕ, zero, suc, ◌≤◌, ◌==◌, ◌&&◌, ◌||◌, not, Bool, true, false, List, [], ◌∷◌, refl, arith, inl, inr}
 use Rattle.b2_atom.specs.Tokens.{Token}
-use Rattle.b2_atom.specs.Tokens.Token.{Coded, Plain, Lined}
+use Rattle.b2_atom.specs.Tokens.Token.{Coded, Short, Plain, Lined}
 use Rattle.b2_atom.specs.Tree.{Trees}
 use Rattle.b2_atom.specs.Tree.Trees.{Done, Put, In}
 use Rattle.b2_atom.specs.Grammar.{row_items, barred_following, barred_line, barred_position}
@@ -14,100 +14,138 @@ use Rattle.b2_atom.specs.declared.forms.Position.{Position}
 use Rattle.b2_atom.specs.declared.forms.Rule.{Rule}
 use Rattle.b2_atom.specs.declared.forms.Form.{Form}
 use Rattle.b2_atom.specs.declared.forms.Item.{Item}
-use Rattle.b2_atom.specs.declared.forms.Item.TheVariants.{Word, Sign, Among, ProgramWord, Ignored, Comma, LeftOut, End, Typed, Part, Maybe, Either, Many, Nest, Statement}
+use Rattle.b2_atom.specs.declared.forms.Item.TheVariants.{Word, Sign, Among, ProgramWord, Ignored, ShortWord, Comma, LeftOut, End, Typed, Part, Maybe, Either, Many, Nest, Statement}
 use Rattle.b2_atom.proofs.Booleans.{and_left, and_right, both, or_cases, or_one, or_other}
 
 token_program : (i : Item) (t : Token) → fits_token origin.Program i t ≡ true → fits_token origin.Atoms i t ≡ true
 token_program (Word c) (Coded d) h = h
+token_program (Word c) (Short e) h = h
 token_program (Word c) (Plain j w) h = h
 token_program (Word c) (Lined a2 b2) h = h
 token_program (Sign c code) (Coded d) h = h
+token_program (Sign c code) (Short e) h = h
 token_program (Sign c code) (Plain j w) h = h
 token_program (Sign c code) (Lined a2 b2) h = h
 token_program (Among a b code) (Coded d) h = h
+token_program (Among a b code) (Short e) h = h
 token_program (Among a b code) (Plain j w) h = h
 token_program (Among a b code) (Lined a2 b2) h = h
 token_program (Ignored c) (Coded d) h = h
+token_program (Ignored c) (Short e) h = h
 token_program (Ignored c) (Plain j w) h = h
 token_program (Ignored c) (Lined a2 b2) h = h
+token_program (ShortWord c) (Coded d) h = h
+token_program (ShortWord c) (Short d) h = h
+token_program (ShortWord c) (Plain j w) h = h
+token_program (ShortWord c) (Lined a2 b2) h = h
 token_program Comma (Coded d) h = h
+token_program Comma (Short e) h = h
 token_program Comma (Plain j w) h = h
 token_program Comma (Lined a2 b2) h = h
 token_program LeftOut (Coded d) h = h
+token_program LeftOut (Short e) h = h
 token_program LeftOut (Plain j w) h = h
 token_program LeftOut (Lined a2 b2) h = h
 token_program End (Coded d) h = h
+token_program End (Short e) h = h
 token_program End (Plain j w) h = h
 token_program End (Lined a2 b2) h = h
 token_program (Typed k code) (Coded d) h = h
+token_program (Typed k code) (Short e) h = h
 token_program (Typed k code) (Plain j w) h = h
 token_program (Typed k code) (Lined a2 b2) h = h
 token_program (Part n) (Coded d) h = h
+token_program (Part n) (Short e) h = h
 token_program (Part n) (Plain j w) h = h
 token_program (Part n) (Lined a2 b2) h = h
 token_program (Maybe x n) (Coded d) h = h
+token_program (Maybe x n) (Short e) h = h
 token_program (Maybe x n) (Plain j w) h = h
 token_program (Maybe x n) (Lined a2 b2) h = h
 token_program (Either x n m) (Coded d) h = h
+token_program (Either x n m) (Short e) h = h
 token_program (Either x n m) (Plain j w) h = h
 token_program (Either x n m) (Lined a2 b2) h = h
 token_program (Many x n) (Coded d) h = h
+token_program (Many x n) (Short e) h = h
 token_program (Many x n) (Plain j w) h = h
 token_program (Many x n) (Lined a2 b2) h = h
 token_program (Nest n) (Coded d) h = h
+token_program (Nest n) (Short e) h = h
 token_program (Nest n) (Plain j w) h = h
 token_program (Nest n) (Lined a2 b2) h = h
 token_program (Statement x) (Coded d) h = h
+token_program (Statement x) (Short e) h = h
 token_program (Statement x) (Plain j w) h = h
 token_program (Statement x) (Lined a2 b2) h = h
 token_program (ProgramWord c) (Coded d) h = h
+token_program (ProgramWord c) (Short e) h = h
 token_program (ProgramWord c) (Plain j w) h = h
 token_program (ProgramWord c) (Lined a2 b2) h = h
 
 token_immediate : (i : Item) (t : Token) → fits_token origin.Immediate i t ≡ true → fits_token origin.Atoms i t ≡ true
 token_immediate (Word c) (Coded d) h = h
+token_immediate (Word c) (Short e) h = h
 token_immediate (Word c) (Plain j w) h = h
 token_immediate (Word c) (Lined a2 b2) h = h
 token_immediate (Sign c code) (Coded d) h = h
+token_immediate (Sign c code) (Short e) h = h
 token_immediate (Sign c code) (Plain j w) h = h
 token_immediate (Sign c code) (Lined a2 b2) h = h
 token_immediate (Among a b code) (Coded d) h = h
+token_immediate (Among a b code) (Short e) h = h
 token_immediate (Among a b code) (Plain j w) h = h
 token_immediate (Among a b code) (Lined a2 b2) h = h
 token_immediate (Ignored c) (Coded d) h = h
+token_immediate (Ignored c) (Short e) h = h
 token_immediate (Ignored c) (Plain j w) h = h
 token_immediate (Ignored c) (Lined a2 b2) h = h
+token_immediate (ShortWord c) (Coded d) h = h
+token_immediate (ShortWord c) (Short d) h = h
+token_immediate (ShortWord c) (Plain j w) h = h
+token_immediate (ShortWord c) (Lined a2 b2) h = h
 token_immediate Comma (Coded d) h = h
+token_immediate Comma (Short e) h = h
 token_immediate Comma (Plain j w) h = h
 token_immediate Comma (Lined a2 b2) h = h
 token_immediate LeftOut (Coded d) h = h
+token_immediate LeftOut (Short e) h = h
 token_immediate LeftOut (Plain j w) h = h
 token_immediate LeftOut (Lined a2 b2) h = h
 token_immediate End (Coded d) h = h
+token_immediate End (Short e) h = h
 token_immediate End (Plain j w) h = h
 token_immediate End (Lined a2 b2) h = h
 token_immediate (Typed k code) (Coded d) h = h
+token_immediate (Typed k code) (Short e) h = h
 token_immediate (Typed k code) (Plain j w) h = h
 token_immediate (Typed k code) (Lined a2 b2) h = h
 token_immediate (Part n) (Coded d) h = h
+token_immediate (Part n) (Short e) h = h
 token_immediate (Part n) (Plain j w) h = h
 token_immediate (Part n) (Lined a2 b2) h = h
 token_immediate (Maybe x n) (Coded d) h = h
+token_immediate (Maybe x n) (Short e) h = h
 token_immediate (Maybe x n) (Plain j w) h = h
 token_immediate (Maybe x n) (Lined a2 b2) h = h
 token_immediate (Either x n m) (Coded d) h = h
+token_immediate (Either x n m) (Short e) h = h
 token_immediate (Either x n m) (Plain j w) h = h
 token_immediate (Either x n m) (Lined a2 b2) h = h
 token_immediate (Many x n) (Coded d) h = h
+token_immediate (Many x n) (Short e) h = h
 token_immediate (Many x n) (Plain j w) h = h
 token_immediate (Many x n) (Lined a2 b2) h = h
 token_immediate (Nest n) (Coded d) h = h
+token_immediate (Nest n) (Short e) h = h
 token_immediate (Nest n) (Plain j w) h = h
 token_immediate (Nest n) (Lined a2 b2) h = h
 token_immediate (Statement x) (Coded d) h = h
+token_immediate (Statement x) (Short e) h = h
 token_immediate (Statement x) (Plain j w) h = h
 token_immediate (Statement x) (Lined a2 b2) h = h
 token_immediate (ProgramWord c) (Coded d) h = cc
+token_immediate (ProgramWord c) (Short e) h = h
 token_immediate (ProgramWord c) (Plain j w) h = h
 token_immediate (ProgramWord c) (Lined a2 b2) h = h
 
@@ -166,6 +204,7 @@ branch_anywhere inner ts ai at o most more room wider greater roomier m (Sign c 
 branch_anywhere inner ts ai at o most more room wider greater roomier m (Among a b code) is h = absurd h
 branch_anywhere inner ts ai at o most more room wider greater roomier m (ProgramWord c) is h = absurd h
 branch_anywhere inner ts ai at o most more room wider greater roomier m (Ignored c) is h = absurd h
+branch_anywhere inner ts ai at o most more room wider greater roomier m (ShortWord c) is h = absurd h
 branch_anywhere inner ts ai at o most more room wider greater roomier m Comma is h = absurd h
 branch_anywhere inner ts ai at o most more room wider greater roomier m LeftOut is h = absurd h
 branch_anywhere inner ts ai at o most more room wider greater roomier m End is h = absurd h

@@ -7,7 +7,7 @@ use Rattle.std.specs.List.{All}
 use Rattle.b2_base.specs.Lexical.{first}
 use Rattle.b2_atom.specs.Words.{Text}
 use Rattle.b2_atom.specs.Tokens.{Token}
-use Rattle.b2_atom.specs.Tokens.Token.{Coded, Plain, Lined}
+use Rattle.b2_atom.specs.Tokens.Token.{Coded, Short, Plain, Lined}
 use Rattle.b2_atom.specs.Tree.{Trees, Outcome, atoms, tokens}
 use Rattle.b2_atom.specs.Tree.Trees.{Done, Put, In}
 use Rattle.b2_atom.specs.Grammar.{reader, statement, statement_within, statement_row, row_items, starts}
@@ -129,6 +129,7 @@ further_units n f all (Put (Coded d) (In m t (In k u us))) ts fits more st few =
 further_units n f all (Put (Coded d) (Put u us)) ts fits more st few = cc
 further_units n f all (Put (Coded d) Done) ts fits more st few = cc
 further_units n f all (Put (Plain k w) us) ts fits more st few = cc
+further_units n f all (Put (Short d) us) ts fits more st few = cc
 further_units n f all (Put (Lined h l) us) ts fits more st few = cc
 further_units n f all (In m t us) ts fits more st few = absurd fits
 further_units n f all Done ts fits more st few = cc
@@ -154,6 +155,7 @@ behind_units n f all (Put t ts) fits st few = cc
 further_closes : (q ts : Trees) → FurtherRow q → is_closing (tokens q ++ tokens ts) ≡ true
 further_closes (Put (Coded d) us) ts fits = fits.0
 further_closes (Put (Plain k w) us) ts fits = cc
+further_closes (Put (Short d) us) ts fits = cc
 further_closes (Put (Lined h l) us) ts fits = cc
 further_closes (In m t us) ts fits = absurd fits
 further_closes Done ts fits = cc

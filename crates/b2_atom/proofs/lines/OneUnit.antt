@@ -4,7 +4,7 @@ use Rattle.std.proofs.lemmas.Bool.Decides.{nat_tests}
 use Rattle.std.proofs.lemmas.List.{append_cancel_left}
 use Rattle.b2_atom.specs.Words.{Text}
 use Rattle.b2_atom.specs.Tokens.{Token}
-use Rattle.b2_atom.specs.Tokens.Token.{Coded, Plain, Lined}
+use Rattle.b2_atom.specs.Tokens.Token.{Coded, Short, Plain, Lined}
 use Rattle.b2_atom.specs.Tree.{Trees, tokens, atoms, Outcome, Parser, nothing, preceded, and_then, under, also}
 use Rattle.b2_atom.specs.Tree.Trees.{Done, Put, In}
 use Rattle.b2_atom.specs.Grammar.{reader, items, item, level, deep, statement, statement_within, row_items, starts, chosen}
@@ -189,6 +189,7 @@ cut_stands m c front last f p Done s stated fits spelled_ = cc
 cut_stands m c front last f p (Put (Coded d) ts) s stated fits spelled_ =
     led_by_symbol Atoms p 32 m (Word c ∷ front) (Put (Coded d) ts) [] s refl f.chosen (λ xs x same. sym (ap opens_first same)) stated fits refl spelled_
 cut_stands m c front last f p (Put (Plain k w) ts) s stated fits spelled_ = cc
+cut_stands m c front last f p (Put (Short d) ts) s stated fits spelled_ = cc
 cut_stands m c front last f p (Put (Lined h l) ts) s stated fits spelled_ = cc
 cut_stands m c front last f p (In n inner ts) s stated fits spelled_ = absurd fits
 

@@ -7,7 +7,7 @@ use Rattle.b2_atom.specs.Fitting.{giving}
 use Rattle.b2_atom.specs.Units.{items_in, items_after, own_branch, own, units_of_branch, units_in}
 use Rattle.b2_atom.specs.declared.forms.Leaf.TheVariants as leaf
 use Rattle.b2_atom.specs.declared.forms.Item.{Item}
-use Rattle.b2_atom.specs.declared.forms.Item.TheVariants.{Word, Sign, Among, ProgramWord, Ignored, Comma, LeftOut, End, Typed, Part, Maybe, Either, Many, Nest, Statement}
+use Rattle.b2_atom.specs.declared.forms.Item.TheVariants.{Word, Sign, Among, ProgramWord, Ignored, ShortWord, Comma, LeftOut, End, Typed, Part, Maybe, Either, Many, Nest, Statement}
 use Rattle.b2_atom.proofs.Booleans.{and_left, and_right, both, or_cases}
 use Rattle.b2_atom.proofs.settled.Lookaheads.{Known, of_item, of_items, of, of_row, settled, settled_item, is_free_row, is_text, is_bound, refuse}
 use Rattle.b2_atom.proofs.settled.Computed.{row_settled}
@@ -53,6 +53,7 @@ text_whole (Sign c code ∷ is) h = cc
 text_whole (Among a b code ∷ is) h = cc
 text_whole (ProgramWord c ∷ is) h = cc
 text_whole (Ignored c ∷ is) h = cc
+text_whole (ShortWord c ∷ is) h = cc
 text_whole (Comma ∷ is) h = cc
 text_whole (LeftOut ∷ is) h = cc
 text_whole (End ∷ is) h = cc
@@ -70,6 +71,7 @@ free_whole (Sign c code ∷ is) h = text_whole is (and_right _ (is_text is) h)
 free_whole (Among a b code ∷ is) h = cc
 free_whole (ProgramWord c ∷ is) h = cc
 free_whole (Ignored c ∷ is) h = cc
+free_whole (ShortWord c ∷ is) h = cc
 free_whole (Comma ∷ is) h = cc
 free_whole (LeftOut ∷ is) h = cc
 free_whole (End ∷ is) h = cc

@@ -3,7 +3,7 @@ use Rattle.std.proofs.Common.{◌≡◌, ℕ, zero, suc, ◌+◌, ◌<◌, Bool,
 use Rattle.b2_base.specs.Lexical.{all_printable, first, skip_blanks}
 use Rattle.b2_atom.specs.Words.{Text}
 use Rattle.b2_atom.specs.Tokens.{Token, token_atoms, listed, spelled, ends_wordy, is_operand}
-use Rattle.b2_atom.specs.Tokens.Token.{Coded, Plain, Lined}
+use Rattle.b2_atom.specs.Tokens.Token.{Coded, Short, Plain, Lined}
 use Rattle.b2_atom.specs.Tree.{Trees, Outcome, tokens, atoms}
 use Rattle.b2_atom.specs.Lines.{line_atoms, line_source, atoms_of, source_of}
 use Rattle.b2_atom.specs.Grammar.{reader, items, item, level, deep, statement, statement_within, statement_row, starts, row_items, parse_line}
@@ -76,6 +76,7 @@ begun_more w x some h = record { some = some_more w x some; blank = ap (λ (n : 
 front_by : (u : Token) (x : Text) (b : Bool) → is_free_text u ≡ b → good_token u ≡ true → Begun (token_atoms u ++ x) → (y : Text) → Begun (spelled u ++ y)
 front_by u x false is g h y = let f = token_fronted u is g in begun_more (spelled u) y f.some f.blank
 front_by (Coded c) x true is g h y = cc
+front_by (Short c) x true is g h y = cc
 front_by (Plain k w) x true is g h y =
     let some = whole_some k w g in
     begun_more w y some (ap (λ (n : ℕ). n == 32) (sym (first_more w x some)) ∙ h.blank)

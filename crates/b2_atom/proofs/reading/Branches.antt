@@ -4,7 +4,7 @@ use Rattle.std.proofs.Common.{◌≡◌, ℕ, zero, suc, ◌+◌, ◌<◌, ◌�
 use Rattle.std.proofs.lemmas.Bool.Decides.{nat_tests}
 use Rattle.b2_atom.specs.Words.{Text}
 use Rattle.b2_atom.specs.Tokens.{Token}
-use Rattle.b2_atom.specs.Tokens.Token.{Coded, Plain, Lined}
+use Rattle.b2_atom.specs.Tokens.Token.{Coded, Short, Plain, Lined}
 use Rattle.b2_atom.specs.Tree.{Trees, tokens, Outcome, Parser, preceded, and_then, under, also}
 use Rattle.b2_atom.specs.Tree.Trees.{Done, Put, In}
 use Rattle.b2_atom.specs.Grammar.{reader, items, item, level, deep, statement_within, many, row_items, starts, absent, statement_row, read_leaf, text_to_end}
@@ -365,8 +365,10 @@ free_item : (o : Origin) (i : Item) (t : Token) → is_remark_item i ≡ true �
 free_item o (Word c) (Coded d) h k = ap (λ (n : ℕ). n == word.REM || n == 37) (equal d c k) ∙ h
 free_item o (Sign c code) (Coded d) h k = ap (λ (n : ℕ). n == word.REM || n == 37) (equal d c k) ∙ h
 free_item o (Word c) (Plain j w) h k = cc
+free_item o (Word c) (Short d) h k = cc
 free_item o (Word c) (Lined x y) h k = cc
 free_item o (Sign c code) (Plain j w) h k = cc
+free_item o (Sign c code) (Short d) h k = cc
 free_item o (Sign c code) (Lined x y) h k = cc
 free_item o i t h k = cc
 
@@ -374,6 +376,7 @@ rest_closed : (more : List Token) → is_rest more ≡ true → is_closing more 
 rest_closed [] h k = refl
 rest_closed (Coded c ∷ []) h k = cc
 rest_closed (Plain j w ∷ []) h k = cc
+rest_closed (Short c ∷ []) h k = cc
 rest_closed (Lined x y ∷ []) h k = cc
 rest_closed (t ∷ u ∷ ts) h k = cc
 

@@ -1,14 +1,14 @@
 -- Every refusal of the table has a code that is a number from 1 to 99.
 use Rattle.std.proofs.Common.{◌≡◌, ◌≢◌, ℕ, zero, suc, ◌+◌, ◌-◌, Bool, true, false, if◌then◌else◌, ◌==◌, ◌&&◌, ◌||◌, nat_le, nat_lt, ◌/◌, List, [], ◌∷◌, length, get_or, take, drop, refl, subst, Result, Ok, Err}
 use Rattle.b2_atom.specs.Tokens.{Token, kept_text}
-use Rattle.b2_atom.specs.Tokens.Token.{Coded, Plain, Lined}
+use Rattle.b2_atom.specs.Tokens.Token.{Coded, Short, Plain, Lined}
 use Rattle.b2_atom.specs.declared.rows.TheConstants as row
 use Rattle.b2_base.specs.Lexical.{all_printable, digits_width, first, is_decimal, is_hex_digit}
-use Rattle.b2_atom.specs.Words.{Text, kept_byte, ahead, skipped, is_source}
+use Rattle.b2_atom.specs.Words.{Text, kept_byte, ahead, skipped, is_source, short_stands, short_width}
 use Rattle.b2_atom.specs.Tree.{Trees, Seen, emitted, Outcome, Parser, one, nothing, preceded, and_then, under}
 use Rattle.b2_atom.specs.Leaves.{refused, missing, leaf_width, until_quote}
 use Rattle.b2_atom.specs.Lines.{good_code, IsKnown}
-use Rattle.b2_atom.specs.Grammar.{reader, read_item, items, item, level, deep, statement, statement_within, many, row_items, rows_of, row_place, starts, absent, parse_line, chosen, statement_row, row_at, allowed, from, symbol, among, program_word, program_word_at, ignored, optional_comma, end_of_line, end_at, read_leaf, leaf_at, plain, atoms_line_number, typed_line_number, line_number_at, text_to_end, two_digits, begins_let, variable_begins, barred_following, barred_line, barred_position}
+use Rattle.b2_atom.specs.Grammar.{reader, read_item, items, item, level, deep, statement, statement_within, many, row_items, rows_of, row_place, starts, absent, parse_line, chosen, statement_row, row_at, allowed, from, symbol, among, program_word, program_word_at, ignored, short_word, optional_comma, end_of_line, end_at, read_leaf, leaf_at, plain, atoms_line_number, typed_line_number, line_number_at, text_to_end, two_digits, begins_let, variable_begins, barred_following, barred_line, barred_position}
 use Rattle.b2_atom.specs.declared.words.Origin.{Origin}
 use Rattle.b2_atom.specs.declared.words.Origin.TheVariants.{Program, Immediate, Atoms}
 use Rattle.b2_atom.specs.declared.output.Stop.{Stop}
@@ -19,7 +19,7 @@ use Rattle.b2_atom.specs.declared.forms.Leaf.TheVariants as leaf
 use Rattle.b2_atom.specs.declared.forms.Start.{Start}
 use Rattle.b2_atom.specs.declared.forms.Position.{Position}
 use Rattle.b2_atom.specs.declared.forms.Item.{Item}
-use Rattle.b2_atom.specs.declared.forms.Item.TheVariants.{Word, Sign, Among, ProgramWord, Ignored, Comma, LeftOut, End, Typed, Part, Maybe, Either, Many, Nest, Statement}
+use Rattle.b2_atom.specs.declared.forms.Item.TheVariants.{Word, Sign, Among, ProgramWord, Ignored, ShortWord, Comma, LeftOut, End, Typed, Part, Maybe, Either, Many, Nest, Statement}
 use Rattle.b2_atom.specs.Table.{forms, rows_0, rows_1, rows_2, rows_3}
 use Rattle.b2_atom.proofs.Booleans.{and_left, and_right}
 
@@ -157,12 +157,13 @@ known_end o [] = tt
 known_end o (b ∷ bs) = known_refused o 25 (b ∷ bs) refl
 
 known_read : (o : Origin) (i : Item) (s : Text) → good_item i ≡ true → Known (read_item o i s)
-unfolding symbol among program_word ignored optional_comma end_of_line read_leaf
+unfolding symbol among program_word ignored short_word optional_comma end_of_line read_leaf
 known_read o (Word c) s h = one_or ((ahead o (skipped o s)).0 == c) (Coded c) (ahead o (skipped o s)).1 (refused o 22 (skipped o s)) (known_refused o 22 (skipped o s) refl)
 known_read o (Sign c code) s h = one_or ((ahead o (skipped o s)).0 == c) (Coded c) (ahead o (skipped o s)).1 (refused o code (skipped o s)) (known_refused o code (skipped o s) h)
 known_read o (Among low high code) s h = one_or (nat_le low (ahead o (skipped o s)).0 && nat_le (ahead o (skipped o s)).0 high) (Coded (ahead o (skipped o s)).0) (ahead o (skipped o s)).1 (refused o code (skipped o s)) (known_refused o code (skipped o s) h)
 known_read o (ProgramWord c) s h = known_program_word o c (skipped o s)
 known_read o (Ignored c) s h = known_if (is_source o && (ahead o (skipped o s)).0 == c) (nothing (ahead o (skipped o s)).1) (nothing s) tt tt
+known_read o (ShortWord c) s h = one_or (short_stands o c (skipped o s)) (Short c) (drop (short_width o) (skipped o s)) (refused o 22 (skipped o s)) (known_refused o 22 (skipped o s) refl)
 known_read o Comma s h =
     known_if ((ahead o (skipped o s)).0 == 44) (one (Coded 44) (ahead o (skipped o s)).1) (if is_source o then one (Coded 44) s else Err (refused o 13 (skipped o s))) tt
     (one_or (is_source o) (Coded 44) s (refused o 13 (skipped o s)) (known_refused o 13 (skipped o s) refl))
@@ -192,6 +193,7 @@ known_item o st d p hs hd hp (Sign c code) s h = known_read o (Sign c code) s h
 known_item o st d p hs hd hp (Among low high code) s h = known_read o (Among low high code) s h
 known_item o st d p hs hd hp (ProgramWord c) s h = known_read o (ProgramWord c) s h
 known_item o st d p hs hd hp (Ignored c) s h = known_read o (Ignored c) s h
+known_item o st d p hs hd hp (ShortWord c) s h = known_read o (ShortWord c) s h
 known_item o st d p hs hd hp Comma s h = known_read o Comma s h
 known_item o st d p hs hd hp LeftOut s h = known_read o LeftOut s h
 known_item o st d p hs hd hp End s h = known_read o End s h

@@ -3,11 +3,11 @@ use Rattle.std.proofs.Common.{◌≡◌, ℕ, suc, ◌+◌, ◌≤◌, ◌==◌,
 use Rattle.std.proofs.lemmas.Bool.Decides.{nat_tests}
 use Rattle.b2_atom.specs.Words.{Text, skipped, ahead}
 use Rattle.b2_atom.specs.Tokens.{Token}
-use Rattle.b2_atom.specs.Tokens.Token.{Coded, Plain, Lined}
+use Rattle.b2_atom.specs.Tokens.Token.{Coded, Short, Plain, Lined}
 use Rattle.b2_atom.specs.Tree.{Trees, tokens, Outcome, Parser, one, preceded, and_then, under, also}
 use Rattle.b2_atom.specs.Tree.Trees.{Done, Put, In}
 use Rattle.b2_atom.specs.Leaves.{refused}
-use Rattle.b2_atom.specs.Grammar.{reader, items, item, level, deep, statement_within, row_items, starts, symbol, symbol_at, among, among_at, program_word, optional_comma, optional_comma_at, read_leaf, ignored, end_of_line, end_at, is_among}
+use Rattle.b2_atom.specs.Grammar.{reader, items, item, level, deep, statement_within, row_items, starts, symbol, symbol_at, among, among_at, program_word, short_word, optional_comma, optional_comma_at, read_leaf, ignored, end_of_line, end_at, is_among}
 use Rattle.b2_atom.specs.Spelling.{Spells}
 use Rattle.b2_atom.specs.Fitting.{giving, may_end, fits_token, leaf_number, RemarksEnd}
 use Rattle.b2_atom.specs.declared.words.Origin.{Origin}
@@ -17,7 +17,7 @@ use Rattle.b2_atom.specs.declared.forms.Leaf.TheVariants as leaf
 use Rattle.b2_atom.specs.declared.forms.Start.TheVariants as start
 use Rattle.b2_atom.specs.declared.forms.Position.{Position}
 use Rattle.b2_atom.specs.declared.forms.Item.{Item}
-use Rattle.b2_atom.specs.declared.forms.Item.TheVariants.{Word, Sign, Among, ProgramWord, Ignored, Comma, LeftOut, End, Typed, Part, Maybe, Either, Many, Nest, Statement}
+use Rattle.b2_atom.specs.declared.forms.Item.TheVariants.{Word, Sign, Among, ProgramWord, Ignored, ShortWord, Comma, LeftOut, End, Typed, Part, Maybe, Either, Many, Nest, Statement}
 use Rattle.b2_atom.proofs.Booleans.{and_left, and_right, or_cases, never, equal, not_true}
 use Rattle.b2_atom.proofs.settled.Lookaheads.{Tail, Known, when, of_item, of_items, of, refuse, settled, is_symbol_item, is_last, is_free_row, of_row}
 use Rattle.b2_atom.proofs.settled.LookaheadAnswers.{same_leaf}
@@ -64,6 +64,10 @@ coded_comma o d ts s h spelled =
     subst P (ap (λ (n : ℕ). Put (Coded n) Done) (sym (equal d 44 h)))
     (spelled.0, (if_is ((ahead o (skipped o s)).0 == 44) true _ _ (ap (λ (x : ℕ × Text). x.0 == 44) there ∙ h) ∙ ap (λ (x : ℕ × Text). one (Coded 44) x.1) there, spelled.1.1))
 
+-- a short word
+short_runs : (o : Origin) (c d : ℕ) (ts : List Token) (s : Text) → (d == c) ≡ true → Spells o (Short d ∷ ts) s → Runs o (short_word o c s) (Put (Short d) Done) ts
+short_runs o c d ts s h spelled = (spelled.0, (ap (λ (n : ℕ). short_word o n s) (sym (equal d c h)) ∙ spelled.1.0.reads, spelled.1.1))
+
 -- what is typed by hand
 plain_leaf : (o : Origin) (k j : Leaf) (w : Text) (code : ℕ) (ts : List Token) (s : Text) → (leaf_number j == leaf_number k) ≡ true → Spells o (Plain j w ∷ ts) s
     → Runs o (read_leaf o k code s) (Put (Plain j w) Done) ts
@@ -89,15 +93,18 @@ token_runs st dp p o (Among a b code) (Coded d) ts s h spelled = coded_among o a
 token_runs st dp p origin.Immediate (ProgramWord c) (Coded d) ts s h spelled = cc
 token_runs st dp p origin.Program (ProgramWord c) (Coded d) ts s h spelled = coded origin.Program c d 22 ts s h spelled
 token_runs st dp p origin.Atoms (ProgramWord c) (Coded d) ts s h spelled = coded origin.Atoms c d 22 ts s h spelled
+token_runs st dp p o (ShortWord c) (Short d) ts s h spelled = short_runs o c d ts s (and_left _ _ h) spelled
 token_runs st dp p o Comma (Coded d) ts s h spelled = coded_comma o d ts s h spelled
 token_runs st dp p o (Typed k code) (Plain j w) ts s h spelled = plain_leaf o k j w code ts s (and_left _ _ h) spelled
 token_runs st dp p o (Typed k code) (Lined x y) ts s h spelled = lined_leaf o k x y code ts s (and_left _ _ h) spelled
 token_runs st dp p o (Typed k code) (Coded d) ts s h spelled = cc
+token_runs st dp p o (Typed k code) (Short d) ts s h spelled = cc
 token_runs st dp p o (Word c) t ts s h spelled = cc
 token_runs st dp p o (Sign c code) t ts s h spelled = cc
 token_runs st dp p o (Among a b code) t ts s h spelled = cc
 token_runs st dp p o (ProgramWord c) t ts s h spelled = cc
 token_runs st dp p o (Ignored c) t ts s h spelled = cc
+token_runs st dp p o (ShortWord c) t ts s h spelled = cc
 token_runs st dp p o Comma t ts s h spelled = cc
 token_runs st dp p o LeftOut t ts s h spelled = cc
 token_runs st dp p o End t ts s h spelled = cc

@@ -3,13 +3,13 @@ use Rattle.std.proofs.Common.{◌≡◌, ℕ, zero, suc, ◌+◌, ◌<◌, ◌�
 use Rattle.std.specs.Prelude.{codes}
 use Rattle.std.proofs.lemmas.Bool.Decides.{nat_tests}
 use Rattle.b2_base.specs.Lexical.{all_printable, digits_width, is_decimal, skip_blanks, upper}
-use Rattle.b2_atom.specs.Words.{Text, is_source, ahead, skipped, longer_word as joined_words, word_at, begins_with}
+use Rattle.b2_atom.specs.Words.{Text, is_source, ahead, skipped, is_short, short_stands, short_width, longer_word as joined_words, word_at, begins_with}
 use Rattle.b2_atom.specs.Tokens.{Token, kept_text}
-use Rattle.b2_atom.specs.Tokens.Token.{Coded, Plain, Lined}
+use Rattle.b2_atom.specs.Tokens.Token.{Coded, Short, Plain, Lined}
 use Rattle.b2_atom.specs.Tree.{Trees, Outcome, Parser, one, nothing, preceded, and_then, under, also, tokens}
 use Rattle.b2_atom.specs.Tree.Trees.{Done, Put, In}
 use Rattle.b2_atom.specs.Leaves.{leaf_width, refused, missing}
-use Rattle.b2_atom.specs.Grammar.{reader, items, item, level, deep, many, row_items, starts, absent, symbol, among, program_word, ignored, optional_comma, end_of_line, end_at, read_leaf, plain, line_number_at, typed_line_number, two_digits, atoms_line_number, text_to_end, is_among}
+use Rattle.b2_atom.specs.Grammar.{reader, items, item, level, deep, many, row_items, starts, absent, symbol, among, program_word, ignored, short_word, optional_comma, end_of_line, end_at, read_leaf, plain, line_number_at, typed_line_number, two_digits, atoms_line_number, text_to_end, is_among}
 use Rattle.b2_atom.specs.Spelling.{is_whole, good_token}
 use Rattle.b2_atom.specs.Fitting.{leaf_number, fits_token, Fits, is_remark}
 use Rattle.b2_atom.specs.declared.words.TheConstants as word
@@ -21,7 +21,7 @@ use Rattle.b2_atom.specs.declared.forms.Leaf.TheVariants as leaf
 use Rattle.b2_atom.specs.declared.forms.Start.{Start}
 use Rattle.b2_atom.specs.declared.forms.Position.{Position}
 use Rattle.b2_atom.specs.declared.forms.Item.{Item}
-use Rattle.b2_atom.specs.declared.forms.Item.TheVariants.{Word, Sign, Among, ProgramWord, Ignored, Comma, LeftOut, End, Typed, Part, Maybe, Either, Many, Nest, Statement}
+use Rattle.b2_atom.specs.declared.forms.Item.TheVariants.{Word, Sign, Among, ProgramWord, Ignored, ShortWord, Comma, LeftOut, End, Typed, Part, Maybe, Either, Many, Nest, Statement}
 use Rattle.b2_atom.specs.declared.output.Stop.TheVariants.{At}
 use Rattle.b2_atom.proofs.Booleans.{and_left, and_right, both, not_true}
 use Rattle.b2_atom.proofs.typed.Longest.{below, at_below}
@@ -147,46 +147,46 @@ abbrev pub Leads : Origin → ℕ → Item → List Item → Trees → Type 0
 Leads o room i is a = (b : Trees) → Fits o 32 room is b → Fits o 32 room (i ∷ is) (also a b)
 
 -- what is typed by hand
-abbrev Short : Text → Outcome → Type 0
-Short s (Ok p) = length p.1 ≤ length s
-Short s (Err e) = Unit {0}
+abbrev Shortens : Text → Outcome → Type 0
+Shortens s (Ok p) = length p.1 ≤ length s
+Shortens s (Err e) = Unit {0}
 
-short_if : (s : Text) (b : Bool) (o u : Outcome) → Short s o → Short s u → Short s (if b then o else u)
+short_if : (s : Text) (b : Bool) (o u : Outcome) → Shortens s o → Shortens s u → Shortens s (if b then o else u)
 short_if s true o u g h = g
 short_if s false o u g h = h
 
 drop_skipped : (o : Origin) (n : ℕ) (s : Text) → length (drop n (skipped o s)) ≤ length s
 drop_skipped o n s = le_both (length (drop n (skipped o s))) (length (skipped o s)) (length s) (drop_short n (skipped o s)) (skipped_short o s)
 
-plain_short : (o : Origin) (k : Leaf) (code : ℕ) (s : Text) → Short s (plain o k code (skipped o s))
+plain_short : (o : Origin) (k : Leaf) (code : ℕ) (s : Text) → Shortens s (plain o k code (skipped o s))
 plain_short o k code s =
     short_if s (leaf_width o k (skipped o s) == 0) (Err (missing o k code (skipped o s)))
     (one (Plain k (kept_text o k (take (leaf_width o k (skipped o s)) (skipped o s)))) (drop (leaf_width o k (skipped o s)) (skipped o s))) tt
     (drop_skipped o (leaf_width o k (skipped o s)) s)
 
-typed_line_short : (o : Origin) (code : ℕ) (s : Text) → Short s (typed_line_number o code (skipped o s))
+typed_line_short : (o : Origin) (code : ℕ) (s : Text) → Shortens s (typed_line_number o code (skipped o s))
 typed_line_short o code s =
     let t : Text = skipped o s in
     short_if s (nat_lt (digits_width t) 1 || nat_lt 4 (digits_width t)) (Err (refused o code t)) (one (Lined (two_digits t (digits_width t) 0) (two_digits t (digits_width t) 2)) (drop (digits_width t) t)) tt
     (drop_skipped o (digits_width (skipped o s)) s)
 
-atoms_line_short : (code : ℕ) (s : Text) → Short s (atoms_line_number code s)
+atoms_line_short : (code : ℕ) (s : Text) → Shortens s (atoms_line_number code s)
 atoms_line_short code [] = tt
 atoms_line_short code (a ∷ []) = tt
 atoms_line_short code (a ∷ b ∷ []) = tt
 atoms_line_short code (a ∷ b ∷ c ∷ t) =
     short_if (a ∷ b ∷ c ∷ t) (a == 255 && (is_decimal b && is_decimal c)) (one (Lined b c) t) (Err (At code (length (a ∷ b ∷ c ∷ t)))) (omega arith) tt
 
-line_short : (o : Origin) (code : ℕ) (s : Text) → Short s (line_number_at o code (skipped o s))
+line_short : (o : Origin) (code : ℕ) (s : Text) → Shortens s (line_number_at o code (skipped o s))
 line_short Program code s = typed_line_short Program code s
 line_short Immediate code s = typed_line_short Immediate code s
 line_short Atoms code s = atoms_line_short code s
 
-text_short : (code : ℕ) (s : Text) → Short s (text_to_end code s)
+text_short : (code : ℕ) (s : Text) → Shortens s (text_to_end code s)
 text_short code [] = omega arith
 text_short code (b ∷ bs) = short_if (b ∷ bs) (all_printable (b ∷ bs)) (one (Plain leaf.Text (b ∷ bs)) []) (Err (At code (length (b ∷ bs)))) (omega arith) tt
 
-leaf_short : (o : Origin) (k : Leaf) (code : ℕ) (s : Text) → Short s (read_leaf o k code s)
+leaf_short : (o : Origin) (k : Leaf) (code : ℕ) (s : Text) → Shortens s (read_leaf o k code s)
 unfolding read_leaf
 leaf_short o leaf.LineNumber code s = line_short o code s
 leaf_short o leaf.Text code s = text_short code s
@@ -209,6 +209,7 @@ true_false h = cc
 leaf_leads : (o : Origin) (room : ℕ) (k : Leaf) (code : ℕ) (is : List Item) (t : Trees) → is_text k ≡ false → GoodTree k t → Leads o room (Typed k code) is t × (no_remark (tokens t) ≡ true)
 leaf_leads o room k code is Done n g = absurd (true_false (sym g ∙ n))
 leaf_leads o room k code is (Put (Coded c) ts) n g = absurd g
+leaf_leads o room k code is (Put (Short c) ts) n g = absurd g
 leaf_leads o room k code is (Put (Plain j w) Done) n g = (λ b fit. (leaf_token o k code j w g.0 g.1, fit), refl)
 leaf_leads o room k code is (Put (Plain j w) (Put t ts)) n g = absurd g
 leaf_leads o room k code is (Put (Plain j w) (In m t ts)) n g = absurd g
@@ -217,7 +218,7 @@ leaf_leads o room k code is (Put (Lined high low) (Put t ts)) n g = absurd g
 leaf_leads o room k code is (Put (Lined high low) (In m t ts)) n g = absurd g
 leaf_leads o room k code is (In m t ts) n g = absurd g
 
-leaf_by : (o : Origin) (room : ℕ) (k : Leaf) (code : ℕ) (is : List Item) (s : Text) (u : Outcome) → is_text k ≡ false → GoodLeaf k u → Short s u → Good (Leads o room (Typed k code) is) s u
+leaf_by : (o : Origin) (room : ℕ) (k : Leaf) (code : ℕ) (is : List Item) (s : Text) (u : Outcome) → is_text k ≡ false → GoodLeaf k u → Shortens s u → Good (Leads o room (Typed k code) is) s u
 leaf_by o room k code is s (Err e) n g h = tt
 leaf_by o room k code is s (Ok p) n g h = let l = leaf_leads o room k code is p.0 n g in (l.0, (l.1, h))
 
@@ -258,6 +259,15 @@ program_good Immediate room c is s calm =
 program_good Atoms room c is s calm =
     good_if (Leads Atoms room (ProgramWord c) is) s ((ahead Atoms (skipped Atoms s)).0 == c) (one (Coded c) (ahead Atoms (skipped Atoms s)).1) (Err (refused Atoms 22 (skipped Atoms s)))
     ((λ b fit. (same_code c, fit)), (both (calm_code c) true calm refl, behind_short Atoms s)) tt
+
+short_by : (o : Origin) (room c : ℕ) (is : List Item) (s : Text) (b : Bool) → short_stands o c (skipped o s) ≡ b
+    → Good (Leads o room (ShortWord c) is) s (if b then one (Short c) (drop (short_width o) (skipped o s)) else Err (refused o 22 (skipped o s)))
+short_by o room c is s true h = ((λ b fit. (both (c == c) (is_short c) (same_code c) (and_left _ _ h), fit)), (refl, drop_skipped o (short_width o) s))
+short_by o room c is s false h = tt
+
+short_good : (o : Origin) (room c : ℕ) (is : List Item) (s : Text) → Good (Leads o room (ShortWord c) is) s (short_word o c s)
+unfolding short_word
+short_good o room c is s = short_by o room c is s (short_stands o c (skipped o s)) refl
 
 ignored_leads : (o : Origin) (room c : ℕ) (is : List Item) → Leads o room (Ignored c) is Done
 ignored_leads o room c is Done fit = fit
@@ -374,6 +384,7 @@ calm_item_good o room stf d p hd hp (Sign c code) is s calm = code_good o (Leads
 calm_item_good o room stf d p hd hp (Among low high code) is s calm = among_good o room low high code is s calm
 calm_item_good o room stf d p hd hp (ProgramWord c) is s calm = program_good o room c is s calm
 calm_item_good o room stf d p hd hp (Ignored c) is s calm = ignored_good o room c is s
+calm_item_good o room stf d p hd hp (ShortWord c) is s calm = short_good o room c is s
 calm_item_good o room stf d p hd hp Comma is s calm = comma_good o room is s
 calm_item_good o room stf d p hd hp LeftOut is s calm = tt
 calm_item_good o room stf d p hd hp End is s calm = end_good o room is s

@@ -4,7 +4,7 @@ use Rattle.std.proofs.lemmas.Bool.Decides.{nat_tests}
 use Rattle.b2_base.specs.Lexical.{skip_blanks}
 use Rattle.b2_atom.specs.Words.{Text, skipped}
 use Rattle.b2_atom.specs.Tokens.{Token}
-use Rattle.b2_atom.specs.Tokens.Token.{Coded, Plain, Lined}
+use Rattle.b2_atom.specs.Tokens.Token.{Coded, Short, Plain, Lined}
 use Rattle.b2_atom.specs.Tree.{Trees, tokens, under, and_then}
 use Rattle.b2_atom.specs.Tree.Trees.{Done, Put, In}
 use Rattle.b2_atom.specs.Grammar.{reader, items, item, level, deep, statement_within, many, row_items, chosen}
@@ -16,7 +16,7 @@ use Rattle.b2_atom.specs.declared.words.Origin.TheVariants as origin
 use Rattle.b2_atom.specs.declared.forms.Leaf.TheVariants as leaf
 use Rattle.b2_atom.specs.declared.forms.Position.{Position}
 use Rattle.b2_atom.specs.declared.forms.Item.{Item}
-use Rattle.b2_atom.specs.declared.forms.Item.TheVariants.{Word, Sign, Among, ProgramWord, Ignored, Comma, LeftOut, End, Typed, Part, Maybe, Either, Many, Nest, Statement}
+use Rattle.b2_atom.specs.declared.forms.Item.TheVariants.{Word, Sign, Among, ProgramWord, Ignored, ShortWord, Comma, LeftOut, End, Typed, Part, Maybe, Either, Many, Nest, Statement}
 use Rattle.b2_atom.specs.declared.output.Stop.{Stop}
 use Rattle.b2_atom.proofs.Booleans.{either_way, and_left, and_right, not_true}
 use Rattle.b2_atom.proofs.settled.Lookaheads.{some, Lookahead, is_ahead, Known, of_item, of_items, of, refuse, settled_item, is_free_row, leading, is_last, covered, statement_heads}
@@ -31,6 +31,7 @@ closing_lookaheads [] h = refl
 closing_lookaheads (Coded c ∷ ts) h = grind (arith, nat_tests)
 closing_lookaheads (Plain k w ∷ ts) h = cc
 closing_lookaheads (Lined x y ∷ ts) h = cc
+closing_lookaheads (Short c ∷ ts) h = cc
 
 lead_one : (is : List Item) → leading is ≡ true → lead is ≡ 1
 lead_one [] h = cc
@@ -156,6 +157,7 @@ branch_runs inner ts gi gt m0 m1 o ch most room l f m (Sign c code) is h more r 
 branch_runs inner ts gi gt m0 m1 o ch most room l f m (Among a b code) is h more r s spelled = absurd h
 branch_runs inner ts gi gt m0 m1 o ch most room l f m (ProgramWord c) is h more r s spelled = absurd h
 branch_runs inner ts gi gt m0 m1 o ch most room l f m (Ignored c) is h more r s spelled = absurd h
+branch_runs inner ts gi gt m0 m1 o ch most room l f m (ShortWord c) is h more r s spelled = absurd h
 branch_runs inner ts gi gt m0 m1 o ch most room l f m Comma is h more r s spelled = absurd h
 branch_runs inner ts gi gt m0 m1 o ch most room l f m LeftOut is h more r s spelled = absurd h
 branch_runs inner ts gi gt m0 m1 o ch most room l f m End is h more r s spelled = absurd h

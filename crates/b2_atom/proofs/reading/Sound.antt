@@ -2,14 +2,14 @@
 use Rattle.std.proofs.Common.{◌≡◌, ℕ, zero, suc, ◌+◌, Bool, true, false, if◌then◌else◌, ◌==◌, ◌&&◌, nat_le, List, [], ◌∷◌, ◌++◌, length, take, drop, map, refl, sym, ap, ◌∙◌, arith, get_or, nat_lt, ◌/◌, append_assoc, append-nil, Result, Ok, Err}
 use Rattle.std.proofs.lemmas.Bool.Decides.{nat_tests}
 use Rattle.b2_base.specs.Lexical.{all_printable, first, is_decimal}
-use Rattle.b2_atom.specs.Words.{Text, kept_byte, skipped}
+use Rattle.b2_atom.specs.Words.{Text, kept_byte, skipped, is_short}
 use Rattle.b2_atom.specs.Tokens.{token_atoms, kept_text}
-use Rattle.b2_atom.specs.Tokens.Token.{Coded, Lined}
+use Rattle.b2_atom.specs.Tokens.Token.{Coded, Short, Lined}
 use Rattle.std.proofs.lemmas.List.{take-append-drop}
 use Rattle.b2_atom.specs.Tree.{Trees, Outcome, Parser, one, nothing, preceded, and_then, under, also, atoms}
 use Rattle.b2_atom.specs.Tree.Trees.{Done, Put, In}
 use Rattle.b2_atom.specs.Leaves.{refused, leaf_width}
-use Rattle.b2_atom.specs.Grammar.{reader, read_item, items, item, level, deep, statement, statement_within, many, row_items, rows_of, row_place, starts, parse_line, chosen, statement_row, row_at, from, symbol, among, program_word, ignored, optional_comma, end_of_line, end_at, read_leaf, leaf_at, plain_of, atoms_line_number, text_to_end}
+use Rattle.b2_atom.specs.Grammar.{reader, read_item, items, item, level, deep, statement, statement_within, many, row_items, rows_of, row_place, starts, parse_line, chosen, statement_row, row_at, from, symbol, among, program_word, ignored, short_word, optional_comma, end_of_line, end_at, read_leaf, leaf_at, plain_of, atoms_line_number, text_to_end}
 use Rattle.b2_atom.specs.declared.words.Origin.{Origin}
 use Rattle.b2_atom.specs.declared.words.Origin.TheVariants.{Atoms}
 use Rattle.b2_atom.specs.declared.output.Stop.{Stop}
@@ -19,7 +19,7 @@ use Rattle.b2_atom.specs.declared.forms.Leaf.TheVariants as leaf
 use Rattle.b2_atom.specs.declared.forms.Start.{Start}
 use Rattle.b2_atom.specs.declared.forms.Position.{Position}
 use Rattle.b2_atom.specs.declared.forms.Item.{Item}
-use Rattle.b2_atom.specs.declared.forms.Item.TheVariants.{Word, Sign, Among, ProgramWord, Ignored, Comma, LeftOut, End, Typed, Part, Maybe, Either, Many, Nest, Statement}
+use Rattle.b2_atom.specs.declared.forms.Item.TheVariants.{Word, Sign, Among, ProgramWord, Ignored, ShortWord, Comma, LeftOut, End, Typed, Part, Maybe, Either, Many, Nest, Statement}
 use Rattle.b2_atom.specs.Table.{forms, rows_0, rows_1, rows_2, rows_3}
 use Rattle.b2_atom.proofs.Booleans.{equal, and_left, and_right}
 
@@ -72,6 +72,14 @@ front_among : (low high : ℕ) (s : Text) (e : Stop) → nat_lt 0 low ≡ true �
 front_among low high s e h false is = tt
 front_among low high [] e h true is = absurd (not_among low high h is)
 front_among low high (b ∷ s) e h true is = refl
+
+not_short : (c : ℕ) → is_short c ≡ true → (0 == c) ≡ true → ⊥
+not_short c h k = grind (arith, nat_tests)
+
+short_byte : (c : ℕ) (s : Text) (e : Stop) (b : Bool) → (is_short c && first s == c) ≡ b → Takes s (if b then one (Short c) (drop 1 s) else Err e)
+short_byte c s e false is = tt
+short_byte c [] e true is = absurd (not_short c (and_left _ _ is) (and_right (is_short c) _ is))
+short_byte c (b ∷ s) e true is = ap (λ (n : ℕ). n ∷ s) (sym (equal b c (and_right (is_short c) _ is)))
 
 lined : (a b c : ℕ) (t : Text) (code : ℕ) (x y : Bool) → (a == 255) ≡ x → Takes (a ∷ b ∷ c ∷ t) (if x && y then one (Lined b c) t else Err (At code (length (a ∷ b ∷ c ∷ t))))
 lined a b c t code false y is = tt
@@ -148,12 +156,13 @@ unfolding row_items
 row_good n = get_good (rows_of (n / 64)) (row_place n) (all_good (n / 64))
 
 takes_read : (i : Item) (s : Text) → good_item i ≡ true → Takes s (read_item Atoms i s)
-unfolding symbol among program_word ignored optional_comma end_of_line read_leaf
+unfolding symbol among program_word ignored short_word optional_comma end_of_line read_leaf
 takes_read (Word c) s h = front_byte c s (refused Atoms 22 s) h (first s == c) refl
 takes_read (Sign c code) s h = front_byte c s (refused Atoms code s) h (first s == c) refl
 takes_read (Among low high code) s h = front_among low high s (refused Atoms code s) h (nat_le low (first s) && nat_le (first s) high) refl
 takes_read (ProgramWord c) s h = front_byte c s (refused Atoms 22 s) h (first s == c) refl
 takes_read (Ignored c) s h = refl
+takes_read (ShortWord c) s h = short_byte c s (refused Atoms 22 s) (is_short c && first s == c) refl
 takes_read Comma s h = front_byte 44 s (refused Atoms 13 s) refl (first s == 44) refl
 takes_read LeftOut s h = tt
 takes_read End [] h = refl
@@ -177,6 +186,7 @@ takes_item st d p hs hd hp (Sign c code) s h = takes_read (Sign c code) s h
 takes_item st d p hs hd hp (Among low high code) s h = takes_read (Among low high code) s h
 takes_item st d p hs hd hp (ProgramWord c) s h = takes_read (ProgramWord c) s h
 takes_item st d p hs hd hp (Ignored c) s h = takes_read (Ignored c) s h
+takes_item st d p hs hd hp (ShortWord c) s h = takes_read (ShortWord c) s h
 takes_item st d p hs hd hp Comma s h = takes_read Comma s h
 takes_item st d p hs hd hp LeftOut s h = takes_read LeftOut s h
 takes_item st d p hs hd hp End s h = takes_read End s h

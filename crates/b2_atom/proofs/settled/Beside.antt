@@ -4,7 +4,7 @@ use Rattle.std.proofs.lemmas.Bool.Decides.{nat_tests}
 use Rattle.b2_base.specs.Lexical.{first, is_letter}
 use Rattle.b2_atom.specs.Words.{Text, all_words, word_text}
 use Rattle.b2_atom.specs.Tokens.{Token, is_word}
-use Rattle.b2_atom.specs.Tokens.Token.{Coded, Plain, Lined}
+use Rattle.b2_atom.specs.Tokens.Token.{Coded, Short, Plain, Lined}
 use Rattle.b2_atom.specs.Tree.{Trees, tokens}
 use Rattle.b2_atom.specs.Grammar.{row_items, is_among}
 use Rattle.b2_atom.specs.Spelling.{is_word_or_sign, is_literal, is_free_text, is_image, is_dollar, is_unrelated, is_lettered, may_follow, may_follow_leaf, Neighbours, AllGood, good_token, is_in, plain_signs}
@@ -16,7 +16,7 @@ use Rattle.b2_atom.specs.declared.forms.Leaf.{Leaf}
 use Rattle.b2_atom.specs.declared.forms.Leaf.TheVariants as leaf
 use Rattle.b2_atom.proofs.Booleans.{and_left, and_right, or_left, or_right, or_none, or_one, or_other, or_cases, never, not_true, equal, both, either_way}
 use Rattle.b2_atom.proofs.settled.Lookaheads.{Span, apart, when, dollar_spans, every, some, of, of_items, covered, statement_heads, good_lookahead, before_good, Lookahead, is_ahead, symbols, is_kind, is_one, not_free, not_image, no_dollar, unrelated, lettered, is_data, beside_code, beside_leaf, is_calm, beside}
-use Rattle.b2_atom.proofs.settled.Lookaheads.Lookahead.{Any, None, Spanned, Hand, Numbered}
+use Rattle.b2_atom.proofs.settled.Lookaheads.Lookahead.{Any, None, Spanned, ShortOf, Hand, Numbered}
 use Rattle.b2_atom.proofs.settled.LookaheadAnswers.{same_leaf, some_lookahead}
 use Rattle.b2_atom.proofs.settled.Computed.{row_paired, row_good, line_heads}
 use Rattle.b2_atom.proofs.settled.Heads.{leads, led_known, covered_all}
@@ -36,6 +36,7 @@ kind_of n j (Hand k) w h m one = let same : leaf_number j ≡ leaf_number k = eq
 kind_of n j Any w h m one = cc
 kind_of n j None w h m one = cc
 kind_of n j (Spanned a b) w h m one = cc
+kind_of n j (ShortOf c) w h m one = cc
 kind_of n j Numbered w h m one = cc
 
 free_kind : (j : Leaf) (w : Text) → (leaf_number j == 14) ≡ false → is_free_text (Plain j w) ≡ false
@@ -48,11 +49,13 @@ image_kind j w h = refl
 
 tells_free : (g : Lookahead) (u : Token) → not_free g ≡ true → is_ahead g (u ∷ []) ≡ true → is_free_text u ≡ false
 tells_free g (Coded c) h m = refl
+tells_free g (Short c) h m = refl
 tells_free g (Lined x y) h m = refl
 tells_free g (Plain j w) h m = free_kind j w (kind_of 14 j g w (not_true _ (and_right (is_one g) _ h)) m (and_left _ _ h))
 
 tells_image : (g : Lookahead) (u : Token) → not_image g ≡ true → is_ahead g (u ∷ []) ≡ true → is_image u ≡ false
 tells_image g (Coded c) h m = refl
+tells_image g (Short c) h m = refl
 tells_image g (Lined x y) h m = refl
 tells_image g (Plain j w) h m = image_kind j w (kind_of 13 j g w (not_true _ (and_right (is_one g) _ h)) m (and_left _ _ h))
 
@@ -70,9 +73,12 @@ tells_symbol : (g : Lookahead) (u : Token) → symbols g ≡ true → is_ahead g
 tells_symbol (Spanned a b) (Coded c) h m = code_symbol a b c h m
 tells_symbol (Spanned a b) (Plain j w) h m = cc
 tells_symbol (Spanned a b) (Lined x y) h m = cc
+tells_symbol (Spanned a b) (Short c) h m = cc
+tells_symbol (ShortOf c) u h m = cc
 tells_symbol (Hand k) (Plain j w) h m = hand_symbol k j w h (same_leaf k j (and_left _ _ m))
 tells_symbol (Hand k) (Coded c) h m = cc
 tells_symbol (Hand k) (Lined x y) h m = cc
+tells_symbol (Hand k) (Short c) h m = cc
 tells_symbol Any u h m = cc
 tells_symbol None u h m = cc
 tells_symbol Numbered u h m = cc
@@ -113,12 +119,19 @@ tells_dollar : (g : Lookahead) (u : Token) → no_dollar g ≡ true → is_ahead
 tells_dollar (Spanned a b) (Coded c) h m = dollar_code a b c h m
 tells_dollar (Spanned a b) (Plain j w) h m = refl
 tells_dollar (Spanned a b) (Lined x y) h m = refl
+tells_dollar (Spanned a b) (Short c) h m = refl
+tells_dollar (ShortOf c) (Coded d) h m = cc
+tells_dollar (ShortOf c) (Short d) h m = refl
+tells_dollar (ShortOf c) (Plain j w) h m = refl
+tells_dollar (ShortOf c) (Lined x y) h m = refl
 tells_dollar (Hand k) (Coded c) h m = cc
 tells_dollar (Hand k) (Plain j w) h m = refl
 tells_dollar (Hand k) (Lined x y) h m = refl
+tells_dollar (Hand k) (Short c) h m = refl
 tells_dollar Numbered (Coded c) h m = cc
 tells_dollar Numbered (Plain j w) h m = refl
 tells_dollar Numbered (Lined x y) h m = refl
+tells_dollar Numbered (Short c) h m = refl
 tells_dollar Any u h m = cc
 tells_dollar None u h m = cc
 
@@ -133,12 +146,19 @@ tells_unrelated : (g : Lookahead) (u : Token) → unrelated g ≡ true → is_ah
 tells_unrelated (Spanned a b) (Coded c) h m = unrelated_code a b c h m
 tells_unrelated (Spanned a b) (Plain j w) h m = cc
 tells_unrelated (Spanned a b) (Lined x y) h m = cc
+tells_unrelated (Spanned a b) (Short c) h m = cc
+tells_unrelated (ShortOf c) (Coded d) h m = cc
+tells_unrelated (ShortOf c) (Short d) h m = refl
+tells_unrelated (ShortOf c) (Plain j w) h m = cc
+tells_unrelated (ShortOf c) (Lined x y) h m = refl
 tells_unrelated (Hand k) (Coded c) h m = cc
 tells_unrelated (Hand k) (Plain j w) h m = relation_kind j w (kind_of 15 j (Hand k) w (not_true _ h) m refl)
 tells_unrelated (Hand k) (Lined x y) h m = refl
+tells_unrelated (Hand k) (Short c) h m = refl
 tells_unrelated Numbered (Coded c) h m = cc
 tells_unrelated Numbered (Plain j w) h m = cc
 tells_unrelated Numbered (Lined x y) h m = refl
+tells_unrelated Numbered (Short c) h m = refl
 tells_unrelated Any u h m = cc
 tells_unrelated None u h m = cc
 
@@ -149,9 +169,12 @@ tells_lettered : (c : ℕ) (g : Lookahead) (u : Token) → lettered c g ≡ true
 tells_lettered c (Spanned a b) (Coded d) h m = lettered_code c a b d h m
 tells_lettered c (Spanned a b) (Plain j w) h m = cc
 tells_lettered c (Spanned a b) (Lined x y) h m = cc
+tells_lettered c (Spanned a b) (Short d) h m = cc
+tells_lettered c (ShortOf d) u h m = cc
 tells_lettered c (Hand k) u h m = cc
 tells_lettered c Numbered (Coded d) h m = cc
 tells_lettered c Numbered (Plain j w) h m = cc
+tells_lettered c Numbered (Short d) h m = cc
 tells_lettered c Numbered (Lined x y) h m = refl
 tells_lettered c Any u h m = cc
 tells_lettered c None u h m = cc
@@ -167,7 +190,9 @@ tells_data (Hand k) (Plain j w) h m =
     data_kind j w (kind_of 13 j (Hand k) w (or_left _ _ none) m refl) (kind_of 15 j (Hand k) w (or_right (is_kind 13 (Hand k)) _ none) m refl)
 tells_data (Hand k) (Coded c) h m = cc
 tells_data (Hand k) (Lined x y) h m = cc
+tells_data (Hand k) (Short c) h m = cc
 tells_data (Spanned a b) u h m = cc
+tells_data (ShortOf c) u h m = cc
 tells_data Numbered u h m = cc
 tells_data Any u h m = cc
 tells_data None u h m = cc
@@ -227,7 +252,9 @@ tells_literal : (g : Lookahead) (u : Token) → is_kind 6 g ≡ true → is_ahea
 tells_literal (Hand k) (Plain j w) h m = hand_literal k j w h (same_leaf k j (and_left _ _ m))
 tells_literal (Hand k) (Coded c) h m = cc
 tells_literal (Hand k) (Lined x y) h m = cc
+tells_literal (Hand k) (Short c) h m = cc
 tells_literal (Spanned a b) u h m = cc
+tells_literal (ShortOf c) u h m = cc
 tells_literal Numbered u h m = cc
 tells_literal Any u h m = cc
 tells_literal None u h m = cc
@@ -271,12 +298,19 @@ pub tells : Tells beside may_stand
 tells (Spanned a b) g (Coded c) u us h k m = tells_spanned a b c g u h k (sym (lookahead_last g u us) ∙ m)
 tells (Spanned a b) g (Plain j w) u us h k m = cc
 tells (Spanned a b) g (Lined x y) u us h k m = cc
+tells (Spanned a b) g (Short c) u us h k m = cc
+tells (ShortOf c) g (Short d) u us h k m = turn_not _ (tells_free g u h (sym (lookahead_last g u us) ∙ m))
+tells (ShortOf c) g (Coded d) u us h k m = cc
+tells (ShortOf c) g (Plain j w) u us h k m = cc
+tells (ShortOf c) g (Lined x y) u us h k m = cc
 tells (Hand l) g (Plain j w) u us h k m = tells_hand l j w g u (same_leaf l j (and_left _ _ k)) h (sym (lookahead_last g u us) ∙ m)
 tells (Hand l) g (Coded c) u us h k m = cc
 tells (Hand l) g (Lined x y) u us h k m = cc
+tells (Hand l) g (Short c) u us h k m = cc
 tells Numbered g (Lined x y) u us h k m = tells_symbol g u h (sym (lookahead_last g u us) ∙ m)
 tells Numbered g (Coded c) u us h k m = cc
 tells Numbered g (Plain j w) u us h k m = cc
+tells Numbered g (Short c) u us h k m = cc
 tells Any g t u us h k m = cc
 tells None g t u us h k m = cc
 
@@ -294,12 +328,19 @@ lookahead_good : (g : Lookahead) (u : Token) (us : List Token) → good_lookahea
 lookahead_good (Spanned a b) (Coded c) us h m = good_code a b c h m
 lookahead_good (Spanned a b) (Plain j w) us h m = cc
 lookahead_good (Spanned a b) (Lined x y) us h m = cc
+lookahead_good (Spanned a b) (Short c) us h m = cc
+lookahead_good (ShortOf c) (Short d) us h m = and_right (d == c) _ m
+lookahead_good (ShortOf c) (Coded d) us h m = cc
+lookahead_good (ShortOf c) (Plain j w) us h m = cc
+lookahead_good (ShortOf c) (Lined x y) us h m = cc
 lookahead_good (Hand k) (Plain j w) us h m = and_right (leaf_number j == leaf_number k) _ m
 lookahead_good (Hand k) (Coded c) us h m = cc
 lookahead_good (Hand k) (Lined x y) us h m = cc
+lookahead_good (Hand k) (Short c) us h m = cc
 lookahead_good Numbered (Lined x y) us h m = m
 lookahead_good Numbered (Coded c) us h m = cc
 lookahead_good Numbered (Plain j w) us h m = cc
+lookahead_good Numbered (Short c) us h m = cc
 lookahead_good Any u us h m = cc
 lookahead_good None u us h m = cc
 
@@ -316,12 +357,14 @@ all_good t (u ∷ us) h c = (h, all_good u us c.0 c.1)
 -- free text stands after a remark alone
 unfree_symbol : (u : Token) → is_word_or_sign u ≡ true → is_free_text u ≡ false
 unfree_symbol (Coded c) h = refl
+unfree_symbol (Short c) h = refl
 unfree_symbol (Plain leaf.Text w) h = cc
 unfree_symbol (Plain k w) h = refl
 unfree_symbol (Lined x y) h = refl
 
 unfree_literal : (u : Token) → is_literal u ≡ true → is_free_text u ≡ false
 unfree_literal (Coded c) h = refl
+unfree_literal (Short c) h = refl
 unfree_literal (Plain leaf.Text w) h = cc
 unfree_literal (Plain k w) h = refl
 unfree_literal (Lined x y) h = refl
@@ -348,6 +391,7 @@ unfree_by false free x h k = not_true _ (and_left _ _ k)
 unfree : (t u : Token) → is_remark t ≡ false → may_follow t u ≡ true → is_free_text u ≡ false
 unfree (Coded c) u r h = unfree_by (c == word.REM || c == 37) (is_free_text u) _ r h
 unfree (Plain k w) u r h = unfree_leaf k u h
+unfree (Short c) u r h = not_true _ h
 unfree (Lined x y) u r h = unfree_symbol u h
 
 stands_follow : (r f m : Bool) → r ≡ false → f ≡ false → ((r || f) || m) ≡ true → m ≡ true
@@ -359,6 +403,7 @@ remark_free : (t u : Token) → is_remark t ≡ true → is_free_text u ≡ true
 remark_free (Coded c) u r h = ap (λ (b : Bool). if b then is_free_text u else (not (is_free_text u) && (if is_letter c then is_lettered c u
     else (if c == word.DATA then not (is_word_or_sign u || is_image u) else (if c == word.PRINT then not (is_image u) else true))))) r ∙ h
 remark_free (Plain k w) u r h = cc
+remark_free (Short c) u r h = cc
 remark_free (Lined x y) u r h = cc
 
 after_remark : (t u : Token) (us : List Token) → is_remark t ≡ true → is_rest (u ∷ us) ≡ true → Neighbours (t ∷ u ∷ us)

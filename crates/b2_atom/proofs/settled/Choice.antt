@@ -1,13 +1,14 @@
 -- A statement's row is chosen by its first two tokens.
-use Rattle.std.proofs.Common.{◌≡◌, ℕ, ◌-◌, ◌<◌, ◌==◌, ◌&&◌, ◌||◌, not, Bool, true, false, if◌then◌else◌, List, [], ◌∷◌, ◌++◌, length, refl, sym, ap, subst, ◌∙◌, arith, inl, inr, Result, Ok, Err}
+use Rattle.std.proofs.Common.{◌≡◌, ℕ, ◌-◌, ◌<◌, ◌==◌, ◌&&◌, ◌||◌, not, Bool, true, false, if◌then◌else◌, List, [], ◌∷◌, ◌++◌, length, drop, refl, sym, ap, subst, ◌∙◌, arith, inl, inr, ◌⊎◌, Result, Ok, Err}
 use Rattle.std.proofs.lemmas.Bool.Decides.{nat_tests}
 use Rattle.b2_base.specs.Lexical.{first, is_letter, skip_blanks}
-use Rattle.b2_atom.specs.Words.{Text, skipped, ahead}
+use Rattle.b2_atom.specs.Words.{Text, skipped, ahead, begins_with, is_short, short_text, letters_stand, short_stands, short_width}
 use Rattle.b2_atom.specs.Tokens.{Token}
-use Rattle.b2_atom.specs.Tokens.Token.{Coded, Plain, Lined}
+use Rattle.b2_atom.specs.Tokens.Token.{Coded, Short, Plain, Lined}
 use Rattle.b2_atom.specs.Tree.{Trees, tokens}
 use Rattle.b2_atom.specs.Tree.Trees.{Done, Put, In}
-use Rattle.b2_atom.specs.Grammar.{row_items, starts, class_at, is_among, row_at, allowed, from, statement_row, begins_let, variable_begins, read_leaf, plain, spelled_after, barred_following, barred_line, barred_position}
+use Rattle.b2_atom.specs.Grammar.{row_items, starts, class_at, is_among, row_at, allowed, from, statement_row, short_word, begins_let, variable_begins, read_leaf, plain, spelled_after, barred_following, barred_line, barred_position}
+use Rattle.b2_atom.specs.Leaves.{refused}
 use Rattle.b2_atom.specs.Spelling.{Begins, Spells, Named, has_class, is_whole}
 use Rattle.b2_atom.specs.Fitting.{Fits, FitsPut, FitsIn, FitsBranch, giving, may_end, leaf_number, is_statement, is_allowed}
 use Rattle.b2_atom.specs.Table.{forms}
@@ -25,9 +26,9 @@ use Rattle.b2_atom.specs.declared.forms.Item.{Item}
 use Rattle.b2_atom.specs.declared.forms.Item.TheVariants.{Word, Sign, Among}
 use Rattle.b2_atom.specs.declared.output.Stop.{Stop}
 use Rattle.b2_atom.specs.declared.output.Stop.TheVariants.{At}
-use Rattle.b2_atom.proofs.Booleans.{and_left, and_right, or_one, or_other, or_false, or_cases, never, not_true, equal, span_of, either_way}
-use Rattle.b2_atom.proofs.settled.Lookaheads.{every, some, Lookahead, is_ahead, spans, sure, is_spanned, pair_surely, variable_spans, lacks, choose, closing_heads, seconds, symbol_choice, chosen_row, when, of_item, of_items, of, statement_heads, is_symbol_item, leading}
-use Rattle.b2_atom.proofs.settled.Lookaheads.Lookahead.{Any, Spanned}
+use Rattle.b2_atom.proofs.Booleans.{and_left, and_right, or_left, or_right, or_one, or_other, or_false, or_cases, never, not_true, equal, span_of, either_way}
+use Rattle.b2_atom.proofs.settled.Lookaheads.{every, some, Lookahead, is_ahead, spans, sure, is_spanned, is_short_of, short_spans, not_short_of, pair_surely, variable_spans, lacks, choose, closing_heads, seconds, symbol_choice, chosen_row, when, of_item, of_items, of, statement_heads, is_symbol_item, leading}
+use Rattle.b2_atom.proofs.settled.Lookaheads.Lookahead.{Any, None, Spanned, ShortOf, Hand, Numbered}
 use Rattle.b2_atom.proofs.settled.LookaheadAnswers.{says, some_lookahead, class_says, same_leaf}
 use Rattle.b2_atom.proofs.settled.Computed.{statement_good, statement_chosen}
 use Rattle.b2_atom.proofs.settled.Heads.{is_closing, Led, leads, led_known, covered_all, token_leads}
@@ -114,6 +115,7 @@ opening (Plain j w) ts h = elim (or_cases (leaf_number j == 2 && is_whole j w) (
   ]
 ]
 opening (Lined x y) ts h = cc
+opening (Short c) ts h = cc
 
 opens_class : (t : Token) → opens_statement t ≡ true → has_class t ≡ true
 opens_class (Coded c) h = refl
@@ -158,6 +160,7 @@ pair_true o a c (Spanned x y) g (Coded d) ts u h i j k l spelled =
     ∙ and_yes _ _ (code_lookahead x y d a true i k) (one_code c (class_at o spelled.0) true (class_says ((c, c) ∷ []) o g true ts spelled.0 j l spelled.1.1))
 pair_true o a c (Spanned x y) g (Plain w z) ts u h i j k l spelled = cc
 pair_true o a c (Spanned x y) g (Lined w z) ts u h i j k l spelled = cc
+pair_true o a c (Spanned x y) g (Short d) ts u h i j k l spelled = cc
 pair_true o a c f g t ts u h i j k l spelled = cc
 
 pair_false : (o : Origin) (a c : ℕ) (f g : Lookahead) (t : Token) (ts : List Token) (u : Text) → is_spanned f ≡ true → sure ((c, c) ∷ []) g false ≡ true
@@ -167,7 +170,123 @@ pair_false o a c (Spanned x y) g (Coded d) ts u h j k l spelled =
     ∙ and_second _ _ (one_code c (class_at o spelled.0) false (class_says ((c, c) ∷ []) o g false ts spelled.0 j l spelled.1.1))
 pair_false o a c (Spanned x y) g (Plain w z) ts u h j k l spelled = cc
 pair_false o a c (Spanned x y) g (Lined w z) ts u h j k l spelled = cc
+pair_false o a c (Spanned x y) g (Short d) ts u h j k l spelled = cc
 pair_false o a c f g t ts u h j k l spelled = cc
+
+-- a short word after a word
+short_seen : (o : Origin) (a c d : ℕ) (ts : List Token) (u : Text) → (spelled : Spells o (Coded d ∷ ts) u) → starts o (start.ShortAfter a c) u ≡ (d == a && short_stands o c (skipped o spelled.0))
+unfolding starts
+short_seen o a c d ts u spelled =
+    let there : ahead o (skipped o u) ≡ (d, spelled.0) = spelled.1.0.reads in
+    ap (λ (x : ℕ × Text). x.0 == a && short_stands o c (skipped o x.1)) there
+
+short_first : (o : Origin) (a c : ℕ) (u : Text) → (class_at o u == a) ≡ false → starts o (start.ShortAfter a c) u ≡ false
+unfolding starts
+short_first o a c u h = and_first _ _ h
+
+read_of : (b : Bool) (t : Token) (rest : Text) (e : Stop) (r : Trees × Text) → (if b then Ok (Put t Done, rest) else Err e) ≡ Ok r → b ≡ true
+read_of true t rest e r h = refl
+read_of false t rest e r h = cc
+
+-- where a short word is spelled, it stands
+short_there : (o : Origin) (c : ℕ) (ts : List Token) (s : Text) → Spells o (Short c ∷ ts) s → short_stands o c (skipped o s) ≡ true
+unfolding short_word
+short_there o c ts s spelled = read_of (short_stands o c (skipped o s)) (Short c) (drop (short_width o) (skipped o s)) (refused o 22 (skipped o s)) (Put (Short c) Done, spelled.0) spelled.1.0.reads
+
+-- and no other does
+short_two : (c : ℕ) → is_short c ≡ true → (c ≡ word.DA) ⊎ (c ≡ word.BA)
+short_two c h = elim (or_cases (c == word.DA) (c == word.BA) h) [
+  | inl e ↦ inl (equal c word.DA e)
+  | inr e ↦ inr (equal c word.BA e)
+]
+
+other_byte : (n a b : ℕ) (x y : Bool) → (a == b) ≡ false → (n == a && x) ≡ true → (n == b && y) ≡ false
+other_byte n a b x y h k = and_first _ _ (ap (λ (m : ℕ). m == b) (equal n a (and_left _ _ k)) ∙ h)
+
+no_ba : (o : Origin) (t : Text) → letters_stand o word.DA t ≡ true → letters_stand o word.BA t ≡ false
+no_ba origin.Program t h = other_byte (ahead origin.Program t).0 68 66 _ _ refl h
+no_ba origin.Immediate t h = other_byte (ahead origin.Immediate t).0 68 66 _ _ refl h
+no_ba origin.Atoms t h = ap (λ (m : ℕ). m == word.BA) (equal (first t) word.DA h)
+
+no_da : (o : Origin) (t : Text) → letters_stand o word.BA t ≡ true → letters_stand o word.DA t ≡ false
+no_da origin.Program t h = other_byte (ahead origin.Program t).0 66 68 _ _ refl h
+no_da origin.Immediate t h = other_byte (ahead origin.Immediate t).0 66 68 _ _ refl h
+no_da origin.Atoms t h = ap (λ (m : ℕ). m == word.DA) (equal (first t) word.BA h)
+
+itself : (n : ℕ) → (n == n) ≡ true
+itself n = grind (arith, nat_tests)
+
+same_word : (c d n : ℕ) → c ≡ n → d ≡ n → (d == c) ≡ true
+same_word c d n h k = (λ i. k i == h i) ∙ itself n
+
+other_short : (o : Origin) (c d : ℕ) (t : Text) → is_short c ≡ true → is_short d ≡ true → (d == c) ≡ false → letters_stand o d t ≡ true → letters_stand o c t ≡ false
+other_short o c d t hc hd other h = elim (short_two c hc) [
+  | inl e ↦ elim (short_two d hd) [
+    | inl f ↦ never (d == c) (same_word c d word.DA e f) other
+    | inr f ↦ ap (λ (n : ℕ). letters_stand o n t) e ∙ no_da o t (ap (λ (n : ℕ). letters_stand o n t) (sym f) ∙ h)
+  ]
+  | inr e ↦ elim (short_two d hd) [
+    | inl f ↦ ap (λ (n : ℕ). letters_stand o n t) e ∙ no_ba o t (ap (λ (n : ℕ). letters_stand o n t) (sym f) ∙ h)
+    | inr f ↦ never (d == c) (same_word c d word.BA e f) other
+  ]
+]
+
+short_other : (o : Origin) (c d : ℕ) (t : Text) → (d == c) ≡ false → short_stands o d t ≡ true → short_stands o c t ≡ false
+short_other o c d t other h = elim (either_way (is_short c)) [
+  | inl e ↦ and_second (is_short c) _ (other_short o c d t e (and_left _ _ h) other (and_right (is_short d) _ h))
+  | inr e ↦ and_first _ _ e
+]
+
+-- nor where what stands there is seen to be none
+no_letters : (o : Origin) (c : ℕ) (s : Text) → spans (short_spans c) (class_at o s) ≡ false → letters_stand o c (skipped o s) ≡ false
+no_letters origin.Program c s h = and_first _ _ (span_of (first (short_text c)) (class_at origin.Program s) ∙ or_left _ _ h)
+no_letters origin.Immediate c s h = and_first _ _ (span_of (first (short_text c)) (class_at origin.Immediate s) ∙ or_left _ _ h)
+no_letters origin.Atoms c s h = one_code c (class_at origin.Atoms s) false (or_right _ _ h)
+
+no_short : (o : Origin) (c : ℕ) (g : Lookahead) (ts : List Token) (s : Text) → sure (short_spans c) g false ≡ true → is_ahead g ts ≡ true → Spells o ts s → short_stands o c (skipped o s) ≡ false
+no_short o c g ts s h k spelled = and_second (is_short c) _ (no_letters o c s (class_says (short_spans c) o g false ts s h k spelled))
+
+short_yes : (o : Origin) (c : ℕ) (g : Lookahead) (ts : List Token) (s : Text) → is_short_of c g ≡ true → is_ahead g ts ≡ true → Spells o ts s → short_stands o c (skipped o s) ≡ true
+short_yes o c (ShortOf d) (Short e ∷ ts) s h k spelled =
+    let same : e ≡ c = equal e d (and_left _ _ k) ∙ equal d c h in
+    ap (λ (n : ℕ). short_stands o n (skipped o s)) (sym same) ∙ short_there o e ts s spelled
+short_yes o c (ShortOf d) [] s h k spelled = cc
+short_yes o c (ShortOf d) (Coded e ∷ ts) s h k spelled = cc
+short_yes o c (ShortOf d) (Plain j w ∷ ts) s h k spelled = cc
+short_yes o c (ShortOf d) (Lined x y ∷ ts) s h k spelled = cc
+short_yes o c g ts s h k spelled = cc
+
+short_no : (o : Origin) (c : ℕ) (g : Lookahead) (ts : List Token) (s : Text) → not_short_of c g ≡ true → is_ahead g ts ≡ true → Spells o ts s → short_stands o c (skipped o s) ≡ false
+short_no o c (ShortOf d) (Short e ∷ ts) s h k spelled =
+    let same : e ≡ d = equal e d (and_left _ _ k) in
+    short_other o c e (skipped o s) (ap (λ (n : ℕ). n == c) same ∙ not_true _ h) (short_there o e ts s spelled)
+short_no o c (ShortOf d) [] s h k spelled = cc
+short_no o c (ShortOf d) (Coded e ∷ ts) s h k spelled = cc
+short_no o c (ShortOf d) (Plain j w ∷ ts) s h k spelled = cc
+short_no o c (ShortOf d) (Lined x y ∷ ts) s h k spelled = cc
+short_no o c Any ts s h k spelled = cc
+short_no o c None ts s h k spelled = no_short o c None ts s h k spelled
+short_no o c (Spanned a b) ts s h k spelled = no_short o c (Spanned a b) ts s h k spelled
+short_no o c (Hand j) ts s h k spelled = no_short o c (Hand j) ts s h k spelled
+short_no o c Numbered ts s h k spelled = no_short o c Numbered ts s h k spelled
+
+short_true : (o : Origin) (a c : ℕ) (f g : Lookahead) (t : Token) (ts : List Token) (u : Text) → is_spanned f ≡ true → sure ((a, a) ∷ []) f true ≡ true → is_short_of c g ≡ true
+    → is_ahead f (t ∷ ts) ≡ true → is_ahead g ts ≡ true → Spells o (t ∷ ts) u → starts o (start.ShortAfter a c) u ≡ true
+short_true o a c (Spanned x y) g (Coded d) ts u h i j k l spelled =
+    short_seen o a c d ts u spelled ∙ and_yes _ _ (code_lookahead x y d a true i k) (short_yes o c g ts spelled.0 j l spelled.1.1)
+short_true o a c (Spanned x y) g (Short d) ts u h i j k l spelled = cc
+short_true o a c (Spanned x y) g (Plain w z) ts u h i j k l spelled = cc
+short_true o a c (Spanned x y) g (Lined w z) ts u h i j k l spelled = cc
+short_true o a c f g t ts u h i j k l spelled = cc
+
+short_false : (o : Origin) (a c : ℕ) (f g : Lookahead) (t : Token) (ts : List Token) (u : Text) → is_spanned f ≡ true → not_short_of c g ≡ true
+    → is_ahead f (t ∷ ts) ≡ true → is_ahead g ts ≡ true → Spells o (t ∷ ts) u → starts o (start.ShortAfter a c) u ≡ false
+short_false o a c (Spanned x y) g (Coded d) ts u h j k l spelled =
+    short_seen o a c d ts u spelled ∙ and_second _ _ (short_no o c g ts spelled.0 j l spelled.1.1)
+short_false o a c (Spanned x y) g (Short d) ts u h j k l spelled = cc
+short_false o a c (Spanned x y) g (Plain w z) ts u h j k l spelled = cc
+short_false o a c (Spanned x y) g (Lined w z) ts u h j k l spelled = cc
+short_false o a c f g t ts u h j k l spelled = cc
 
 pair_says : (o : Origin) (st : Start) (f g : Lookahead) (b : Bool) (t : Token) (ts : List Token) (u : Text) → pair_surely st f g b ≡ true → is_ahead f (t ∷ ts) ≡ true → is_ahead g ts ≡ true
     → Spells o (t ∷ ts) u → starts o st u ≡ b
@@ -177,6 +296,13 @@ pair_says o (start.Pair a c) f g true t ts u h k l spelled =
 pair_says o (start.Pair a c) f g false t ts u h k l spelled = elim (or_cases (sure ((a, a) ∷ []) f false) (is_spanned f && sure ((c, c) ∷ []) g false) h) [
   | inl e ↦ pair_first o a c u (one_code a (class_at o u) false (class_says ((a, a) ∷ []) o f false (t ∷ ts) u e k spelled))
   | inr e ↦ pair_false o a c f g t ts u (and_left _ _ e) (and_right (is_spanned f) _ e) k l spelled
+]
+pair_says o (start.ShortAfter a c) f g true t ts u h k l spelled =
+    let rest = and_right (is_spanned f) _ h in
+    short_true o a c f g t ts u (and_left _ _ h) (and_left _ _ rest) (and_right (sure ((a, a) ∷ []) f true) _ rest) k l spelled
+pair_says o (start.ShortAfter a c) f g false t ts u h k l spelled = elim (or_cases (sure ((a, a) ∷ []) f false) (is_spanned f && not_short_of c g) h) [
+  | inl e ↦ short_first o a c u (one_code a (class_at o u) false (class_says ((a, a) ∷ []) o f false (t ∷ ts) u e k spelled))
+  | inr e ↦ short_false o a c f g t ts u (and_left _ _ e) (and_right (is_spanned f) _ e) k l spelled
 ]
 pair_says o st f g b t ts u h k l spelled = says o st f b (t ∷ ts) u h k spelled
 
@@ -277,6 +403,7 @@ closing_lookaheads [] h = refl
 closing_lookaheads (Coded c ∷ ts) h = grind (arith, nat_tests)
 closing_lookaheads (Plain k w ∷ ts) h = cc
 closing_lookaheads (Lined x y ∷ ts) h = cc
+closing_lookaheads (Short c ∷ ts) h = cc
 
 some_left : (p : Lookahead → Bool) (xs ys : List Lookahead) → some p xs ≡ true → some p (xs ++ ys) ≡ true
 some_left p [] ys h = cc

@@ -4,7 +4,7 @@ use Rattle.std.proofs.lemmas.Bool.Decides.{nat_tests}
 use Rattle.b2_base.specs.Lexical.{first}
 use Rattle.b2_atom.specs.Words.{Text, skipped, ahead, word_at}
 use Rattle.b2_atom.specs.Tokens.{Token}
-use Rattle.b2_atom.specs.Tokens.Token.{Coded, Plain, Lined}
+use Rattle.b2_atom.specs.Tokens.Token.{Coded, Short, Plain, Lined}
 use Rattle.b2_atom.specs.Tree.{Trees, tokens}
 use Rattle.b2_atom.specs.Tree.Trees.{Done, Put, In}
 use Rattle.b2_atom.specs.Leaves.{is_alpha_name, name_width, any_name_width, alpha_name_width}
@@ -22,7 +22,7 @@ use Rattle.b2_atom.specs.declared.forms.Item.{Item}
 use Rattle.b2_atom.specs.declared.forms.Item.TheVariants.{Sign, Typed, Nest}
 use Rattle.b2_atom.proofs.Booleans.{and_left, and_right, or_one, or_other, or_cases, or_false, never, not_true, equal, both, either_way, span_of}
 use Rattle.b2_atom.proofs.settled.Lookaheads.{Span, spans, apart, every, some, Lookahead, is_ahead, sure, alpha, is_named, is_numeric_name, name_spans, alpha_spans, number_lookahead, class_lookahead, before_number, is_expression, not_open, not_b, named_or_not, ends_open, asks_open, some_tail, is_spanned, Tail, of, is_far, besides, Known}
-use Rattle.b2_atom.proofs.settled.Lookaheads.Lookahead.{Any, None, Spanned, Hand, Numbered}
+use Rattle.b2_atom.proofs.settled.Lookaheads.Lookahead.{Any, None, Spanned, ShortOf, Hand, Numbered}
 use Rattle.b2_atom.proofs.settled.Lookaheads.Tail.{Asked}
 use Rattle.b2_atom.proofs.settled.LookaheadAnswers.{some_lookahead, class_says, says_alpha, same_leaf, not_named, not_alpha}
 use Rattle.b2_atom.proofs.settled.Heads.{known, Refused, RefusedBy, leads, led_known, fills}
@@ -32,6 +32,7 @@ use Rattle.b2_atom.proofs.settled.FarComputed.{row_within, operand_ends, receive
 -- the lookahead of a token by itself
 abbrev pub lookahead_of : Token → Lookahead
 lookahead_of (Coded c) = Spanned c c
+lookahead_of (Short c) = ShortOf c
 lookahead_of (Plain k w) = Hand k
 lookahead_of (Lined x y) = Numbered
 
@@ -84,9 +85,12 @@ tells_number : (g : Lookahead) (u : Token) → number_lookahead g ≡ true → i
 tells_number (Spanned a b) (Coded c) h m = number_coded a b c h m
 tells_number (Spanned a b) (Plain j w) h m = cc
 tells_number (Spanned a b) (Lined x y) h m = cc
+tells_number (Spanned a b) (Short c) h m = cc
+tells_number (ShortOf c) u h m = cc
 tells_number (Hand k) (Plain j w) h m = number_hand k j w h m
 tells_number (Hand k) (Coded c) h m = cc
 tells_number (Hand k) (Lined x y) h m = cc
+tells_number (Hand k) (Short c) h m = cc
 tells_number Any u h m = cc
 tells_number None u h m = cc
 tells_number Numbered u h m = cc
@@ -95,9 +99,12 @@ tells_class : (g : Lookahead) (u : Token) → class_lookahead g ≡ true → is_
 tells_class (Spanned a b) (Coded c) h m = refl
 tells_class (Spanned a b) (Plain j w) h m = cc
 tells_class (Spanned a b) (Lined x y) h m = cc
+tells_class (Spanned a b) (Short c) h m = cc
+tells_class (ShortOf c) u h m = cc
 tells_class (Hand k) (Plain j w) h m = ap is_classed (same_leaf k j (and_left _ _ m)) ∙ h
 tells_class (Hand k) (Coded c) h m = cc
 tells_class (Hand k) (Lined x y) h m = cc
+tells_class (Hand k) (Short c) h m = cc
 tells_class Any u h m = cc
 tells_class None u h m = cc
 tells_class Numbered u h m = cc
@@ -109,15 +116,19 @@ tells_open (Spanned a b) g (Coded c) u h m n = elim (or_cases (nat_lt b 40 || na
 ]
 tells_open (Spanned a b) g (Plain j w) u h m n = cc
 tells_open (Spanned a b) g (Lined x y) u h m n = cc
+tells_open (Spanned a b) g (Short c) u h m n = cc
+tells_open (ShortOf c) g t u h m n = cc
 tells_open (Hand k) g (Plain j w) u h m n = elim (or_cases (not (is_named k)) (class_lookahead g) h) [
   | inl e ↦ or_one _ _ (ap (λ (l : Leaf). not (is_named l)) (same_leaf k j (and_left _ _ m)) ∙ e)
   | inr e ↦ or_other (not (is_named j)) _ (tells_class g u e n)
 ]
 tells_open (Hand k) g (Coded c) u h m n = cc
 tells_open (Hand k) g (Lined x y) u h m n = cc
+tells_open (Hand k) g (Short c) u h m n = cc
 tells_open Numbered g (Lined x y) u h m n = refl
 tells_open Numbered g (Coded c) u h m n = cc
 tells_open Numbered g (Plain j w) u h m n = cc
+tells_open Numbered g (Short c) u h m n = cc
 tells_open Any g t u h m n = cc
 tells_open None g t u h m n = cc
 
@@ -186,6 +197,10 @@ spanned_lined : (f : Lookahead) (x y : ℕ) (ts : List Token) → is_spanned f �
 spanned_lined (Spanned a b) x y ts h = refl
 spanned_lined f x y ts h = cc
 
+spanned_short : (f : Lookahead) (c : ℕ) (ts : List Token) → is_spanned f ≡ true → is_ahead f (Short c ∷ ts) ≡ false
+spanned_short (Spanned a b) c ts h = refl
+spanned_short f c ts h = cc
+
 inside_by : (o : Origin) (xs more : List Token) (s : Text) → (f : Lookahead) → not_open f ≡ true → is_ahead f (xs ++ more) ≡ true → 0 < length xs → Chain opens_well (xs ++ (Coded 41 ∷ [])) → Spells o (xs ++ more) s
     → starts o start.AlphaInside s ≡ false
 inside_by o [] more s f h m full chain spelled = absurd (omega (arith, full))
@@ -197,6 +212,10 @@ inside_by o (Plain j w ∷ xs) more s f h m full chain spelled = elim (or_cases 
 inside_by o (Lined x y ∷ xs) more s f h m full chain spelled = elim (or_cases (is_spanned f) (sure ((40, 40) ∷ []) f false) h) [
   | inl e ↦ never (is_ahead f (Lined x y ∷ (xs ++ more))) m (spanned_lined f x y (xs ++ more) e)
   | inr e ↦ inside_closed o s (one_code 40 (class_at o s) false (class_says ((40, 40) ∷ []) o f false (Lined x y ∷ (xs ++ more)) s e m spelled))
+]
+inside_by o (Short c ∷ xs) more s f h m full chain spelled = elim (or_cases (is_spanned f) (sure ((40, 40) ∷ []) f false) h) [
+  | inl e ↦ never (is_ahead f (Short c ∷ (xs ++ more))) m (spanned_short f c (xs ++ more) e)
+  | inr e ↦ inside_closed o s (one_code 40 (class_at o s) false (class_says ((40, 40) ∷ []) o f false (Short c ∷ (xs ++ more)) s e m spelled))
 ]
 
 row_begun : (inner : Trees) (o : Origin) (most room n : ℕ) → Fits o most room (row_items n) inner → not (of n).empty ≡ true → (more : List Token) → some (λ (f : Lookahead). is_ahead f (tokens inner ++ more)) (of n).heads ≡ true
@@ -233,22 +252,26 @@ numeric_class (Hand k) j w ts h m = cc
 numeric_class Any j w ts h m = cc
 numeric_class None j w ts h m = cc
 numeric_class (Spanned a b) j w ts h m = cc
+numeric_class (ShortOf c) j w ts h m = cc
 numeric_class Numbered j w ts h m = cc
 
 abbrev is_plain_first : List Token → Bool
 is_plain_first [] = false
 is_plain_first (Coded c ∷ ts) = false
+is_plain_first (Short c ∷ ts) = false
 is_plain_first (Plain j w ∷ ts) = true
 is_plain_first (Lined x y ∷ ts) = false
 
 numeric_lookahead : (f : Lookahead) (ts : List Token) → is_numeric_name f ≡ true → is_plain_first ts ≡ false → is_ahead f ts ≡ false
 numeric_lookahead (Hand k) [] h m = refl
 numeric_lookahead (Hand k) (Coded c ∷ ts) h m = refl
+numeric_lookahead (Hand k) (Short c ∷ ts) h m = refl
 numeric_lookahead (Hand k) (Plain j w ∷ ts) h m = cc
 numeric_lookahead (Hand k) (Lined x y ∷ ts) h m = refl
 numeric_lookahead Any ts h m = cc
 numeric_lookahead None ts h m = cc
 numeric_lookahead (Spanned a b) ts h m = cc
+numeric_lookahead (ShortOf c) ts h m = cc
 numeric_lookahead Numbered ts h m = cc
 
 letters_by : (o : Origin) (f : Lookahead) (ts : List Token) (s : Text) → is_numeric_name f ≡ true → is_ahead f ts ≡ true → Spells o ts s → starts o (start.Letters 66 69 71) s ≡ false
@@ -256,6 +279,7 @@ letters_by o f (Plain j w ∷ ts) s h m spelled = letters_seen o (Plain j w) ts 
 letters_by o f [] s h m spelled = never (is_ahead f []) m (numeric_lookahead f [] h refl)
 letters_by o f (Coded c ∷ ts) s h m spelled = never (is_ahead f (Coded c ∷ ts)) m (numeric_lookahead f (Coded c ∷ ts) h refl)
 letters_by o f (Lined x y ∷ ts) s h m spelled = never (is_ahead f (Lined x y ∷ ts)) m (numeric_lookahead f (Lined x y ∷ ts) h refl)
+letters_by o f (Short c ∷ ts) s h m spelled = never (is_ahead f (Short c ∷ ts)) m (numeric_lookahead f (Short c ∷ ts) h refl)
 
 letters_second : (o : Origin) (most room : ℕ) (inner : Trees) (more : List Token) (s : Text) → Fits o most room (row_items row.SUM) inner → Spells o (tokens inner ++ more) s → starts o (start.Letters 66 69 71) s ≡ false
 letters_second o most room inner more s fits spelled =
@@ -317,6 +341,7 @@ no_array o t (Coded d ∷ us) more r named chain refused spelled = no_array_code
 no_array o t (Plain j w ∷ us) more r named chain refused spelled =
     and_none _ _ (spelled.1.0.opens (yes_or (named_token t) _ (and_right (not (is_code 40 t) || number_token (Plain j w)) _ chain.0) named))
 no_array o t (Lined x y ∷ us) more r named chain refused spelled = never false (yes_or (named_token t) _ (and_right (not (is_code 40 t) || number_token (Lined x y)) _ chain.0) named) refl
+no_array o t (Short c ∷ us) more r named chain refused spelled = never false (yes_or (named_token t) _ (and_right (not (is_code 40 t) || number_token (Short c)) _ chain.0) named) refl
 
 -- what a name shows
 array_is : (o : Origin) (n : ℕ) (v r : Text) → any_name_width o v ≡ n → drop n v ≡ r → array_of o (any_name_width o v) v ≡ (nat_lt 0 n && OpenAndClosed o r)
@@ -380,6 +405,8 @@ array_by o (Hand k) (Plain j w ∷ xs) more s h m full chain refused spelled = e
 ]
 array_by o (Hand k) (Coded c ∷ xs) more s h m full chain refused spelled = cc
 array_by o (Hand k) (Lined x y ∷ xs) more s h m full chain refused spelled = cc
+array_by o (Hand k) (Short c ∷ xs) more s h m full chain refused spelled = cc
+array_by o (ShortOf c) xs more s h m full chain refused spelled = cc
 array_by o Any xs more s h m full chain refused spelled = cc
 array_by o None xs more s h m full chain refused spelled = array_none o s (class_says name_spans o None false (xs ++ more) s h m spelled)
 array_by o (Spanned a b) xs more s h m full chain refused spelled = array_none o s (class_says name_spans o (Spanned a b) false (xs ++ more) s h m spelled)
@@ -436,11 +463,14 @@ array_put o k c1 c2 c3 (Plain j w) (Coded d) (Coded e) ts s named h i l spelled 
     let whole = and_right (leaf_number j == leaf_number k) _ h in
     array_tokens o k j w d e ts s named same whole (named_full k j w named same whole) i l spelled
 array_put o k c1 c2 c3 (Coded c) u v ts s named h i l spelled = cc
+array_put o k c1 c2 c3 (Short c) u v ts s named h i l spelled = cc
 array_put o k c1 c2 c3 (Lined x y) u v ts s named h i l spelled = absurd (not_lined k _ named h)
 array_put o k c1 c2 c3 (Plain j w) (Plain x y) v ts s named h i l spelled = cc
 array_put o k c1 c2 c3 (Plain j w) (Lined x y) v ts s named h i l spelled = cc
+array_put o k c1 c2 c3 (Plain j w) (Short d) v ts s named h i l spelled = cc
 array_put o k c1 c2 c3 (Plain j w) (Coded d) (Plain x y) ts s named h i l spelled = cc
 array_put o k c1 c2 c3 (Plain j w) (Coded d) (Lined x y) ts s named h i l spelled = cc
+array_put o k c1 c2 c3 (Plain j w) (Coded d) (Short e) ts s named h i l spelled = cc
 
 array_row : (o : Origin) (most room : ℕ) (k : Leaf) (c1 c2 c3 : ℕ) (a : Trees) (more : List Token) (s : Text) → is_named k ≡ true → Fits o most room (Typed k c1 ∷ Sign 40 c2 ∷ Sign 41 c3 ∷ []) a
     → Spells o (tokens a ++ more) s → starts o start.Array s ≡ true
@@ -460,6 +490,7 @@ array_first : (o : Origin) (most room : ℕ) (inner : Trees) (more : List Token)
 unfolding row_items
 array_first o most room Done more s h spelled = cc
 array_first o most room (Put (Coded c) ts) more s h spelled = never false h.0 refl
+array_first o most room (Put (Short c) ts) more s h spelled = never false h.0 refl
 array_first o most room (Put (Plain j w) ts) more s h spelled = never false h.0 refl
 array_first o most room (Put (Lined x y) ts) more s h spelled = never false h.0 refl
 array_first o most room (In zero a ts) more s h spelled = array_row o most room leaf.Name 20 10 11 a (tokens ts ++ more) s refl h.0 (apart_tokens o (tokens a) (tokens ts) more s spelled)
@@ -480,6 +511,7 @@ alpha_row o most room b more s fits spelled =
 nest_alpha : (o : Origin) (most room : ℕ) (is : List Item) (a : Trees) (more : List Token) (s : Text) → Fits o most room (Nest row.ALPHA ∷ is) a → Spells o (tokens a ++ more) s → alpha_begins o (skipped o s) ≡ true
 nest_alpha o most room is Done more s h spelled = cc
 nest_alpha o most room is (Put (Coded c) ts) more s h spelled = never false h.0 refl
+nest_alpha o most room is (Put (Short c) ts) more s h spelled = never false h.0 refl
 nest_alpha o most room is (Put (Plain j w) ts) more s h spelled = never false h.0 refl
 nest_alpha o most room is (Put (Lined x y) ts) more s h spelled = never false h.0 refl
 nest_alpha o most zero is (In m b ts) more s h spelled = absurd h
@@ -490,6 +522,7 @@ inside_put : (o : Origin) (most room code : ℕ) (is : List Item) (t : Token) (t
 inside_put o most room code is (Coded c) ts more s h fits spelled =
     inside_seen o c (tokens ts ++ more) s spelled ∙ both (c == 40) _ h (nest_alpha o most room is ts more spelled.0 fits spelled.1.1)
 inside_put o most room code is (Plain j w) ts more s h fits spelled = cc
+inside_put o most room code is (Short c) ts more s h fits spelled = cc
 inside_put o most room code is (Lined x y) ts more s h fits spelled = cc
 
 inside_row : (o : Origin) (most room code : ℕ) (is : List Item) (a : Trees) (more : List Token) (s : Text) → Fits o most room (Sign 40 code ∷ Nest row.ALPHA ∷ is) a → Spells o (tokens a ++ more) s
@@ -512,10 +545,13 @@ beg_put : (o : Origin) (c1 c2 c3 : ℕ) (t u v : Token) (ts : List Token) (s : T
     → fits_token o (Sign 71 c3) v ≡ true → Spells o (t ∷ u ∷ v ∷ ts) s → starts o (start.Letters 66 69 71) s ≡ true
 beg_put o c1 c2 c3 (Coded c) (Coded d) (Coded e) ts s h i l spelled = three_codes o c d e ts s h i l spelled
 beg_put o c1 c2 c3 (Plain j w) u v ts s h i l spelled = cc
+beg_put o c1 c2 c3 (Short c) u v ts s h i l spelled = cc
 beg_put o c1 c2 c3 (Lined x y) u v ts s h i l spelled = cc
 beg_put o c1 c2 c3 (Coded c) (Plain x y) v ts s h i l spelled = cc
+beg_put o c1 c2 c3 (Coded c) (Short d) v ts s h i l spelled = cc
 beg_put o c1 c2 c3 (Coded c) (Lined x y) v ts s h i l spelled = cc
 beg_put o c1 c2 c3 (Coded c) (Coded d) (Plain x y) ts s h i l spelled = cc
+beg_put o c1 c2 c3 (Coded c) (Coded d) (Short e) ts s h i l spelled = cc
 beg_put o c1 c2 c3 (Coded c) (Coded d) (Lined x y) ts s h i l spelled = cc
 
 beg_row : (o : Origin) (most room c1 c2 c3 : ℕ) (a : Trees) (more : List Token) (s : Text) → Fits o most room (Sign 66 c1 ∷ Sign 69 c2 ∷ Sign 71 c3 ∷ []) a

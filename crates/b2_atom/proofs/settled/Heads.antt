@@ -3,7 +3,7 @@ use Rattle.std.proofs.Common.{◌≡◌, ℕ, zero, suc, ◌<◌, ◌≤◌, ◌
 use Rattle.std.proofs.lemmas.Bool.Decides.{nat_tests}
 use Rattle.b2_atom.specs.Words.{Text}
 use Rattle.b2_atom.specs.Tokens.{Token}
-use Rattle.b2_atom.specs.Tokens.Token.{Coded, Plain, Lined}
+use Rattle.b2_atom.specs.Tokens.Token.{Coded, Short, Plain, Lined}
 use Rattle.b2_atom.specs.Tree.{Trees, tokens}
 use Rattle.b2_atom.specs.Tree.Trees.{Done, Put, In}
 use Rattle.b2_atom.specs.Grammar.{row_items, starts, is_among}
@@ -17,10 +17,10 @@ use Rattle.b2_atom.specs.declared.forms.Leaf.TheVariants as leaf
 use Rattle.b2_atom.specs.declared.forms.Start.{Start}
 use Rattle.b2_atom.specs.declared.forms.Position.{Position}
 use Rattle.b2_atom.specs.declared.forms.Item.{Item}
-use Rattle.b2_atom.specs.declared.forms.Item.TheVariants.{Word, Sign, Among, ProgramWord, Ignored, Comma, LeftOut, End, Typed, Part, Maybe, Either, Many, Nest, Statement}
+use Rattle.b2_atom.specs.declared.forms.Item.TheVariants.{Word, Sign, Among, ProgramWord, Ignored, ShortWord, Comma, LeftOut, End, Typed, Part, Maybe, Either, Many, Nest, Statement}
 use Rattle.b2_atom.proofs.Booleans.{not_true, among_inside, and_left, and_right, or_left, or_right, or_one, or_other, or_cases, never, span_of}
 use Rattle.b2_atom.proofs.settled.Lookaheads.{every, some, Lookahead, is_ahead, Tail, refused_by, is_none, is_colon, Known, when, larger, of_item, joined_known, of_items, of_row, of, refuse, statement_heads, covers, covered}
-use Rattle.b2_atom.proofs.settled.Lookaheads.Lookahead.{Any, None, Spanned, Hand, Numbered}
+use Rattle.b2_atom.proofs.settled.Lookaheads.Lookahead.{Any, None, Spanned, ShortOf, Hand, Numbered}
 use Rattle.b2_atom.proofs.settled.Lookaheads.Tail.{Asked, Closed, Over}
 use Rattle.b2_atom.proofs.settled.LookaheadAnswers.{answers, some_lookahead}
 use Rattle.b2_atom.proofs.settled.Computed.{row_settled, statement_good}
@@ -41,6 +41,7 @@ item_stable l part (Sign c code) h = refl
 item_stable l part (Among a b code) h = refl
 item_stable l part (ProgramWord c) h = refl
 item_stable l part (Ignored c) h = refl
+item_stable l part (ShortWord c) h = refl
 item_stable l part Comma h = refl
 item_stable l part LeftOut h = refl
 item_stable l part End h = refl
@@ -112,6 +113,7 @@ none_there None [] h k = refl
 none_there None (t ∷ ts) h k = cc
 none_there Any ts h k = cc
 none_there (Spanned a b) ts h k = cc
+none_there (ShortOf c) ts h k = cc
 none_there (Hand l) ts h k = cc
 none_there Numbered ts h k = cc
 
@@ -126,6 +128,8 @@ closed_there (Spanned a b) [] h k = cc
 closed_there (Spanned a b) (Coded c ∷ ts) h k = colon_code a b c h k
 closed_there (Spanned a b) (Plain j w ∷ ts) h k = cc
 closed_there (Spanned a b) (Lined x y ∷ ts) h k = cc
+closed_there (Spanned a b) (Short c ∷ ts) h k = cc
+closed_there (ShortOf c) ts h k = cc
 closed_there (Hand l) ts h k = cc
 closed_there Numbered ts h k = cc
 
@@ -181,16 +185,19 @@ token_leads origin.Immediate (ProgramWord c) (Coded d) ts h = cc
 token_leads origin.Program (ProgramWord c) (Coded d) ts h = or_one _ _ (sym (span_of c d) ∙ h)
 token_leads origin.Atoms (ProgramWord c) (Coded d) ts h = or_one _ _ (sym (span_of c d) ∙ h)
 token_leads o Comma (Coded d) ts h = or_one _ _ (sym (span_of 44 d) ∙ h)
+token_leads o (ShortWord c) (Short d) ts h = or_one _ _ h
 token_leads o (Typed leaf.LineNumber code) (Plain j w) ts h = absurd (line_leaf j w h)
 token_leads o (Typed leaf.LineNumber code) (Lined x y) ts h = or_one _ _ h
 token_leads o (Typed k code) (Plain j w) ts h = or_one _ _ h
 token_leads o (Typed k code) (Lined x y) ts h = cc
 token_leads o (Typed k code) (Coded d) ts h = cc
+token_leads o (Typed k code) (Short d) ts h = cc
 token_leads o (Word c) t ts h = cc
 token_leads o (Sign c code) t ts h = cc
 token_leads o (Among a b code) t ts h = cc
 token_leads o (ProgramWord c) t ts h = cc
 token_leads o (Ignored c) t ts h = cc
+token_leads o (ShortWord c) t ts h = cc
 token_leads o Comma t ts h = cc
 token_leads o LeftOut t ts h = cc
 token_leads o End t ts h = cc
@@ -213,10 +220,12 @@ covered_lookahead (Spanned a b) (Spanned c d) [] h k = cc
 covered_lookahead (Spanned a b) (Spanned c d) (Coded e ∷ ts) h k = among_inside a b c d e h k
 covered_lookahead (Spanned a b) (Spanned c d) (Plain j w ∷ ts) h k = cc
 covered_lookahead (Spanned a b) (Spanned c d) (Lined x y ∷ ts) h k = cc
+covered_lookahead (Spanned a b) (Spanned c d) (Short e ∷ ts) h k = cc
 covered_lookahead (Hand l) (Hand j) [] h k = cc
 covered_lookahead (Hand l) (Hand j) (Coded e ∷ ts) h k = cc
 covered_lookahead (Hand l) (Hand j) (Plain i w ∷ ts) h k = grind (arith, nat_tests)
 covered_lookahead (Hand l) (Hand j) (Lined x y ∷ ts) h k = cc
+covered_lookahead (Hand l) (Hand j) (Short e ∷ ts) h k = cc
 covered_lookahead Numbered Numbered ts h k = k
 covered_lookahead g f ts h k = cc
 
@@ -311,6 +320,7 @@ branch_leads inner ts li lt o most room m (Sign c code) is h more = absurd h
 branch_leads inner ts li lt o most room m (Among a b code) is h more = absurd h
 branch_leads inner ts li lt o most room m (ProgramWord c) is h more = absurd h
 branch_leads inner ts li lt o most room m (Ignored c) is h more = absurd h
+branch_leads inner ts li lt o most room m (ShortWord c) is h more = absurd h
 branch_leads inner ts li lt o most room m Comma is h more = absurd h
 branch_leads inner ts li lt o most room m LeftOut is h more = absurd h
 branch_leads inner ts li lt o most room m End is h more = absurd h
@@ -382,6 +392,7 @@ branch_fills inner ts fi ft o most room m (Sign c code) is h e = absurd h
 branch_fills inner ts fi ft o most room m (Among a b code) is h e = absurd h
 branch_fills inner ts fi ft o most room m (ProgramWord c) is h e = absurd h
 branch_fills inner ts fi ft o most room m (Ignored c) is h e = absurd h
+branch_fills inner ts fi ft o most room m (ShortWord c) is h e = absurd h
 branch_fills inner ts fi ft o most room m Comma is h e = absurd h
 branch_fills inner ts fi ft o most room m LeftOut is h e = absurd h
 branch_fills inner ts fi ft o most room m End is h e = absurd h

@@ -4,14 +4,14 @@ use Rattle.std.proofs.lemmas.Bool.Decides.{nat_tests}
 use Rattle.b2_base.specs.Lexical.{capped_value, digits_width, first, is_digit, is_hex_digit, is_letter}
 use Rattle.b2_atom.specs.Words.{Text, skipped, ahead, kept_byte, word_at}
 use Rattle.b2_atom.specs.Tokens.{Token}
-use Rattle.b2_atom.specs.Tokens.Token.{Coded, Plain, Lined}
+use Rattle.b2_atom.specs.Tokens.Token.{Coded, Short, Plain, Lined}
 use Rattle.b2_atom.specs.Leaves.{is_alpha_name, name_width, numeric_name_width, mantissa_width, number_width, local_name_width, function_name_width, literal_width, slot_width, small_width, signed_number_width, relation_width, alpha_name_width}
 use Rattle.b2_atom.specs.Grammar.{alpha_begins, numeric_begins, begins_name, class_at, is_among, is_line, starts, is_numeric_sign}
 use Rattle.b2_atom.specs.Spelling.{ShowsName, ShowsHex, Named, Spells, is_whole, is_classed}
 use Rattle.b2_atom.specs.Fitting.{leaf_number}
 use Rattle.b2_atom.proofs.Booleans.{or_assoc, and_left, and_right, or_left, or_right, or_none, or_one, or_other, or_false, or_cases, equal, span_of, among_inside, among_apart}
 use Rattle.b2_atom.proofs.settled.Lookaheads.{is_hex_lookahead, is_numbered, Span, spans, inside, apart, every, some, Lookahead, is_ahead, leaf_spans, classes, is_some, sure, surely, name_spans, number_spans, alpha_spans, numeric_spans, numeric, alpha, is_numeric_name, is_alpha_lookahead}
-use Rattle.b2_atom.proofs.settled.Lookaheads.Lookahead.{Any, None, Spanned, Hand, Numbered}
+use Rattle.b2_atom.proofs.settled.Lookaheads.Lookahead.{Any, None, Spanned, ShortOf, Hand, Numbered}
 use Rattle.b2_atom.specs.declared.words.TheConstants as word
 use Rattle.b2_atom.specs.declared.words.Origin.{Origin}
 use Rattle.b2_atom.specs.declared.words.Origin.TheVariants as origin
@@ -244,13 +244,17 @@ class_of_lookahead o (Spanned a b) [] s h k spelled = cc
 class_of_lookahead o (Spanned a b) (Coded c ∷ ts) s h k spelled = ap (spans ((a, b) ∷ [])) (spelled.1.0.class refl) ∙ or_one (is_among a b c) false h
 class_of_lookahead o (Spanned a b) (Plain j w ∷ ts) s h k spelled = cc
 class_of_lookahead o (Spanned a b) (Lined x y ∷ ts) s h k spelled = cc
+class_of_lookahead o (Spanned a b) (Short c ∷ ts) s h k spelled = cc
+class_of_lookahead o (ShortOf c) ts s h k spelled = cc
 class_of_lookahead o (Hand l) [] s h k spelled = cc
 class_of_lookahead o (Hand l) (Coded c ∷ ts) s h k spelled = cc
 class_of_lookahead o (Hand l) (Plain j w ∷ ts) s h k spelled = hand_class o l j w ts s (same_leaf l j (and_left _ _ h)) (and_right (leaf_number j == leaf_number l) _ h) k spelled
 class_of_lookahead o (Hand l) (Lined x y ∷ ts) s h k spelled = cc
+class_of_lookahead o (Hand l) (Short c ∷ ts) s h k spelled = cc
 class_of_lookahead o Numbered [] s h k spelled = cc
 class_of_lookahead o Numbered (Coded c ∷ ts) s h k spelled = cc
 class_of_lookahead o Numbered (Plain j w ∷ ts) s h k spelled = cc
+class_of_lookahead o Numbered (Short c ∷ ts) s h k spelled = cc
 class_of_lookahead o Numbered (Lined x y ∷ ts) s h k spelled = line_class o (class_at o s) spelled.1.0.line
 
 -- a question of the class alone
@@ -329,6 +333,8 @@ names_number o (Spanned a b) ts s n h spelled = cc
 names_number o (Hand k) [] s n h spelled = cc
 names_number o (Hand k) (Coded c ∷ ts) s n h spelled = cc
 names_number o (Hand k) (Lined a b ∷ ts) s n h spelled = cc
+names_number o (Hand k) (Short c ∷ ts) s n h spelled = cc
+names_number o (ShortOf c) ts s n h spelled = cc
 names_number o Numbered ts s n h spelled = cc
 
 pub names_alpha : (o : Origin) (f : Lookahead) (ts : List Token) (s : Text) → is_alpha_lookahead f ≡ true → is_ahead f ts ≡ true → Spells o ts s → is_alpha_name o (skipped o s) ≡ true
@@ -339,12 +345,15 @@ names_alpha o (Spanned a b) ts s n h spelled = cc
 names_alpha o (Hand k) [] s n h spelled = cc
 names_alpha o (Hand k) (Coded c ∷ ts) s n h spelled = cc
 names_alpha o (Hand k) (Lined a b ∷ ts) s n h spelled = cc
+names_alpha o (Hand k) (Short c ∷ ts) s n h spelled = cc
+names_alpha o (ShortOf c) ts s n h spelled = cc
 names_alpha o Numbered ts s n h spelled = cc
 
 name_lookahead : (f : Lookahead) → is_numeric_name f ≡ true → sure (numeric_spans ++ alpha_spans) f false ≡ true
 name_lookahead Any h = cc
 name_lookahead None h = cc
 name_lookahead (Spanned a b) h = cc
+name_lookahead (ShortOf c) h = cc
 name_lookahead (Hand leaf.Name) h = refl
 name_lookahead (Hand leaf.LocalName) h = refl
 name_lookahead (Hand k) h = cc
@@ -354,6 +363,7 @@ alpha_lookahead : (f : Lookahead) → is_alpha_lookahead f ≡ true → sure (nu
 alpha_lookahead Any h = cc
 alpha_lookahead None h = cc
 alpha_lookahead (Spanned a b) h = cc
+alpha_lookahead (ShortOf c) h = cc
 alpha_lookahead (Hand leaf.AlphaName) h = refl
 alpha_lookahead (Hand k) h = cc
 alpha_lookahead Numbered h = cc
@@ -435,6 +445,8 @@ says_hex o (Spanned a b) ts s n h spelled = cc
 says_hex o (Hand k) [] s n h spelled = cc
 says_hex o (Hand k) (Coded c ∷ ts) s n h spelled = cc
 says_hex o (Hand k) (Lined a b ∷ ts) s n h spelled = cc
+says_hex o (Hand k) (Short c ∷ ts) s n h spelled = cc
+says_hex o (ShortOf c) ts s n h spelled = cc
 says_hex o Numbered ts s n h spelled = cc
 
 close_kept : (o : Origin) → is_hex_digit (kept_byte o 41) ≡ false
@@ -451,6 +463,8 @@ no_hex o (Spanned a b) (Coded c ∷ ts) s h k spelled =
 no_hex o (Spanned a b) [] s h k spelled = cc
 no_hex o (Spanned a b) (Plain j w ∷ ts) s h k spelled = cc
 no_hex o (Spanned a b) (Lined x y ∷ ts) s h k spelled = cc
+no_hex o (Spanned a b) (Short c ∷ ts) s h k spelled = cc
+no_hex o (ShortOf c) ts s h k spelled = cc
 no_hex o Any ts s h k spelled = cc
 no_hex o None ts s h k spelled = cc
 no_hex o (Hand l) ts s h k spelled = cc
@@ -461,6 +475,8 @@ says_line o Numbered (Lined a b ∷ ts) s n h spelled = spelled.1.0.line
 says_line o Numbered [] s n h spelled = cc
 says_line o Numbered (Coded c ∷ ts) s n h spelled = cc
 says_line o Numbered (Plain j w ∷ ts) s n h spelled = cc
+says_line o Numbered (Short c ∷ ts) s n h spelled = cc
+says_line o (ShortOf c) ts s n h spelled = cc
 says_line o Any ts s n h spelled = cc
 says_line o None ts s n h spelled = cc
 says_line o (Spanned a b) ts s n h spelled = cc
@@ -484,6 +500,8 @@ says o (start.Pair a c) f true ts s h k spelled = cc
 says o (start.Pair a c) f false ts s h k spelled = and_none _ _ (one_code a (class_at o s) false (class_says ((a, a) ∷ []) o f false ts s h k spelled))
 says o (start.Letters a c d) f true ts s h k spelled = cc
 says o (start.Letters a c d) f false ts s h k spelled = and_none _ _ (one_code a (class_at o s) false (class_says ((a, a) ∷ []) o f false ts s h k spelled))
+says o (start.ShortAfter a c) f true ts s h k spelled = cc
+says o (start.ShortAfter a c) f false ts s h k spelled = and_none _ _ (one_code a (class_at o s) false (class_says ((a, a) ∷ []) o f false ts s h k spelled))
 says o start.Number f b ts s h k spelled = says_number o s b (class_says number_spans o f b ts s h k spelled)
 says o start.Line f true ts s h k spelled = says_line o f ts s h k spelled
 says o start.Line f false ts s h k spelled = no_line o (class_at o s) (class_says ((48, 57) ∷ (255, 255) ∷ []) o f false ts s h k spelled)

@@ -1,9 +1,9 @@
 -- What may stand at the front of a row's trees, and whether it settles each choice of the table.
 use Rattle.std.proofs.Common.{ℕ, zero, suc, ◌==◌, ◌&&◌, ◌||◌, not, nat_le, nat_lt, Bool, true, false, if◌then◌else◌, List, [], ◌∷◌, ◌++◌}
 use Rattle.b2_base.specs.Lexical.{first, is_decimal, is_letter}
-use Rattle.b2_atom.specs.Words.{Text, all_words}
+use Rattle.b2_atom.specs.Words.{Text, all_words, is_short, short_text}
 use Rattle.b2_atom.specs.Tokens.{Token}
-use Rattle.b2_atom.specs.Tokens.Token.{Coded, Plain, Lined}
+use Rattle.b2_atom.specs.Tokens.Token.{Coded, Short, Plain, Lined}
 use Rattle.b2_atom.specs.Table.{forms}
 use Rattle.b2_atom.specs.Grammar.{row_items, is_among}
 use Rattle.b2_atom.specs.Spelling.{is_whole, is_in, plain_signs, is_classed}
@@ -16,7 +16,7 @@ use Rattle.b2_atom.specs.declared.forms.Start.{Start}
 use Rattle.b2_atom.specs.declared.forms.Start.TheVariants as start
 use Rattle.b2_atom.specs.declared.forms.Form.{Form}
 use Rattle.b2_atom.specs.declared.forms.Item.{Item}
-use Rattle.b2_atom.specs.declared.forms.Item.TheVariants.{Word, Sign, Among, ProgramWord, Ignored, Comma, LeftOut, End, Typed, Part, Maybe, Either, Many, Nest, Statement}
+use Rattle.b2_atom.specs.declared.forms.Item.TheVariants.{Word, Sign, Among, ProgramWord, Ignored, ShortWord, Comma, LeftOut, End, Typed, Part, Maybe, Either, Many, Nest, Statement}
 
 -- codes from one to another
 abbrev pub Span : Type 0
@@ -43,11 +43,12 @@ abbrev pub some : {A : Type 0} → (A → Bool) → List A → Bool
 some p [] = false
 some p (x ∷ xs) = p x || some p xs
 
--- what stands at the front of tokens: anything, none, a code of a span, a leaf, or a line number
+-- what stands at the front of tokens: anything, none, a code of a span, a short word, a leaf, or a line number
 pub data Lookahead : Type 0 where
   Any : Lookahead
   None : Lookahead
   Spanned : ℕ → ℕ → Lookahead
+  ShortOf : ℕ → Lookahead
   Hand : Leaf → Lookahead
   Numbered : Lookahead
 
@@ -55,6 +56,7 @@ abbrev pub is_ahead : Lookahead → List Token → Bool
 is_ahead Any ts = true
 is_ahead None [] = true
 is_ahead (Spanned a b) (Coded c ∷ ts) = is_among a b c
+is_ahead (ShortOf c) (Short d ∷ ts) = d == c && is_short d
 is_ahead (Hand k) (Plain j w ∷ ts) = leaf_number j == leaf_number k && is_whole j w
 is_ahead Numbered (Lined h l ∷ ts) = is_decimal h && is_decimal l
 is_ahead f ts = false
@@ -77,6 +79,7 @@ abbrev pub classes : Lookahead → List Span
 classes Any = []
 classes None = (0, 0) ∷ []
 classes (Spanned a b) = (a, b) ∷ []
+classes (ShortOf c) = []
 classes (Hand k) = leaf_spans k
 classes Numbered = (48, 57) ∷ (255, 255) ∷ []
 
@@ -136,6 +139,8 @@ surely (start.Pair a c) f true = false
 surely (start.Pair a c) f false = sure ((a, a) ∷ []) f false
 surely (start.Letters a c d) f true = false
 surely (start.Letters a c d) f false = sure ((a, a) ∷ []) f false
+surely (start.ShortAfter a c) f true = false
+surely (start.ShortAfter a c) f false = sure ((a, a) ∷ []) f false
 surely start.Number f b = sure number_spans f b
 surely start.Line f true = is_numbered f
 surely start.Line f false = sure ((48, 57) ∷ (255, 255) ∷ []) f false
@@ -219,6 +224,7 @@ of_item part (Sign c code) = record { heads = Spanned c c ∷ []; empty = false;
 of_item part (Among a b code) = record { heads = Spanned a b ∷ []; empty = false; tails = []; rank = 0; plain = true; ends = Spanned a b ∷ [] }
 of_item part (ProgramWord c) = record { heads = Spanned c c ∷ []; empty = false; tails = []; rank = 0; plain = true; ends = Spanned c c ∷ [] }
 of_item part (Ignored c) = record { heads = []; empty = true; tails = Asked (start.Code c) ∷ []; rank = 0; plain = true; ends = [] }
+of_item part (ShortWord c) = record { heads = ShortOf c ∷ []; empty = false; tails = []; rank = 0; plain = true; ends = ShortOf c ∷ [] }
 of_item part Comma = record { heads = Spanned 44 44 ∷ []; empty = false; tails = []; rank = 0; plain = true; ends = Spanned 44 44 ∷ [] }
 of_item part LeftOut = none_known
 of_item part End = record { heads = []; empty = true; tails = Over ∷ []; rank = 0; plain = true; ends = [] }
@@ -355,9 +361,23 @@ abbrev pub is_spanned : Lookahead → Bool
 is_spanned (Spanned a b) = true
 is_spanned f = false
 
+-- a short word, and certainly not that one: another, or what a text shows to be none
+abbrev pub is_short_of : ℕ → Lookahead → Bool
+is_short_of c (ShortOf d) = d == c
+is_short_of c f = false
+
+abbrev pub short_spans : ℕ → List Span
+short_spans c = (first (short_text c), first (short_text c)) ∷ (c, c) ∷ []
+
+abbrev pub not_short_of : ℕ → Lookahead → Bool
+not_short_of c (ShortOf d) = not (d == c)
+not_short_of c f = sure (short_spans c) f false
+
 abbrev pub pair_surely : Start → Lookahead → Lookahead → Bool → Bool
 pair_surely (start.Pair a c) f g true = is_spanned f && (sure ((a, a) ∷ []) f true && sure ((c, c) ∷ []) g true)
 pair_surely (start.Pair a c) f g false = sure ((a, a) ∷ []) f false || (is_spanned f && sure ((c, c) ∷ []) g false)
+pair_surely (start.ShortAfter a c) f g true = is_spanned f && (sure ((a, a) ∷ []) f true && is_short_of c g)
+pair_surely (start.ShortAfter a c) f g false = sure ((a, a) ∷ []) f false || (is_spanned f && not_short_of c g)
 pair_surely st f g b = surely st f b
 
 abbrev pub variable_spans : List Span
@@ -488,6 +508,7 @@ is_calm a b = nat_le 128 a && apart ((word.REM, word.REM) ∷ (word.DATA, word.D
 
 abbrev pub beside : Beside
 beside (Spanned a b) g = if a == b then beside_code a g else is_calm a b && not_free g
+beside (ShortOf c) g = not_free g
 beside (Hand k) g = beside_leaf k g
 beside Numbered g = symbols g
 beside f g = false
@@ -495,6 +516,7 @@ beside f g = false
 -- whether each token of a lookahead is a good token
 abbrev pub good_lookahead : Lookahead → Bool
 good_lookahead (Spanned a b) = (nat_le word.REM a && nat_le b word.LAST) || (a == b && is_in a plain_signs)
+good_lookahead (ShortOf c) = true
 good_lookahead (Hand k) = true
 good_lookahead Numbered = true
 good_lookahead f = false

@@ -1,7 +1,7 @@
 -- Which tokens of a tree stand side by side.
 use Rattle.std.proofs.Common.{◌≡◌, ℕ, zero, suc, ◌==◌, ◌&&◌, ◌||◌, not, Bool, true, false, List, [], ◌∷◌, ◌++◌, refl, sym, ap, subst, ◌∙◌, append_assoc, inl, inr, ◌⊎◌}
 use Rattle.b2_atom.specs.Tokens.{Token}
-use Rattle.b2_atom.specs.Tokens.Token.{Coded, Plain, Lined}
+use Rattle.b2_atom.specs.Tokens.Token.{Coded, Short, Plain, Lined}
 use Rattle.b2_atom.specs.Tree.{Trees, tokens}
 use Rattle.b2_atom.specs.Tree.Trees.{Done, Put, In}
 use Rattle.b2_atom.specs.Grammar.{row_items}
@@ -14,10 +14,10 @@ use Rattle.b2_atom.specs.declared.forms.Position.{Position}
 use Rattle.b2_atom.specs.declared.forms.Start.{Start}
 use Rattle.b2_atom.proofs.settled.Computed.{statement_good}
 use Rattle.b2_atom.specs.declared.forms.Leaf.TheVariants as leaf
-use Rattle.b2_atom.specs.declared.forms.Item.TheVariants.{Word, Sign, Among, ProgramWord, Ignored, Comma, LeftOut, End, Typed, Part, Maybe, Either, Many, Nest, Statement}
+use Rattle.b2_atom.specs.declared.forms.Item.TheVariants.{Word, Sign, Among, ProgramWord, Ignored, ShortWord, Comma, LeftOut, End, Typed, Part, Maybe, Either, Many, Nest, Statement}
 use Rattle.b2_atom.proofs.Booleans.{equal, and_left, and_right, or_one, or_other, or_cases}
 use Rattle.b2_atom.proofs.settled.Lookaheads.{every, some, Lookahead, is_ahead, Known, when, of_item, of_items, of, next_heads, Beside, besides, Within, paired, paired_item, is_closed, covers, covered, statement_ends, statement_heads, refuse, is_free_row, leading}
-use Rattle.b2_atom.proofs.settled.Lookaheads.Lookahead.{Any, None, Spanned, Hand, Numbered}
+use Rattle.b2_atom.proofs.settled.Lookaheads.Lookahead.{Any, None, Spanned, ShortOf, Hand, Numbered}
 use Rattle.b2_atom.proofs.settled.LookaheadAnswers.{some_lookahead}
 use Rattle.b2_atom.proofs.settled.Heads.{known, Led, leads, led_known, token_leads, covered_lookahead, covered_all}
 
@@ -237,6 +237,7 @@ branch_chain r p q tells rows all_ inner ts ci ct o most room m (Sign c code) is
 branch_chain r p q tells rows all_ inner ts ci ct o most room m (Among a b code) is h test more follows chain = absurd h
 branch_chain r p q tells rows all_ inner ts ci ct o most room m (ProgramWord c) is h test more follows chain = absurd h
 branch_chain r p q tells rows all_ inner ts ci ct o most room m (Ignored c) is h test more follows chain = absurd h
+branch_chain r p q tells rows all_ inner ts ci ct o most room m (ShortWord c) is h test more follows chain = absurd h
 branch_chain r p q tells rows all_ inner ts ci ct o most room m Comma is h test more follows chain = absurd h
 branch_chain r p q tells rows all_ inner ts ci ct o most room m LeftOut is h test more follows chain = absurd h
 branch_chain r p q tells rows all_ inner ts ci ct o most room m End is h test more follows chain = absurd h
@@ -248,12 +249,19 @@ lookahead_last None t ts = refl
 lookahead_last (Spanned a b) (Coded c) ts = refl
 lookahead_last (Spanned a b) (Plain k w) ts = refl
 lookahead_last (Spanned a b) (Lined x y) ts = refl
+lookahead_last (Spanned a b) (Short c) ts = refl
+lookahead_last (ShortOf c) (Coded d) ts = refl
+lookahead_last (ShortOf c) (Short d) ts = refl
+lookahead_last (ShortOf c) (Plain k w) ts = refl
+lookahead_last (ShortOf c) (Lined x y) ts = refl
 lookahead_last (Hand l) (Coded c) ts = refl
 lookahead_last (Hand l) (Plain k w) ts = refl
 lookahead_last (Hand l) (Lined x y) ts = refl
+lookahead_last (Hand l) (Short c) ts = refl
 lookahead_last Numbered (Coded c) ts = refl
 lookahead_last Numbered (Plain k w) ts = refl
 lookahead_last Numbered (Lined x y) ts = refl
+lookahead_last Numbered (Short c) ts = refl
 
 -- a token may be the last of its item
 token_ends : (o : Origin) (i : Item) (t : Token) → fits_token o i t ≡ true → some (λ (f : Lookahead). is_ahead f (t ∷ [])) (of_item of i).ends ≡ true
@@ -262,6 +270,7 @@ token_ends o (Sign c code) t h = token_leads o (Sign c code) t [] h
 token_ends o (Among a b code) t h = token_leads o (Among a b code) t [] h
 token_ends o (ProgramWord c) t h = token_leads o (ProgramWord c) t [] h
 token_ends o (Ignored c) t h = cc
+token_ends o (ShortWord c) t h = token_leads o (ShortWord c) t [] h
 token_ends o Comma t h = token_leads o Comma t [] h
 token_ends o LeftOut t h = cc
 token_ends o End t h = cc

@@ -1,14 +1,14 @@
 -- A text that begins with a token that is typed by hand, a word, a sign or a line number.
-use Rattle.std.proofs.Common.{◌≡◌, ℕ, suc, ◌+◌, ◌-◌, ◌<◌, Bool, true, false, not, if◌then◌else◌, ◌==◌, ◌&&◌, List, [], ◌∷◌, ◌++◌, length, get_or, drop, refl, sym, ap, subst, ◌∙◌, arith, nat_le, nat_lt, length-append, inl, inr, ◌⊎◌}
+use Rattle.std.proofs.Common.{◌≡◌, ℕ, suc, ◌+◌, ◌-◌, ◌<◌, Bool, true, false, not, if◌then◌else◌, ◌==◌, ◌&&◌, List, [], ◌∷◌, ◌++◌, length, get_or, drop, refl, sym, ap, subst, ◌∙◌, arith, nat_le, nat_lt, length-append, inl, inr, ◌⊎◌, Err}
 use Rattle.std.proofs.Math.Seq.{drop-append_seam}
 use Rattle.std.proofs.lemmas.Bool.Decides.{nat_tests}
 use Rattle.b2_base.specs.Lexical.{capped_value, digits_width, first, is_digit, is_hex_digit, is_letter, upper}
-use Rattle.b2_atom.specs.Words.{Text, kept_byte, ahead, skipped, begins_with}
+use Rattle.b2_atom.specs.Words.{Text, kept_byte, ahead, skipped, begins_with, short_stands, short_width}
 use Rattle.b2_atom.specs.Tokens.{Token}
-use Rattle.b2_atom.specs.Tokens.Token.{Coded, Plain, Lined}
+use Rattle.b2_atom.specs.Tokens.Token.{Coded, Short, Plain, Lined}
 use Rattle.b2_atom.specs.Tree.{one}
-use Rattle.b2_atom.specs.Leaves.{name_width, is_alpha_name, leaf_width}
-use Rattle.b2_atom.specs.Grammar.{read_leaf, plain, line_number_at, begins_let, spelled_after, is_line}
+use Rattle.b2_atom.specs.Leaves.{name_width, is_alpha_name, leaf_width, refused}
+use Rattle.b2_atom.specs.Grammar.{read_leaf, short_word, short_word_at, plain, line_number_at, begins_let, spelled_after, is_line}
 use Rattle.b2_atom.specs.Spelling.{Begins, is_classed, is_beg, here, Named, ShowsName, ShowsHex}
 use Rattle.b2_atom.specs.declared.words.Origin.{Origin}
 use Rattle.b2_atom.specs.declared.words.Origin.TheVariants.{Program, Immediate, Atoms}
@@ -364,6 +364,26 @@ begins_coded o c behind s u y e is less open_ close_ lets begs = record {
   lets = λ h. ap (begins_let o) e ∙ lets;
   begs = λ h. ap (λ (t : Text). (ahead o t).0 == 66 && spelled_after o (ahead o t).1 69 71) e
       ∙ ap (λ (p : ℕ × Text). p.0 == 66 && spelled_after o p.1 69 71) is ∙ begs;
+  name = tt;
+  hex = tt;
+  line = tt;
+}
+
+-- a short word
+read_short : (o : Origin) (c : ℕ) (u y : Text) → short_stands o c u ≡ true → drop (short_width o) u ≡ y → short_word_at o c u ≡ one (Short c) y
+read_short o c u y h e = ap (λ (b : Bool). if b then one (Short c) (drop (short_width o) u) else Err (refused o 22 u)) h ∙ ap (λ (t : Text). one (Short c) t) e
+
+pub begins_short : (o : Origin) (c : ℕ) (behind : List Token) (s u y : Text) → skipped o s ≡ u → short_stands o c u ≡ true → drop (short_width o) u ≡ y → length y < length u
+    → Begins o (Short c) behind s y
+unfolding short_word
+begins_short o c behind s u y e is rest less = record {
+  reads = ap (short_word_at o c) e ∙ read_short o c u y is rest;
+  shorter = (let P : Text → Type 0 = λ t. length y < length t in subst P (sym e) less);
+  class = λ h. cc;
+  opens = λ h. cc;
+  closes = λ h. cc;
+  lets = λ h. cc;
+  begs = λ h. cc;
   name = tt;
   hex = tt;
   line = tt;

@@ -4,7 +4,7 @@ use Rattle.std.proofs.lemmas.Bool.Decides.{nat_tests}
 use Rattle.b2_base.specs.Lexical.{first, is_letter, upper}
 use Rattle.b2_atom.specs.Words.{Text, kept_byte, ahead}
 use Rattle.b2_atom.specs.Tokens.{Token, is_operand}
-use Rattle.b2_atom.specs.Tokens.Token.{Coded, Plain, Lined}
+use Rattle.b2_atom.specs.Tokens.Token.{Coded, Short, Plain, Lined}
 use Rattle.b2_atom.specs.Grammar.{spelled_after}
 use Rattle.b2_atom.specs.Spelling.{good_token, is_free_text, is_word_or_sign, is_image, is_lettered, may_follow_code, Neighbours, AllGood, is_beg}
 use Rattle.b2_atom.specs.declared.words.TheConstants as word
@@ -91,6 +91,7 @@ letter_ahead o shown is c [] h g nb =
     ahead_letter o c (shown (Coded c) []) (letter_upper c h) (ap (λ (t : Text). is_letter (upper (first t))) (is.empty (Coded c)))
 letter_ahead o shown is c (Coded d ∷ us) h g nb = coded_ahead o shown is c d us (is_letter d) refl h g.0 (lettered c (Coded d) h nb.0)
 letter_ahead o shown is c (Plain k w ∷ us) h g nb = absurd (false_true (lettered c (Plain k w) h nb.0))
+letter_ahead o shown is c (Short d ∷ us) h g nb = absurd (false_true (lettered c (Short d) h nb.0))
 letter_ahead o shown is c (Lined high low ∷ us) h g nb =
     ahead_letter o c (shown (Coded c) (Lined high low ∷ us)) (letter_upper c h) ((is.first_is (Coded c) (Lined high low) us g.0).lined refl)
 
@@ -130,6 +131,7 @@ third : (o : Origin) (shown : Token → List Token → Text) → Showing o shown
 third o shown is [] g nb = no_letter o (shown (Coded 69) []) 71 (no_g o) (ap (λ (t : Text). is_letter (upper (first t))) (is.empty (Coded 69)))
 third o shown is (Coded e ∷ vs) g nb = third_coded o shown is e vs (is_letter e) refl g.0 (lettered 69 (Coded e) refl nb.0)
 third o shown is (Plain k w ∷ vs) g nb = absurd (false_true (lettered 69 (Plain k w) refl nb.0))
+third o shown is (Short d ∷ vs) g nb = absurd (false_true (lettered 69 (Short d) refl nb.0))
 third o shown is (Lined high low ∷ vs) g nb =
     no_letter o (shown (Coded 69) (Lined high low ∷ vs)) 71 (no_g o) ((is.first_is (Coded 69) (Lined high low) vs g.0).lined refl)
 
@@ -138,6 +140,7 @@ beg_second : (d : ℕ) (us : List Token) → (d == 69) ≡ false → is_beg (Cod
 beg_second d [] h = refl
 beg_second d (Coded e ∷ us) h = ap (λ (b : Bool). b && e == 71) h
 beg_second d (Plain k w ∷ us) h = refl
+beg_second d (Short e ∷ us) h = refl
 beg_second d (Lined high low ∷ us) h = refl
 
 none_behind : (o : Origin) (t : Text) → is_letter (upper (first t)) ≡ false → spelled_after o t 69 71 ≡ false
@@ -160,6 +163,7 @@ second : (o : Origin) (shown : Token → List Token → Text) → Showing o show
 second o shown is [] g nb = none_behind o (shown (Coded 66) []) (ap (λ (t : Text). is_letter (upper (first t))) (is.empty (Coded 66)))
 second o shown is (Coded d ∷ us) g nb = second_coded o shown is d us (is_letter d) refl g (later (Coded 66) (Coded d ∷ us) nb) (lettered 66 (Coded d) refl nb.0)
 second o shown is (Plain k w ∷ us) g nb = absurd (false_true (lettered 66 (Plain k w) refl nb.0))
+second o shown is (Short d ∷ us) g nb = absurd (false_true (lettered 66 (Short d) refl nb.0))
 second o shown is (Lined high low ∷ us) g nb =
     none_behind o (shown (Coded 66) (Lined high low ∷ us)) ((is.first_is (Coded 66) (Lined high low) us g.0).lined refl)
 
@@ -168,8 +172,10 @@ beg_not c [] h = refl
 beg_not c (Coded d ∷ []) h = refl
 beg_not c (Coded d ∷ Coded e ∷ ts) h = ap (λ (b : Bool). b && (d == 69 && e == 71)) h
 beg_not c (Coded d ∷ Plain k w ∷ ts) h = refl
+beg_not c (Coded d ∷ Short e ∷ ts) h = refl
 beg_not c (Coded d ∷ Lined high low ∷ ts) h = refl
 beg_not c (Plain k w ∷ ts) h = refl
+beg_not c (Short d ∷ ts) h = refl
 beg_not c (Lined high low ∷ ts) h = refl
 
 beg_by : (o : Origin) (shown : Token → List Token → Text) → Showing o shown → (c : ℕ) (ts : List Token) (b : Bool) → (c == 66) ≡ b → AllGood ts → Neighbours (Coded c ∷ ts)

@@ -1,20 +1,20 @@
 -- The canonical source: what follows a token there, and that it makes no other word of DATA and PRINT.
-use Rattle.std.proofs.Common.{◌≡◌, ℕ, ◌+◌, ◌-◌, ◌<◌, Bool, true, false, not, ◌==◌, ◌||◌, ◌&&◌, List, [], ◌∷◌, ◌++◌, length, get_or, refl, sym, ap, subst, ◌∙◌, arith}
+use Rattle.std.proofs.Common.{◌≡◌, ℕ, ◌+◌, ◌-◌, ◌<◌, Bool, true, false, not, ◌==◌, ◌||◌, ◌&&◌, List, [], ◌∷◌, ◌++◌, length, get_or, refl, sym, ap, subst, ◌∙◌, arith, inl, inr, ◌⊎◌}
 use Rattle.std.proofs.lemmas.Bool.Decides.{nat_tests}
 use Rattle.b2_base.specs.Lexical.{first, is_decimal, is_digit, is_letter, upper}
-use Rattle.b2_atom.specs.Words.{Text, all_words, word_text}
+use Rattle.b2_atom.specs.Words.{Text, all_words, word_text, is_short, short_text}
 use Rattle.b2_atom.specs.Tokens.{Token, listed, maybe_spaced, spelled, is_apart, is_word, ends_wordy, begins_wordy, is_operand, last, closes}
-use Rattle.b2_atom.specs.Tokens.Token.{Coded, Plain, Lined}
+use Rattle.b2_atom.specs.Tokens.Token.{Coded, Short, Plain, Lined}
 use Rattle.b2_atom.specs.Grammar.{is_among}
 use Rattle.b2_atom.specs.Spelling.{good_token, plain_signs, is_in, is_dollar}
 use Rattle.b2_atom.specs.declared.words.TheConstants as word
 use Rattle.b2_atom.specs.declared.words.Origin.{Origin}
-use Rattle.b2_atom.proofs.Booleans.{and_left, and_right, false_true, not_true}
+use Rattle.b2_atom.proofs.Booleans.{and_left, and_right, false_true, not_true, or_cases, equal}
 use Rattle.b2_atom.proofs.typed.Longest.{every, below, at_below, and_none}
 use Rattle.b2_atom.proofs.typed.WordsRead.{is_code, word_some, code_less, code_again}
 use Rattle.b2_atom.proofs.typed.Characters.{ends_relation}
 use Rattle.b2_atom.proofs.typed.LineNumbers.{LineShown, line_shown}
-use Rattle.b2_atom.proofs.spelling.SideBySide.{FirstOf, Showing, quiet, coded_first, among_signs, or_none}
+use Rattle.b2_atom.proofs.spelling.SideBySide.{FirstOf, Showing, quiet, coded_first, short_first, among_signs, or_none}
 use Rattle.b2_atom.proofs.spelling.SpellsAtoms.{good_first}
 
 -- the words by their codes
@@ -155,6 +155,16 @@ coded_by operand c x false is g apart =
     let P : Text → Type 0 = λ t. FirstOf operand (Coded c) (first (t ++ x)) in
     subst P (sym (spelled_sign c is)) (coded_first operand c g)
 
+-- a fact of both short words
+pub of_short : (P : ℕ → Type 0) → P word.DA → P word.BA → (c : ℕ) → is_short c ≡ true → P c
+of_short P da ba c h = elim (or_cases (c == word.DA) (c == word.BA) h) [
+  | inl e ↦ subst P (sym (equal c word.DA e)) da
+  | inr e ↦ subst P (sym (equal c word.BA e)) ba
+]
+
+short_front : (x : Text) (c : ℕ) → is_short c ≡ true → ends_relation (first (short_text c ++ x)) ≡ true
+short_front x c h = of_short (λ d. ends_relation (first (short_text d ++ x)) ≡ true) refl refl c h
+
 pub or_second : (a b : Bool) → (a || b) ≡ false → b ≡ false
 or_second true b h = cc
 or_second false b h = h
@@ -166,6 +176,7 @@ or_first false b h = refl
 apart_by : (wordy operand : Bool) (u : Token) (x : Text) (b : Bool) → is_apart wordy operand u ≡ b → good_token u ≡ true → FirstOf operand u (first (maybe_spaced b (spelled u) ++ x))
 apart_by wordy operand u x true is g = blank_first operand u
 apart_by wordy operand (Coded c) x false is g = coded_by operand c x (is_word c) refl g (or_second (wordy && not (closes (Coded c))) (operand && begins_wordy (Coded c)) is)
+apart_by wordy operand (Short c) x false is g = short_first operand c (first (short_text c ++ x)) (short_front x c g)
 apart_by wordy operand (Plain k w) x false is g = good_first operand k w x g
 apart_by wordy operand (Lined high low) x false is g =
     line_first operand high low (spelled (Lined high low)) x (line_shown high low (and_left (is_decimal high) (is_decimal low) g) (and_right (is_decimal high) (is_decimal low) g))

@@ -1,9 +1,9 @@
 -- Each byte of the canonical source may stand in a line.
 use Rattle.std.proofs.Common.{◌≡◌, ℕ, Bool, true, false, List, [], ◌∷◌, ◌++◌, length, get_or, refl, ap, ◌∙◌, nat_lt}
 use Rattle.b2_atom.specs.declared.words.TheConstants as word
-use Rattle.b2_atom.specs.Words.{Text, all_words}
+use Rattle.b2_atom.specs.Words.{Text, all_words, short_text}
 use Rattle.b2_atom.specs.Tokens.{Token, listed, maybe_spaced, spelled, is_apart, is_word, ends_wordy, is_operand}
-use Rattle.b2_atom.specs.Tokens.Token.{Coded, Plain, Lined}
+use Rattle.b2_atom.specs.Tokens.Token.{Coded, Short, Plain, Lined}
 use Rattle.b2_base.specs.Lexical.{all_printable, is_decimal, is_printable}
 use Rattle.b2_atom.specs.Spelling.{good_token, is_whole, plain_signs, AllGood}
 use Rattle.b2_atom.specs.declared.forms.Leaf.{Leaf}
@@ -13,7 +13,7 @@ use Rattle.b2_atom.proofs.typed.Longest.{every, below}
 use Rattle.b2_atom.proofs.typed.LineNumbers.{line_printable}
 use Rattle.b2_atom.proofs.typed.CleanLeaves.{whole_printable}
 use Rattle.b2_atom.proofs.spelling.SideBySide.{among_signs, whole_width, is_text}
-use Rattle.b2_atom.proofs.spelling.Listed.{at_code, good_word, good_sign, spelled_word, spelled_sign}
+use Rattle.b2_atom.proofs.spelling.Listed.{at_code, good_word, good_sign, spelled_word, spelled_sign, of_short}
 
 words_printable : below (λ i. all_printable (get_or all_words i [])) word.CODED ≡ true
 words_printable = refl
@@ -34,6 +34,7 @@ kind_printable k (a ∷ w) false is h = whole_printable k a w (whole_width k a w
 
 token_printable : (t : Token) → good_token t ≡ true → all_printable (spelled t) ≡ true
 token_printable (Coded c) g = coded_printable c (is_word c) refl g
+token_printable (Short c) g = of_short (λ d. all_printable (short_text d) ≡ true) refl refl c g
 token_printable (Plain k w) g = kind_printable k w (is_text k) refl g
 token_printable (Lined high low) g = line_printable high low (and_left (is_decimal high) (is_decimal low) g) (and_right (is_decimal high) (is_decimal low) g)
 

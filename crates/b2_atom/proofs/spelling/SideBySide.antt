@@ -4,7 +4,7 @@ use Rattle.std.proofs.lemmas.Bool.Decides.{nat_tests}
 use Rattle.b2_base.specs.Lexical.{first, is_digit, is_letter, upper}
 use Rattle.b2_atom.specs.Words.{Text}
 use Rattle.b2_atom.specs.Tokens.{Token, is_operand, is_operand_leaf}
-use Rattle.b2_atom.specs.Tokens.Token.{Coded, Plain, Lined}
+use Rattle.b2_atom.specs.Tokens.Token.{Coded, Short, Plain, Lined}
 use Rattle.b2_atom.specs.Leaves.{leaf_width}
 use Rattle.b2_atom.specs.Grammar.{is_among}
 use Rattle.b2_atom.specs.Spelling.{is_whole, plain_signs, is_in, good_token, is_word_or_sign, is_literal, is_free_text, is_image, is_dollar, is_unrelated, may_follow_leaf, Neighbours, AllGood}
@@ -100,6 +100,10 @@ coded_first operand d h = record {
   unrelated = λ m. byte_unrelated d (coded_byte d h) (and_left (not (d == 61)) true m);
   lined = λ m. cc;
 }
+
+-- a short word, before which no blank stands
+pub short_first : (operand : Bool) (c n : ℕ) → ends_relation n ≡ true → FirstOf operand (Short c) n
+short_first operand c n h = record { symbol = λ m o. cc; dollar = λ m k. cc; unrelated = λ m. h; lined = λ m. cc }
 
 -- the first byte of what is typed by hand
 front_unrelated : (k : Leaf) (a : ℕ) (w : Text) → front k a ≡ true → (is_unrelated (Plain k w) && not (is_free_text (Plain k w) || is_image (Plain k w))) ≡ true → ends_relation a ≡ true

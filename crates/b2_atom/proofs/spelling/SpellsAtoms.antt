@@ -1,9 +1,9 @@
 -- The atoms of tokens spell them.
-use Rattle.std.proofs.Common.{◌≡◌, ℕ, Bool, true, false, if◌then◌else◌, ◌&&◌, List, [], ◌∷◌, ◌++◌, length, refl, sym, ap, subst, ◌∙◌, arith, nat_lt, append-nil, Err}
+use Rattle.std.proofs.Common.{◌≡◌, ℕ, Bool, true, false, if◌then◌else◌, ◌==◌, ◌&&◌, List, [], ◌∷◌, ◌++◌, length, refl, sym, ap, subst, ◌∙◌, arith, nat_lt, append-nil, Err}
 use Rattle.b2_base.specs.Lexical.{all_printable, first, is_decimal}
-use Rattle.b2_atom.specs.Words.{Text}
+use Rattle.b2_atom.specs.Words.{Text, is_short}
 use Rattle.b2_atom.specs.Tokens.{Token, is_operand}
-use Rattle.b2_atom.specs.Tokens.Token.{Coded, Plain, Lined}
+use Rattle.b2_atom.specs.Tokens.Token.{Coded, Short, Plain, Lined}
 use Rattle.b2_atom.specs.Tree.{one}
 use Rattle.b2_atom.specs.Grammar.{read_leaf}
 use Rattle.b2_atom.specs.Spelling.{Begins, Spells, AllGood, Neighbours, good_token, is_whole, atoms_of_tokens}
@@ -12,9 +12,11 @@ use Rattle.b2_atom.specs.declared.words.Origin.TheVariants.{Atoms}
 use Rattle.b2_atom.specs.declared.forms.Leaf.{Leaf}
 use Rattle.b2_atom.specs.declared.forms.Leaf.TheVariants as leaf
 use Rattle.b2_atom.specs.declared.output.Stop.TheVariants.{At}
-use Rattle.b2_atom.proofs.Booleans.{and_left, and_right, false_true}
-use Rattle.b2_atom.proofs.spelling.Begun.{begins_plain, begins_coded, begins_lined}
-use Rattle.b2_atom.proofs.spelling.SideBySide.{Showing, FirstOf, coded_first, plain_first, text_first, later, whole_width, not_empty, is_text, leaf_ends}
+use Rattle.std.proofs.lemmas.Bool.Decides.{nat_tests}
+use Rattle.b2_atom.proofs.Booleans.{and_left, and_right, both, false_true}
+use Rattle.b2_atom.proofs.typed.Characters.{ends_relation}
+use Rattle.b2_atom.proofs.spelling.Begun.{begins_plain, begins_coded, begins_short, begins_lined}
+use Rattle.b2_atom.proofs.spelling.SideBySide.{Showing, FirstOf, coded_first, short_first, plain_first, text_first, later, whole_width, not_empty, is_text, leaf_ends}
 use Rattle.b2_atom.proofs.spelling.Lettered.{beg_shown}
 
 -- free text is all that is left
@@ -46,8 +48,12 @@ good_first operand k (a ∷ w) x h = kind_first operand k a w (is_text k) refl h
 line_first : (operand : Bool) (high low : ℕ) → FirstOf operand (Lined high low) 255
 line_first operand high low = record { symbol = λ m o. cc; dollar = λ m n. cc; unrelated = λ m. refl; lined = λ m. refl }
 
+short_unrelated : (c : ℕ) → is_short c ≡ true → ends_relation c ≡ true
+short_unrelated c h = grind (arith, nat_tests)
+
 atoms_first : (t u : Token) (us : List Token) → good_token u ≡ true → FirstOf (is_operand t) u (first (atoms_of_tokens (u ∷ us)))
 atoms_first t (Coded d) us h = coded_first (is_operand t) d h
+atoms_first t (Short c) us h = short_first (is_operand t) c c (short_unrelated c h)
 atoms_first t (Plain k w) us h = good_first (is_operand t) k w (atoms_of_tokens us) h
 atoms_first t (Lined high low) us h = line_first (is_operand t) high low
 
@@ -63,6 +69,13 @@ unfolding atoms_behind
 coded_atoms c ts g nb =
     begins_coded Atoms c ts (c ∷ atoms_of_tokens ts) (c ∷ atoms_of_tokens ts) (atoms_of_tokens ts) refl refl (omega arith) refl refl refl
     (beg_shown Atoms atoms_behind atoms_shown c ts g nb)
+
+itself : (c : ℕ) → (c == c) ≡ true
+itself c = grind (arith, nat_tests)
+
+short_atoms : (c : ℕ) (ts : List Token) → is_short c ≡ true → Begins Atoms (Short c) ts (c ∷ atoms_of_tokens ts) (atoms_of_tokens ts)
+short_atoms c ts h =
+    begins_short Atoms c ts (c ∷ atoms_of_tokens ts) (c ∷ atoms_of_tokens ts) (atoms_of_tokens ts) refl (both (is_short c) (c == c) h (itself c)) refl (omega arith)
 
 lined_at : (high low code : ℕ) (y : Text) (a b : Bool) → is_decimal high ≡ a → is_decimal low ≡ b → a ≡ true → b ≡ true
     → (if a && b then one (Lined high low) y else Err (At code (length (255 ∷ high ∷ low ∷ y)))) ≡ one (Lined high low) y
@@ -102,5 +115,6 @@ whole_atoms k (a ∷ w) ts h g nb = plain_atoms k a w ts (is_text k) refl h g nb
 pub spells_atoms : (ts : List Token) → AllGood ts → Neighbours ts → Spells Atoms ts (atoms_of_tokens ts)
 spells_atoms [] g nb = refl
 spells_atoms (Coded c ∷ ts) g nb = (atoms_of_tokens ts, (coded_atoms c ts g.1 nb, spells_atoms ts g.1 (later (Coded c) ts nb)))
+spells_atoms (Short c ∷ ts) g nb = (atoms_of_tokens ts, (short_atoms c ts g.0, spells_atoms ts g.1 (later (Short c) ts nb)))
 spells_atoms (Plain k w ∷ ts) g nb = (atoms_of_tokens ts, (whole_atoms k w ts g.0 g.1 nb, spells_atoms ts g.1 (later (Plain k w) ts nb)))
 spells_atoms (Lined high low ∷ ts) g nb = (atoms_of_tokens ts, (lined_atoms high low ts g.0, spells_atoms ts g.1 (later (Lined high low) ts nb)))

@@ -1,11 +1,11 @@
 -- The canonical source of tokens spells them.
-use Rattle.std.proofs.Common.{◌≡◌, ℕ, suc, ◌<◌, Bool, true, false, not, if◌then◌else◌, ◌==◌, ◌||◌, ◌&&◌, List, [], ◌∷◌, ◌++◌, length, refl, sym, ap, subst, ◌∙◌, arith, nat_lt, append-nil, length-append}
+use Rattle.std.proofs.Common.{◌≡◌, ℕ, suc, ◌<◌, Bool, true, false, not, if◌then◌else◌, ◌==◌, ◌||◌, ◌&&◌, List, [], ◌∷◌, ◌++◌, length, drop, refl, sym, ap, subst, ◌∙◌, arith, nat_lt, append-nil, length-append}
 use Rattle.std.specs.Prelude.{codes}
 use Rattle.std.proofs.lemmas.Bool.Decides.{nat_tests}
 use Rattle.b2_base.specs.Lexical.{all_printable, first, is_decimal, is_digit, is_hex_digit, is_letter, skip_blanks, upper}
-use Rattle.b2_atom.specs.Words.{Text, ahead, skipped, word_text, begins_with, is_source, typed_ahead}
+use Rattle.b2_atom.specs.Words.{Text, ahead, skipped, word_text, begins_with, is_source, typed_ahead, is_short, short_text, short_stands, short_width}
 use Rattle.b2_atom.specs.Tokens.{Token, listed, maybe_spaced, spelled, is_apart, is_word, ends_wordy, begins_wordy, is_operand, closes}
-use Rattle.b2_atom.specs.Tokens.Token.{Coded, Plain, Lined}
+use Rattle.b2_atom.specs.Tokens.Token.{Coded, Short, Plain, Lined}
 use Rattle.b2_atom.specs.Tree.{one}
 use Rattle.b2_atom.specs.Leaves.{leaf_width}
 use Rattle.b2_atom.specs.Grammar.{is_line, line_number_at, typed_line_number}
@@ -17,16 +17,16 @@ use Rattle.b2_atom.specs.declared.forms.Leaf.{Leaf}
 use Rattle.b2_atom.specs.declared.forms.Leaf.TheVariants as leaf
 use Rattle.b2_atom.proofs.Booleans.{and_left, and_right, equal, not_true}
 use Rattle.b2_atom.proofs.typed.Longest.{every, below}
-use Rattle.b2_atom.proofs.typed.WordsRead.{is_code, lengthens, lengthens_word, typed_word, word_some, joins}
+use Rattle.b2_atom.proofs.typed.WordsRead.{is_code, lengthens, lengthens_word, typed_word, word_some, joins, typed_da, typed_ba}
 use Rattle.b2_atom.proofs.typed.Keywords.{is_keyword, not_at_sign, not_at_other, at_no_word, no_word_but, never_let, never_using, only_save, only_load}
 use Rattle.b2_atom.proofs.typed.LineNumbers.{LineShown, line_shown, line_read}
 use Rattle.b2_atom.proofs.typed.LeavesRead.{ends}
 use Rattle.b2_atom.proofs.typed.LeafStarts.{leaf_front}
-use Rattle.b2_atom.proofs.spelling.Begun.{begins_plain, begins_coded, begins_lined, front_no_blank, leaf_quiet, quiet_keyword, is_plain_sign, ahead_plain, let_none}
+use Rattle.b2_atom.proofs.spelling.Begun.{begins_plain, begins_coded, begins_short, begins_lined, front_no_blank, leaf_quiet, quiet_keyword, is_plain_sign, ahead_plain, let_none}
 use Rattle.b2_atom.proofs.spelling.SideBySide.{among_signs, later, whole_width, not_empty, is_text, leaf_ends, line_ends}
 use Rattle.b2_atom.proofs.spelling.Lettered.{letter_ahead, beg_shown}
 use Rattle.b2_atom.proofs.spelling.SpellsAtoms.{begins_text, text_last}
-use Rattle.b2_atom.proofs.spelling.Listed.{good_word, good_sign, word_fronts, source_behind, source_shown, spelled_word, spelled_sign, first_more, or_first, or_second}
+use Rattle.b2_atom.proofs.spelling.Listed.{good_word, good_sign, word_fronts, source_behind, source_shown, spelled_word, spelled_sign, first_more, or_first, or_second, of_short}
 
 -- the blank before a token is skipped
 skip_sure : (o : Origin) → is_source o ≡ true → (a : ℕ) (y : Text) → (a == 32) ≡ false → skipped o (a ∷ y) ≡ a ∷ y
@@ -57,6 +57,7 @@ closing_plain k (a ∷ w) x h = cc
 
 closing_first : (u : Token) (x : Text) → closes u ≡ true → closing (first (spelled u ++ x)) ≡ true
 closing_first (Coded c) x h = ap (λ (t : Text). closing (first (t ++ x))) (spelled_sign c (closing_small c h)) ∙ h
+closing_first (Short c) x h = cc
 closing_first (Plain k w) x h = closing_plain k w x h
 closing_first (Lined high low) x h = cc
 
@@ -108,8 +109,12 @@ not_free_text : (k : Leaf) (w : Text) → is_free_text (Plain k w) ≡ false →
 not_free_text leaf.Text w h = cc
 not_free_text k w h = refl
 
+short_fronted : (c : ℕ) → is_short c ≡ true → Fronted (short_text c)
+short_fronted c h = of_short (λ d. Fronted (short_text d)) (record { blank = refl; some = omega arith }) (record { blank = refl; some = omega arith }) c h
+
 pub token_fronted : (u : Token) → is_free_text u ≡ false → good_token u ≡ true → Fronted (spelled u)
 token_fronted (Coded c) n g = coded_fronted c (is_word c) refl g
+token_fronted (Short c) n g = short_fronted c g
 token_fronted (Plain k w) n g = plain_fronted k w (not_free_text k w n) g
 token_fronted (Lined high low) n g = shown_fronted (spelled (Lined high low)) (line_of high low g)
 
@@ -175,10 +180,15 @@ coded_absent v d c y true is f g other all =
 coded_absent v d c y false is f g other all =
     ap (λ (t : Text). begins_with v (t ++ y)) (spelled_sign c is) ∙ sign_absent v c y f (good_sign c g is)
 
+short_absent : (v : Text) (c : ℕ) (y : Text) → is_foreign v ≡ true → is_short c ≡ true → begins_with v (short_text c ++ y) ≡ false
+short_absent v c y f h =
+    of_short (λ d. begins_with v (short_text d ++ y) ≡ false) (hex_leaf v 68 (65 ∷ y) f refl) (hex_leaf v 66 (65 ∷ y) f refl) c h
+
 -- no such word stands where a token does
 pub absent : (v : Text) (d : ℕ) (u : Token) (us : List Token) → is_foreign v ≡ true → below (no_word_but v d) word.CODED ≡ true → is_image u ≡ false → is_free_text u ≡ false
     → ((c : ℕ) → u ≡ Coded c → is_word c ≡ true → (c == d) ≡ false) → AllGood (u ∷ us) → Neighbours (u ∷ us) → begins_with v (spelled u ++ source_behind u us) ≡ false
 absent v d (Coded c) us f all n t other g nb = coded_absent v d c (source_behind (Coded c) us) (is_word c) refl f g.0 (other c refl) all
+absent v d (Short c) us f all n t other g nb = short_absent v c (source_behind (Short c) us) f g.0
 absent v d (Plain k w) us f all n t other g nb = plain_absent v k w (source_behind (Plain k w) us) f n t g.0 (leaf_ends Program source_behind (source_shown Program) k w us g.1 nb)
 absent v d (Lined high low) us f all n t other g nb = line_absent v (spelled (Lined high low)) (source_behind (Lined high low) us) f (line_of high low g.0)
 
@@ -280,6 +290,42 @@ word_source o s apart c ts is g gs nb =
     (ap (λ (n : ℕ). n == 41) (first_more (word_text c) (source_behind (Coded c) ts) some) ∙ same_false (first (word_text c) == 41) (c == 41) is_ahead.closes (not_close c code))
     (let_none o (word_text c ++ source_behind (Coded c) ts) (at_no_word (76 ∷ 69 ∷ 84 ∷ []) 0 c (source_behind (Coded c) ts) never_let code (not_null c code)))
     (beg_shown o source_behind (source_shown o) c ts gs nb)
+
+-- short words
+behind_short : (c : ℕ) (ts : List Token) → is_letter (upper (first (source_behind (Short c) ts))) ≡ false
+unfolding source_behind
+behind_short c ts = or_first (is_letter (upper (first (source_behind (Short c) ts)))) _ (stops_listed true false ts)
+
+read_da : (o : Origin) → is_source o ≡ true → (y : Text) → is_letter (upper (first y)) ≡ false → short_stands o word.DA (68 ∷ 65 ∷ y) ≡ true
+read_da Program s y stop = ap (λ (p : ℕ × Text). p.0 == 68 && begins_with (68 ∷ 65 ∷ []) (68 ∷ 65 ∷ y)) (typed_da y stop)
+read_da Immediate s y stop = ap (λ (p : ℕ × Text). p.0 == 68 && begins_with (68 ∷ 65 ∷ []) (68 ∷ 65 ∷ y)) (typed_da y stop)
+read_da Atoms s y stop = cc
+
+read_ba : (o : Origin) → is_source o ≡ true → (y : Text) → is_letter (upper (first y)) ≡ false → short_stands o word.BA (66 ∷ 65 ∷ y) ≡ true
+read_ba Program s y stop = ap (λ (p : ℕ × Text). p.0 == 66 && begins_with (66 ∷ 65 ∷ []) (66 ∷ 65 ∷ y)) (typed_ba y stop)
+read_ba Immediate s y stop = ap (λ (p : ℕ × Text). p.0 == 66 && begins_with (66 ∷ 65 ∷ []) (66 ∷ 65 ∷ y)) (typed_ba y stop)
+read_ba Atoms s y stop = cc
+
+two_letters : (o : Origin) → is_source o ≡ true → (a b : ℕ) (y : Text) → drop (short_width o) (a ∷ b ∷ y) ≡ y
+two_letters Program s a b y = refl
+two_letters Immediate s a b y = refl
+two_letters Atoms s a b y = cc
+
+-- where a short word is spelled, it stands, and what follows it is left
+abbrev Left : Origin → Text → ℕ → Type 0
+Left o y c = (short_stands o c (short_text c ++ y) ≡ true) × (drop (short_width o) (short_text c ++ y) ≡ y)
+
+short_left : (o : Origin) → is_source o ≡ true → (c : ℕ) (y : Text) → is_short c ≡ true → is_letter (upper (first y)) ≡ false → Left o y c
+short_left o s c y h stop =
+    of_short (λ d. Left o y d) (read_da o s y stop, two_letters o s 68 65 y) (read_ba o s y stop, two_letters o s 66 65 y) c h
+
+short_source : (o : Origin) → is_source o ≡ true → (apart : Bool) (c : ℕ) (ts : List Token) → is_short c ≡ true
+    → Begins o (Short c) ts (maybe_spaced apart (short_text c) ++ source_behind (Short c) ts) (source_behind (Short c) ts)
+short_source o s apart c ts h =
+    let f = short_fronted c h in
+    let is = short_left o s c (source_behind (Short c) ts) h (behind_short c ts) in
+    begins_short o c ts (maybe_spaced apart (short_text c) ++ source_behind (Short c) ts) (short_text c ++ source_behind (Short c) ts) (source_behind (Short c) ts)
+    (skip_spaced o s apart (short_text c) (source_behind (Short c) ts) f.blank f.some) is.0 is.1 (longer (short_text c) (source_behind (Short c) ts) f.some)
 
 -- signs and letters
 letters_or_plain : every (λ c. is_letter c || is_plain_sign c) plain_signs ≡ true
@@ -397,6 +443,7 @@ free_code c w false is h = cc
 
 free_behind : (t : Token) (w : Text) → may_follow t (Plain leaf.Text w) ≡ true → NotApart t
 free_behind (Coded c) w h = free_code c w (c == word.REM || c == 37) refl h
+free_behind (Short c) w h = cc
 free_behind (Plain k v) w h = absurd (no_free_leaf k w h)
 free_behind (Lined high low) w h = cc
 
@@ -406,6 +453,7 @@ free_kind t k w h f = cc
 
 free_after : (t u : Token) → may_follow t u ≡ true → is_free_text u ≡ true → NotApart t
 free_after t (Coded c) h f = cc
+free_after t (Short c) h f = cc
 free_after t (Plain k w) h f = free_kind t k w h f
 free_after t (Lined high low) h f = cc
 
@@ -429,6 +477,13 @@ spells_source o s wordy operand (Coded c ∷ ts) g nb f = (
   (
     coded_source o s (is_apart wordy operand (Coded c)) c ts (is_word c) refl g.0 g.1 nb,
     spells_source o s (ends_wordy (Coded c)) (is_operand (Coded c)) ts g.1 (later (Coded c) ts nb) (free_next (Coded c) ts nb),
+  ),
+)
+spells_source o s wordy operand (Short c ∷ ts) g nb f = (
+  source_behind (Short c) ts,
+  (
+    short_source o s (is_apart wordy operand (Short c)) c ts g.0,
+    spells_source o s true false ts g.1 (later (Short c) ts nb) (free_next (Short c) ts nb),
   ),
 )
 spells_source o s wordy operand (Plain k w ∷ ts) g nb f = (

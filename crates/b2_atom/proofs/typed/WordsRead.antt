@@ -171,6 +171,18 @@ no_pair : (a b : ℕ) (x : Text) → every (λ v. apart (λ n. false) v (a ∷ b
 unfolding word_at
 no_pair a b x h = none (λ n. false) all_words (a ∷ b ∷ []) x (0, 0) 0 refl h
 
+-- two bytes with which no word begins, where no letter follows them
+pair_alone : (a b : ℕ) (x : Text) → is_letter (upper (first x)) ≡ false → every (λ v. apart is_letter v (a ∷ b ∷ [])) all_words ≡ true → word_at (a ∷ b ∷ x) ≡ (0, 0)
+unfolding word_at
+pair_alone a b x stop h = none is_letter all_words (a ∷ b ∷ []) x (0, 0) 0 stop h
+
+-- the letters of the short words
+pub typed_da : (x : Text) → is_letter (upper (first x)) ≡ false → typed_ahead (68 ∷ 65 ∷ x) ≡ (68, 65 ∷ x)
+typed_da x stop = typed_byte 68 (65 ∷ x) (pair_alone 68 65 x stop refl)
+
+pub typed_ba : (x : Text) → is_letter (upper (first x)) ≡ false → typed_ahead (66 ∷ 65 ∷ x) ≡ (66, 65 ∷ x)
+typed_ba x stop = typed_byte 66 (65 ∷ x) (pair_alone 66 65 x stop refl)
+
 -- the letters of BEG
 pub typed_b : (x : Text) → typed_ahead (66 ∷ 69 ∷ x) ≡ (66, 69 ∷ x)
 typed_b x = typed_byte 66 (69 ∷ x) (no_pair 66 69 x refl)
