@@ -1,12 +1,11 @@
 -- A step and a turn over two tables that list the same for their partition.
-use Rattle.std.specs.Prelude.{◌≡◌, ℕ, zero, suc, ◌==◌, Bool, List, Option, Some, None, refl, false, if◌then◌else◌}
+use Rattle.std.specs.Prelude.{◌≡◌, ℕ, zero, suc, ◌==◌, Bool, List, Option, Some, None, refl, if◌then◌else◌}
 use Rattle.std.proofs.Common.{ap, sym, subst, ◌∙◌}
 use Rattle.b2_atom.specs.declared.rows.TheConstants as row
 use Rattle.b2_flow.specs.declared.frame.Place.{Place}
 use Rattle.b2_vars.specs.Globals.{Globals}
 use Rattle.b2_access.specs.Lending.{SeenLent}
 use Rattle.b2_access.specs.Loans.{Loan}
-use Rattle.b2_access.specs.Partition.{is_ready}
 use Rattle.b2_access.specs.Placed.{Statement, statement_placed}
 use Rattle.b2_access.specs.Planning.{Finishing, Planning}
 use Rattle.b2_access.specs.Sharing.{ServingOf}
@@ -18,18 +17,20 @@ use Rattle.b2_access.specs.declared.lending.At.{At}
 use Rattle.b2_access.specs.declared.private.Private.{Private}
 use Rattle.b2_language.specs.Languages.{AreLawful, GoByListed, ListAlike, Ways}
 use Rattle.b2_machine.specs.Listed.{named_range}
-use Rattle.b2_machine.specs.Readiness.{halted}
+use Rattle.b2_machine.specs.Readiness.{without_halt}
 use Rattle.b2_machine.specs.Statements.{Begun, begins, begins_where, begun, builder_of, ends_with, finish_by, left_where, leaves, plan_by}
-use Rattle.b2_machine.specs.Step.{StepEnd, acts, by_itself, carries_out, enters_or_goes_on, executes, goes_through, halts_or_acts, lent_to_begin, resets_by, runs_or_reads, seen_by, shows_or_goes_on, step, types_or_goes_on, whose_by}
+use Rattle.b2_machine.specs.Step.{StepEnd, by_itself, carries_out, goes_through, lent_to_begin, seen_by, step, steps_by, whose_by}
 use Rattle.b2_machine.specs.Tables.{StepsGoByListed, TurnsGoByListed}
 use Rattle.b2_machine.specs.Turn.{TurnEnd, counted_on, ended_turn, passed_one, passes_none, passes_turn, turn_from, unless_ended}
 use Rattle.b2_machine.specs.declared.ends.Why.TheVariants as reason
-use Rattle.b2_machine.specs.declared.moving.Onward.{Onward}
 use Rattle.b2_machine.specs.declared.statements.Builder.{Builder}
 use Rattle.b2_machine.specs.declared.statements.Builder.TheVariants as builder
 use Rattle.b2_machine.specs.declared.statements.Progress.{Progress}
 use Rattle.b2_machine.specs.declared.statements.Progress.TheVariants as progress
 use Rattle.b2_machine.proofs.StepPart.{steps_keep_part}
+use Rattle.b2_machine.specs.Due.{due}
+use Rattle.b2_machine.specs.declared.rules.Rule.{Rule}
+use Rattle.b2_machine.specs.declared.rules.Rule.TheVariants as rule
 
 -- two languages that plan the same for a partition, and else are the same
 pub record PlanAlike (who : ℕ) (v w : Ways) : Type 0 where
@@ -72,9 +73,8 @@ module _ (who : ℕ) (v w : Ways) (alike : PlanAlike who v w) where
         let s = seen_by part p.home whose (store g.after) in
         ap (λ (f : Finishing). by_itself store serving lending (ends_with f g.answer on p s.home.lines) (lending part p.home whose g.after f.globals)) (same_finish b a g.answer me s)
 
-    at_place : (x : Option Place) (me : Private) (m : M) → me.part ≡ who → runs_or_reads v store serving lending x me m ≡ runs_or_reads w store serving lending x me m
-    at_place None me m is = refl
-    at_place (Some p) me m is =
+    by_rule : (r : Rule) (me : Private) (m : M) → me.part ≡ who → steps_by v store serving lending r me m ≡ steps_by w store serving lending r me m
+    by_rule (rule.Execute p) me m is =
         let whose = whose_by p me (store m) in
         let s = seen_by me.part p.home whose (store m) in
         let u = statement_placed p me.immediate s.home.lines in
@@ -82,26 +82,10 @@ module _ (who : ℕ) (v w : Ways) (alike : PlanAlike who v w) where
         ap (λ (x : Begun). goes_through v store serving lending me.part x p whose (lent_to_begin store serving lending me.part p.home whose m (leaves v p me s))) (begins_alike u p me s is)
         ∙ (ap (λ (left : Globals). goes_through v store serving lending me.part b p whose (lent_to_begin store serving lending me.part p.home whose m left)) (leaves_alike u p me s is)
         ∙ carried_alike me.part b.progress p whose b.me (lent_to_begin store serving lending me.part p.home whose m (leaves w p me s)))
-
-    at_number : (x : Option (ℕ × Option (List ℕ))) (me : Private) (m : M) → me.part ≡ who → enters_or_goes_on v store serving lending x me m ≡ enters_or_goes_on w store serving lending x me m
-    at_number (Some line) me m is = refl
-    at_number None me m is = at_place me.place me m is
-
-    at_literal : (x : Option (List ℕ)) (me : Private) (m : M) → me.part ≡ who → types_or_goes_on v store serving lending x me m ≡ types_or_goes_on w store serving lending x me m
-    at_literal (Some text) me m is = refl
-    at_literal None me m is = at_number me.numbered me m is
-
-    at_output : (x : Option (List ℕ × List ℕ)) (me : Private) (m : M) → me.part ≡ who → shows_or_goes_on v store serving lending x me m ≡ shows_or_goes_on w store serving lending x me m
-    at_output (Some shown) me m is = refl
-    at_output None me m is = at_literal me.literal me m is
-
-    at_halt : (me : Private) (m : M) → me.part ≡ who → halts_or_acts v store serving lending me m ≡ halts_or_acts w store serving lending me m
-    at_halt me m is = ap (λ (x : StepEnd M). if is_ready me then x else by_itself store serving lending (halted me) m) (at_output me.pending (record me { halt = false }) m is)
+    by_rule r me m is = refl
 
     step_alike : (me : Private) (m : M) → me.part ≡ who → step v store serving lending me m ≡ step w store serving lending me m
-    step_alike me m is =
-        ap (λ (x : StepEnd M). if me.reset then resets_by store serving lending me m else (if me.halt then x else acts v store serving lending me m)) (at_halt me m is)
-        ∙ ap (λ (x : StepEnd M). if me.reset then resets_by store serving lending me m else (if me.halt then halts_or_acts w store serving lending me m else x)) (at_output me.pending me m is)
+    step_alike me m is = by_rule (due me) (without_halt me) m is
 
 module _ (ways : List Device → Ways) (by_listed : GoByListed ways) (lawful : (devices : List Device) → AreLawful (ways devices)) where
   plan_alike : (ds es : List Device) (who : ℕ) → ListAlike who ds es → PlanAlike who (ways ds) (ways es)

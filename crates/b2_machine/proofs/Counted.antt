@@ -1,5 +1,5 @@
 -- A step that doesn't count ends its turn.
-use Rattle.std.proofs.Common.{refl, ℕ, Bool, true, false, if◌then◌else◌, List, Option, Some, None}
+use Rattle.std.proofs.Common.{refl, ℕ, Bool, true, false, if◌then◌else◌, Option, Some, None}
 use Rattle.b2_flow.specs.declared.frame.Place.{Place}
 use Rattle.b2_text.specs.Program.{Lines}
 use Rattle.b2_access.specs.Lending.{SeenLent}
@@ -23,15 +23,18 @@ use Rattle.b2_language.specs.Following.{following_place}
 use Rattle.b2_machine.specs.Counting.{CountsOrEnds, StepsCountOrEnd}
 use Rattle.b2_machine.specs.Endings.{counts, ends_turn, repeats}
 use Rattle.b2_machine.specs.Moving.{ends_by, ends_onward, error_place, faults, goes_to, onward_from, place_onward}
-use Rattle.b2_machine.specs.Readiness.{halted}
+use Rattle.b2_machine.specs.Readiness.{without_halt}
 use Rattle.b2_machine.specs.Statements.{begins_where, begun_by, builder_of, finish_by, finishes, leaves, plan_by}
-use Rattle.b2_machine.specs.Step.{acts, by_itself, enters_or_goes_on, executes, goes_through, halts_or_acts, lent_to_begin, line_read, resets_by, runs_or_reads, seen_by, shows_or_goes_on, types_or_goes_on, whose_by}
-use Rattle.b2_machine.specs.Typing.{put_by, shown_by, shows_pending, typed_by_key}
+use Rattle.b2_machine.specs.Step.{executes, goes_through, lent_to_begin, line_read, seen_by, steps_by, whose_by}
+use Rattle.b2_machine.specs.Typing.{put_by, shown_by, shows_output, typed_by_key}
 use Rattle.b2_machine.specs.declared.ends.Stepped.{Stepped}
 use Rattle.b2_machine.specs.declared.ends.Why.{Why}
 use Rattle.b2_machine.specs.declared.ends.Why.TheVariants as reason
 use Rattle.b2_machine.specs.declared.moving.Onward.{Onward}
 use Rattle.b2_machine.specs.declared.statements.Builder.{Builder}
+use Rattle.b2_machine.specs.Due.{due}
+use Rattle.b2_machine.specs.declared.rules.Rule.{Rule}
+use Rattle.b2_machine.specs.declared.rules.Rule.TheVariants as rule
 
 counting : CountsOrEnds counts
 counting h = cc
@@ -105,38 +108,18 @@ module _ (ways : Ways) {M : Type 0} (store : M → StoreState) (serving : Servin
   read (answer.Special n) me m = counting
   read a me m = repeating a
 
-  run : (o : Option Place) (me : Private) (m : M) → CountsOrEnds (runs_or_reads ways store serving lending o me m).end
-  run None me m = let g = serving m me.part (access.ReadLine me.term) in read g.answer me g.after
-  run (Some p) me m = executed p me m
-
-  enter : (o : Option (ℕ × Option (List ℕ))) (me : Private) (m : M) → CountsOrEnds (enters_or_goes_on ways store serving lending o me m).end
-  enter None me m = run me.place me m
-  enter (Some line) me m = put _ me
-
-  type_ : (o : Option (List ℕ)) (me : Private) (m : M) → CountsOrEnds (types_or_goes_on ways store serving lending o me m).end
-  type_ None me m = enter me.numbered me m
-  type_ (Some text) me m = typed _ me
-
-  show : (o : Option (List ℕ × List ℕ)) (me : Private) (m : M) → CountsOrEnds (shows_or_goes_on ways store serving lending o me m).end
-  show None me m = type_ me.literal me m
-  show (Some waiting) me m = shown (shows_pending waiting.0 waiting.1 me) _ me
-
-  halt : (b : Bool) (me : Private) (m : M) → CountsOrEnds (if b then acts ways store serving lending (record me { halt = false }) m else by_itself store serving lending (halted me) m).end
-  halt true me m = show me.pending (record me { halt = false }) m
-  halt false me m = ending reason.Ready
-
-  act : (b : Bool) (me : Private) (m : M) → CountsOrEnds (if b then halts_or_acts ways store serving lending me m else acts ways store serving lending me m).end
-  act true me m = halt (is_ready me) me m
-  act false me m = show me.pending me m
-
   reset : (b : Bool) → CountsOrEnds (if b then counts else ends_turn reason.Ready)
   reset true = counting
   reset false = ending reason.Ready
 
-  any : (b : Bool) (me : Private) (m : M)
-      → CountsOrEnds (if b then resets_by store serving lending me m else (if me.halt then halts_or_acts ways store serving lending me m else acts ways store serving lending me m)).end
-  any true me m = reset (is_ready me)
-  any false me m = act me.halt me m
+  by_rule : (r : Rule) (me : Private) (m : M) → CountsOrEnds (steps_by ways store serving lending r me m).end
+  by_rule rule.Reset me m = reset (is_ready me)
+  by_rule rule.Halt me m = ending reason.Ready
+  by_rule rule.Show me m = shown (shows_output me) _ me
+  by_rule rule.Insert me m = typed _ me
+  by_rule rule.Read me m = let g = serving m me.part (access.ReadLine me.term) in read g.answer me g.after
+  by_rule rule.Put me m = put _ me
+  by_rule (rule.Execute p) me m = executed p me m
 
   pub steps_count_or_end : StepsCountOrEnd ways store serving lending
-  steps_count_or_end me m = any me.reset me m
+  steps_count_or_end me m = by_rule (due me) (without_halt me) m

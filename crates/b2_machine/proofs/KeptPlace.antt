@@ -18,7 +18,7 @@ use Rattle.b2_text.specs.Spots.{first_opening, is_mark}
 use Rattle.b2_text.specs.declared.spots.Spot.{Spot}
 use Rattle.b2_access.specs.Lending.{SeenLent}
 use Rattle.b2_access.specs.Loans.{Loan}
-use Rattle.b2_access.specs.Partition.{KeepsNone, is_ready}
+use Rattle.b2_access.specs.Partition.{KeepsNone}
 use Rattle.b2_access.specs.Placed.{Statement, statement_placed}
 use Rattle.b2_access.specs.Places.{goal_place, line_start}
 use Rattle.b2_access.specs.Sharing.{ServingOf}
@@ -38,12 +38,12 @@ use Rattle.b2_language.specs.Following.{following_place, moves_to, units_at}
 use Rattle.b2_machine.specs.Keys.{calls, calls_where, pressed_by}
 use Rattle.b2_machine.specs.Listed.{lists}
 use Rattle.b2_machine.specs.Moving.{ends_by, ends_onward, enters_program, error_place, faults, goes_to, is_continue, is_taken, onward_from, place_onward}
-use Rattle.b2_machine.specs.Readiness.{halted}
+use Rattle.b2_machine.specs.Readiness.{without_halt}
 use Rattle.b2_machine.specs.Statements.{begins_where, begun_by, builder_of, finish_by, finishes, leaves, plan_by}
 use Rattle.b2_access.specs.KeyLiterals.{typed_by_mark}
 use Rattle.b2_access.proofs.Choice.{either}
-use Rattle.b2_machine.specs.Step.{acts, by_itself, enters_or_goes_on, executes, goes_through, halts_or_acts, lent_to_begin, line_read, resets_by, runs_or_reads, seen_by, shows_or_goes_on, step, text_in, types_or_goes_on, whose_by}
-use Rattle.b2_machine.specs.Typing.{put_by, shown_by, shows_pending, takes, takes_or_refuses, typed_by_key}
+use Rattle.b2_machine.specs.Step.{executes, goes_through, lent_to_begin, line_read, seen_by, step, steps_by, text_in, whose_by}
+use Rattle.b2_machine.specs.Typing.{put_by, shown_by, shows_output, takes, takes_or_refuses, typed_by_key}
 use Rattle.b2_machine.specs.Turn.{TurnEnd, counted_on, ended_turn as turn_ended, passes_none, turn, turn_from, unless_ended}
 use Rattle.b2_machine.proofs.PassedTurns.{each_turn}
 use Rattle.b2_machine.specs.declared.ends.Stepped.{Stepped}
@@ -52,6 +52,10 @@ use Rattle.b2_machine.specs.declared.moving.Onward.{Onward}
 use Rattle.b2_machine.specs.declared.statements.Builder.{Builder}
 use Rattle.b2_machine.specs.declared.moving.Onward.TheVariants as onward
 use Rattle.b2_machine.specs.declared.statements.Builder.TheVariants as builder
+use Rattle.b2_machine.specs.Due.{HasDue, due}
+use Rattle.b2_machine.specs.declared.rules.Rule.{Rule}
+use Rattle.b2_machine.specs.declared.rules.Rule.TheVariants as rule
+use Rattle.b2_machine.proofs.DueRules.{has_due}
 
 false_is_true : false ≡ true → ⊥
 false_is_true h = cc
@@ -243,37 +247,17 @@ module _ (ways : Ways) (lawful : AreLawful ways) {M : Type 0} (store : M → Sto
   read_keeps (answer.Special n) me m h = pressed_keeps (typed_by_mark n (text_in (store m) me.part).lines) (first_opening (is_mark n) (text_in (store m) me.part).lines) me h
   read_keeps a me m h = h
 
-  run_keeps : (o : Option Place) (me : Private) (m : M) → me.place ≡ o → KeepsNone me → KeepsNone (runs_or_reads ways store serving lending o me m).me
-  run_keeps None me m is h = read_keeps (serving m me.part (access.ReadLine me.term)).answer me (serving m me.part (access.ReadLine me.term)).after h
-  run_keeps (Some p) me m is h = executed ways lawful p store serving lending me m (is, λ r. h (ap Runs is ∙ r))
-
-  enter_keeps : (o : Option (ℕ × Option (List ℕ))) (me : Private) (m : M) → KeepsNone me → KeepsNone (enters_or_goes_on ways store serving lending o me m).me
-  enter_keeps None me m h = run_keeps me.place me m refl h
-  enter_keeps (Some line) me m h = put_keeps _ me h
-
-  type_keeps : (o : Option (List ℕ)) (me : Private) (m : M) → KeepsNone me → KeepsNone (types_or_goes_on ways store serving lending o me m).me
-  type_keeps None me m h = enter_keeps me.numbered me m h
-  type_keeps (Some text) me m h = literal_keeps _ me h
-
-  show_keeps : (o : Option (List ℕ × List ℕ)) (me : Private) (m : M) → KeepsNone me → KeepsNone (shows_or_goes_on ways store serving lending o me m).me
-  show_keeps None me m h = type_keeps me.literal me m h
-  show_keeps (Some waiting) me m h = pending_keeps (shows_pending waiting.0 waiting.1 me) _ me h
-
-  halt_keeps : (b : Bool) (me : Private) (m : M) → KeepsNone me → KeepsNone (if b then acts ways store serving lending (record me { halt = false }) m else by_itself store serving lending (halted me) m).me
-  halt_keeps true me m h = show_keeps me.pending (record me { halt = false }) m h
-  halt_keeps false me m h = λ r. absurd (false_is_true r)
-
-  act_by : (b : Bool) (me : Private) (m : M) → KeepsNone me → KeepsNone (if b then halts_or_acts ways store serving lending me m else acts ways store serving lending me m).me
-  act_by true me m h = halt_keeps (is_ready me) me m h
-  act_by false me m h = show_keeps me.pending me m h
-
-  step_by : (b : Bool) (me : Private) (m : M) → KeepsNone me
-      → KeepsNone (if b then resets_by store serving lending me m else (if me.halt then halts_or_acts ways store serving lending me m else acts ways store serving lending me m)).me
-  step_by true me m h = λ r. absurd (false_is_true r)
-  step_by false me m h = act_by me.halt me m h
+  by_rule : (r : Rule) (me : Private) (m : M) → HasDue r me → KeepsNone me → KeepsNone (steps_by ways store serving lending r me m).me
+  by_rule rule.Reset me m is h = λ r. absurd (false_is_true r)
+  by_rule rule.Halt me m is h = λ r. absurd (false_is_true r)
+  by_rule rule.Show me m is h = pending_keeps (shows_output me) _ me h
+  by_rule rule.Insert me m is h = literal_keeps _ me h
+  by_rule rule.Read me m is h = let g = serving m me.part (access.ReadLine me.term) in read_keeps g.answer me g.after h
+  by_rule rule.Put me m is h = put_keeps _ me h
+  by_rule (rule.Execute p) me m is h = executed ways lawful p store serving lending me m (is, λ r. h (ap Runs is ∙ r))
 
   pub step_keeps : (me : Private) (m : M) → KeepsNone me → KeepsNone (step ways store serving lending me m).me
-  step_keeps me m h = step_by me.reset me m h
+  step_keeps me m h = by_rule (due me) (without_halt me) m (has_due me) h
 
   ended_turn : (o : Option Why) (n : ℕ) (me : Private) (m : M) (steps : ℕ) → KeepsNone me → ((k : ℕ) → KeepsNone (turn_from ways store serving lending n me m k).me)
       → KeepsNone (unless_ended {A = TurnEnd M} o (λ w. turn_ended steps w me m) (turn_from ways store serving lending n me m steps)).me

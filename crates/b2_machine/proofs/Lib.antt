@@ -4,6 +4,7 @@ pub mod Turns
 pub mod PassedTurns
 pub mod Kept
 pub mod LegalPlans
+pub mod DueRules
 pub mod ListRows
 pub mod Listings
 pub mod Lent

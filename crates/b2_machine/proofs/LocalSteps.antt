@@ -1,5 +1,5 @@
 -- A step is local: from two meanings that agree on what it touches it goes alike, and what it doesn't write stays.
-use Rattle.std.specs.Prelude.{◌≡◌, ◌⊎◌, ℕ, Bool, true, false, List, [], ◌∷◌, ◌++◌, Option, Some, None, refl, if◌then◌else◌}
+use Rattle.std.specs.Prelude.{◌≡◌, ◌⊎◌, ℕ, List, [], ◌∷◌, ◌++◌, Some, None, refl, if◌then◌else◌}
 use Rattle.std.proofs.Common.{sym, ap, subst, ◌∙◌, inl, inr}
 use Rattle.b2_flow.specs.declared.frame.Place.{Place}
 use Rattle.b2_text.specs.Program.{TextState}
@@ -7,7 +7,6 @@ use Rattle.b2_vars.specs.Globals.{Globals}
 use Rattle.b2_access.specs.Lending.{SeenLent}
 use Rattle.b2_access.specs.Loans.{Loan, LoansGlobals, lender_at, loan_touched}
 use Rattle.b2_access.specs.Objects.{Decided, same_object}
-use Rattle.b2_access.specs.Partition.{is_ready}
 use Rattle.b2_access.specs.Planning.{Finishing}
 use Rattle.b2_access.specs.Sharing.{Gives, IsLocal, ServesAlike, ServingOf, writes}
 use Rattle.b2_access.specs.Store.{StoreState, AgreeOn, IsIn, content}
@@ -25,11 +24,11 @@ use Rattle.b2_language.specs.Languages.{AreLawful, Ways}
 use Rattle.b2_language.specs.Wanted.{wanted_at}
 use Rattle.b2_machine.specs.Endings.{Ending}
 use Rattle.b2_machine.specs.Keys.{pressed}
-use Rattle.b2_machine.specs.Readiness.{gives_back, halted, resets}
+use Rattle.b2_machine.specs.Readiness.{gives_back, halted, resets, without_halt}
 use Rattle.b2_machine.specs.Statements.{Begun, begins, finish_by, finishes, leaves}
-use Rattle.b2_machine.specs.Step.{StepEnd, acts, carries_out, enters_or_goes_on, executes, executes_by, goes_through, halts_or_acts, lent_to_begin, line_read, reads_line, runs_or_reads, seen_by, shows_or_goes_on, text_in, types_or_goes_on, whose_by}
-use Rattle.b2_machine.specs.Touched.{GoesAlike, GoesLocally, StepsAreLocal, Told, begin_touched, reached_objects, tells, tells_both, tells_carrying, tells_executing, told_acting, told_at, told_entering, told_showing, told_typing, told_unless_halted}
-use Rattle.b2_machine.specs.Typing.{put_by, puts_numbered, shown_by, shows_pending, typed_by_key}
+use Rattle.b2_machine.specs.Step.{StepEnd, carries_out, executes, executes_by, goes_through, lent_to_begin, line_read, reads_line, seen_by, steps_by, text_in, whose_by}
+use Rattle.b2_machine.specs.Touched.{GoesAlike, GoesLocally, StepsAreLocal, Told, begin_touched, reached_objects, tells, tells_both, tells_carrying, tells_executing, told_by}
+use Rattle.b2_machine.specs.Typing.{inserts_literal, put_by, puts_numbered, shown_by, shows_output, typed_by_key}
 use Rattle.b2_machine.specs.declared.ends.Stepped.{Stepped}
 use Rattle.b2_machine.specs.declared.moving.Onward.{Onward}
 use Rattle.b2_machine.specs.declared.statements.Builder.{Builder}
@@ -37,6 +36,9 @@ use Rattle.b2_machine.specs.declared.statements.Progress.{Progress}
 use Rattle.b2_machine.specs.declared.statements.Progress.TheVariants as progress
 use Rattle.b2_machine.proofs.Lent.{begin_same, begun_store, home_in, in_begin, lender_same, loan_follows, loan_leaves, reached_same, reached_touched, same_text, seen_same, texts_same, touches_same}
 use Rattle.b2_machine.proofs.Reached.{finishes_become, leaves_become}
+use Rattle.b2_machine.specs.Due.{due}
+use Rattle.b2_machine.specs.declared.rules.Rule.{Rule}
+use Rattle.b2_machine.specs.declared.rules.Rule.TheVariants as rule
 
 pub is_in : (o : Object) (os : List Object) → Decided (IsIn o os)
 is_in o [] = inr (λ h. h)
@@ -57,10 +59,6 @@ both_same ws xs ys zs e f = ap (λ (os : List Object). os ++ xs) e ∙ ap (λ (o
 module _ (ways : Ways) (lawful : AreLawful ways) {M : Type 0} (store : M → StoreState) (serving : ServingOf M) (lending : Loan M) (local : IsLocal store serving) (loans : LoansGlobals store lending) where
   abbrev Goes : (M → Told) → (M → StepEnd M) → Type 0
   Goes tells goes = GoesLocally store tells goes
-
-  by_test : (b : Bool) (xs ys : M → Told) (f g : M → StepEnd M) → Goes xs f → Goes ys g → Goes (λ m. if b then xs m else ys m) (λ m. if b then f m else g m)
-  by_test true xs ys f g h k = h
-  by_test false xs ys f g h k = k
 
   -- from two meanings to two others: what is alike in the first two is so in the others
   abbrev Follows : M → M → M → M → Type 0
@@ -312,7 +310,7 @@ module _ (ways : Ways) (lawful : AreLawful ways) {M : Type 0} (store : M → Sto
       within = λ m o i. began_within (seen m) m o i;
     }
 
-  by_statement : (p : Place) (me : Private) → Goes (λ m. told_at ways store serving lending (Some p) me m) (λ m. executes ways store serving lending p me m)
+  by_statement : (p : Place) (me : Private) → Goes (λ m. told_by ways store serving lending (rule.Execute p) me m) (λ m. executes ways store serving lending p me m)
   by_statement p me = record {
     alike = λ m n agree.
         let whose = whose_by p me (store m) in
@@ -330,30 +328,14 @@ module _ (ways : Ways) (lawful : AreLawful ways) {M : Type 0} (store : M → Sto
   }
 
   -- the six rules
-  by_place : (x : Option Place) (me : Private) → Goes (λ m. told_at ways store serving lending x me m) (λ m. runs_or_reads ways store serving lending x me m)
-  by_place None me = by_line me
-  by_place (Some p) me = by_statement p me
-
-  by_number : (x : Option (ℕ × Option (List ℕ))) (me : Private) → Goes (λ m. told_entering ways store serving lending x me m) (λ m. enters_or_goes_on ways store serving lending x me m)
-  by_number (Some line) me = by_answer me (puts_numbered line me) (λ a. put_by a me)
-  by_number None me = by_place me.place me
-
-  by_literal : (x : Option (List ℕ)) (me : Private) → Goes (λ m. told_typing ways store serving lending x me m) (λ m. types_or_goes_on ways store serving lending x me m)
-  by_literal (Some text) me = by_answer me (access.Insert me.term text) (λ a. typed_by_key a me)
-  by_literal None me = by_number me.numbered me
-
-  by_output : (x : Option (List ℕ × List ℕ)) (me : Private) → Goes (λ m. told_showing ways store serving lending x me m) (λ m. shows_or_goes_on ways store serving lending x me m)
-  by_output (Some shown) me =
-      let a = shows_pending shown.0 shown.1 me in by_answer me a (λ x. shown_by a x me)
-  by_output None me = by_literal me.literal me
-
-  by_acting : (me : Private) → Goes (λ m. told_acting ways store serving lending me m) (λ m. acts ways store serving lending me m)
-  by_acting me = by_output me.pending me
-
-  by_halt : (me : Private) → Goes (λ m. told_unless_halted ways store serving lending me m) (λ m. halts_or_acts ways store serving lending me m)
-  by_halt me = by_test (is_ready me) _ _ _ _ (by_acting (record me { halt = false })) (by_itself me.part (halted me))
+  by_rule : (r : Rule) (me : Private) → Goes (λ m. told_by ways store serving lending r me m) (λ m. steps_by ways store serving lending r me m)
+  by_rule rule.Reset me = by_answer me (gives_back me) (λ _. resets me)
+  by_rule rule.Halt me = by_itself me.part (halted me)
+  by_rule rule.Show me = let a = shows_output me in by_answer me a (λ x. shown_by a x me)
+  by_rule rule.Insert me = by_answer me (inserts_literal me) (λ x. typed_by_key x me)
+  by_rule rule.Read me = by_line me
+  by_rule rule.Put me = by_answer me (puts_numbered me) (λ x. put_by x me)
+  by_rule (rule.Execute p) me = by_statement p me
 
   pub steps_are_local : StepsAreLocal ways store serving lending
-  steps_are_local me =
-      by_test me.reset _ _ _ _ (by_answer me (gives_back me) (λ _. resets me))
-      (by_test me.halt _ _ _ _ (by_halt me) (by_acting me))
+  steps_are_local me = by_rule (due me) (without_halt me)

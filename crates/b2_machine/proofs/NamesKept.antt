@@ -1,11 +1,10 @@
 -- After a step a name leads to whom it led before, or to the partition of the step.
-use Rattle.std.specs.Prelude.{◌≡◌, ◌⊎◌, ℕ, Bool, true, false, List, Option, Some, None, if◌then◌else◌}
+use Rattle.std.specs.Prelude.{◌≡◌, ◌⊎◌, ℕ, List, None, if◌then◌else◌}
 use Rattle.std.proofs.Common.{sym, ap, ◌∙◌, inl, inr}
 use Rattle.b2_flow.specs.declared.frame.Place.{Place}
 use Rattle.b2_vars.specs.Globals.{Globals, unreached}
 use Rattle.b2_access.specs.Leading.{LeadsTo, NamesLead}
 use Rattle.b2_access.specs.Loans.{Loan, LoansGlobals}
-use Rattle.b2_access.specs.Partition.{is_ready}
 use Rattle.b2_access.specs.Sharing.{ServingOf}
 use Rattle.b2_access.specs.Store.{StoreState, content}
 use Rattle.b2_access.specs.declared.accesses.Access.TheVariants as access
@@ -16,14 +15,17 @@ use Rattle.b2_access.specs.declared.lending.At.TheVariants as at
 use Rattle.b2_access.specs.declared.objects.Object.TheVariants as object
 use Rattle.b2_access.specs.declared.private.Private.{Private}
 use Rattle.b2_language.specs.Languages.{Ways}
-use Rattle.b2_machine.specs.Readiness.{gives_back}
+use Rattle.b2_machine.specs.Readiness.{gives_back, without_halt}
 use Rattle.b2_machine.specs.Statements.{begins, finish_by, leaves}
-use Rattle.b2_machine.specs.Step.{StepEnd, carries_out, enters_or_goes_on, halts_or_acts, lent_to_begin, line_read, runs_or_reads, seen_by, shows_or_goes_on, types_or_goes_on, whose_by}
+use Rattle.b2_machine.specs.Step.{carries_out, lent_to_begin, line_read, seen_by, steps_by, whose_by}
 use Rattle.b2_machine.specs.Touched.{StepsLeadNames}
-use Rattle.b2_machine.specs.Typing.{puts_numbered, shows_pending}
+use Rattle.b2_machine.specs.Typing.{inserts_literal, puts_numbered, shows_output}
 use Rattle.b2_machine.specs.declared.statements.Progress.{Progress}
 use Rattle.b2_machine.specs.declared.statements.Progress.TheVariants as progress
 use Rattle.b2_machine.proofs.Lent.{begun_store, names_left}
+use Rattle.b2_machine.specs.Due.{due}
+use Rattle.b2_machine.specs.declared.rules.Rule.{Rule}
+use Rattle.b2_machine.specs.declared.rules.Rule.TheVariants as rule
 
 module _ (ways : Ways) {M : Type 0} (store : M → StoreState) (serving : ServingOf M) (lending : Loan M) (loans : LoansGlobals store lending) (names : NamesLead store serving) where
   -- from a meaning to another: a name leads to whom it led, or to a partition
@@ -61,11 +63,16 @@ module _ (ways : Ways) {M : Type 0} (store : M → StoreState) (serving : Servin
       let left = (finish_by ways b a g.answer me (seen_by who place.home whose (store g.after))).globals in
       both_lead who m g.after (lending who place.home whose g.after left) (names who a m) (lent who place.home whose left g.after)
 
-  at_place : (x : Option Place) (me : Private) (m : M) → Leads me.part m (runs_or_reads ways store serving lending x me m).after
-  at_place None me m =
+  by_rule : (r : Rule) (me : Private) (m : M) → Leads me.part m (steps_by ways store serving lending r me m).after
+  by_rule rule.Reset me m = names me.part (gives_back me) m
+  by_rule rule.Halt me m = λ n p is. inl is
+  by_rule rule.Show me m = names me.part (shows_output me) m
+  by_rule rule.Insert me m = names me.part (inserts_literal me) m
+  by_rule rule.Read me m =
       let g = serving m me.part (access.ReadLine me.term) in
       both_lead me.part m g.after (line_read store serving lending g.answer me g.after).after (names me.part (access.ReadLine me.term) m) (read g.answer me g.after)
-  at_place (Some place) me m =
+  by_rule rule.Put me m = names me.part (puts_numbered me) m
+  by_rule (rule.Execute place) me m =
       let whose = whose_by place me (store m) in
       let s = seen_by me.part place.home whose (store m) in
       let left = leaves ways place me s in
@@ -73,24 +80,5 @@ module _ (ways : Ways) {M : Type 0} (store : M → StoreState) (serving : Servin
       let u = lent_to_begin store serving lending me.part place.home whose m left in
       both_lead me.part m u (carries_out ways store serving lending me.part b.progress place whose b.me u).after (lent_first me.part place.home whose left m) (carried me.part b.progress place whose b.me u)
 
-  at_number : (x : Option (ℕ × Option (List ℕ))) (me : Private) (m : M) → Leads me.part m (enters_or_goes_on ways store serving lending x me m).after
-  at_number (Some line) me m = names me.part (puts_numbered line me) m
-  at_number None me m = at_place me.place me m
-
-  at_literal : (x : Option (List ℕ)) (me : Private) (m : M) → Leads me.part m (types_or_goes_on ways store serving lending x me m).after
-  at_literal (Some text) me m = names me.part (access.Insert me.term text) m
-  at_literal None me m = at_number me.numbered me m
-
-  at_output : (x : Option (List ℕ × List ℕ)) (me : Private) (m : M) → Leads me.part m (shows_or_goes_on ways store serving lending x me m).after
-  at_output (Some text) me m = names me.part (shows_pending text.0 text.1 me) m
-  at_output None me m = at_literal me.literal me m
-
-  by_test : (who : ℕ) (m : M) (b : Bool) (e f : StepEnd M) → Leads who m e.after → Leads who m f.after → Leads who m (if b then e else f).after
-  by_test who m true e f h k = h
-  by_test who m false e f h k = k
-
-  at_halt : (me : Private) (m : M) → Leads me.part m (halts_or_acts ways store serving lending me m).after
-  at_halt me m = by_test me.part m (is_ready me) _ _ (at_output me.pending (record me { halt = false }) m) (λ n p is. inl is)
-
   pub steps_lead_names : StepsLeadNames ways store serving lending
-  steps_lead_names me m = by_test me.part m me.reset _ _ (names me.part (gives_back me) m) (by_test me.part m me.halt _ _ (at_halt me m) (at_output me.pending me m))
+  steps_lead_names me m = by_rule (due me) (without_halt me) m

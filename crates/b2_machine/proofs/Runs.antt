@@ -1,5 +1,5 @@
 -- Statements that lead on over one loan of texts are steps of a turn, and so is the statement after them.
-use Rattle.std.proofs.Common.{◌≡◌, ℕ, suc, zero, ◌+◌, ◌-◌, ◌≤◌, ◌==◌, ◌&&◌, Bool, true, false, not, true≢false, if◌then◌else◌, Option, Some, None, is_some, List, refl, sym, ap, subst, ◌∙◌, arith}
+use Rattle.std.proofs.Common.{◌≡◌, ℕ, suc, zero, ◌+◌, ◌-◌, ◌≤◌, ◌==◌, ◌&&◌, Bool, true, false, not, true≢false, if◌then◌else◌, Option, Some, None, is_some, refl, sym, ap, subst, ◌∙◌, arith}
 use Rattle.std.proofs.lemmas.Bool.Decides.{nat_tests}
 use Rattle.b2_flow.specs.declared.frame.Place.{Place}
 use Rattle.b2_vars.specs.Globals.{Globals}
@@ -17,7 +17,7 @@ use Rattle.b2_machine.specs.Advancing.{ArePresent}
 use Rattle.b2_machine.specs.Endings.{counts}
 use Rattle.b2_machine.specs.StraightLine.{AllLead, Leads, begins_next, is_undisturbed, led, place_in, place_or_none, placed_in}
 use Rattle.b2_machine.specs.Statements.{Begun, begins, leaves}
-use Rattle.b2_machine.specs.Step.{StepEnd, enters_or_goes_on, executes, executes_by, goes_through, halts_or_acts, lent_to_begin, resets_by, acts, runs_or_reads, seen_by, shows_or_goes_on, step, text_in, texts_lent, types_or_goes_on}
+use Rattle.b2_machine.specs.Step.{StepEnd, executes, executes_by, goes_through, lent_to_begin, seen_by, step, steps_by, text_in, texts_lent}
 use Rattle.b2_machine.specs.Turn.{turn_from}
 use Rattle.b2_machine.specs.declared.statements.Progress.TheVariants as progress
 use Rattle.b2_machine.proofs.Lent.{texts_same}
@@ -25,16 +25,21 @@ use Rattle.b2_machine.proofs.StraightLine.{led_more, led_none, nothing}
 use Rattle.b2_machine.proofs.Presence.{presence_kept}
 use Rattle.b2_machine.proofs.StepPart.{steps_keep_part}
 use Rattle.b2_machine.proofs.Turns.{by_first, first_same}
+use Rattle.b2_machine.specs.Due.{due_at}
+use Rattle.b2_machine.specs.declared.rules.Rule.{Rule}
+use Rattle.b2_machine.specs.declared.rules.Rule.TheVariants as rule
+use Rattle.b2_machine.specs.Readiness.{without_halt}
 
 -- ---- where nothing comes before the statement at the place of a partition
 
-all_false : (a b c d e : Bool) → (not a && (not b && (not c && (not d && not e)))) ≡ true → (a ≡ false) × (b ≡ false) × (c ≡ false) × (d ≡ false) × (e ≡ false)
-all_false true b c d e h = absurd (true≢false (sym h))
-all_false false true c d e h = absurd (true≢false (sym h))
-all_false false false true d e h = absurd (true≢false (sym h))
-all_false false false false true e h = absurd (true≢false (sym h))
-all_false false false false false true h = absurd (true≢false (sym h))
-all_false false false false false false h = (refl, refl, refl, refl, refl)
+no_rule_before : (a b c d e : Bool) (o : Option Place) → (not a && (not b && (not c && (not d && not e)))) ≡ true
+    → ((if a then rule.Reset else (if b && not (not (is_some o)) then rule.Halt else (if c then rule.Show else (if d then rule.Insert else (if e then rule.Put else due_at o))))) ≡ due_at o) × (b ≡ false)
+no_rule_before true b c d e o h = absurd (true≢false (sym h))
+no_rule_before false true c d e o h = absurd (true≢false (sym h))
+no_rule_before false false true d e o h = absurd (true≢false (sym h))
+no_rule_before false false false true e o h = absurd (true≢false (sym h))
+no_rule_before false false false false true o h = absurd (true≢false (sym h))
+no_rule_before false false false false false o h = (refl, refl)
 
 both : (b c : Bool) → (b && c) ≡ true → (b ≡ true) × (c ≡ true)
 both true true h = (refl, refl)
@@ -80,13 +85,9 @@ module _ (ways : Ways) {M : Type 0} (store : M → StoreState) (serving : Servin
   -- its step executes that statement
   pub step_executes : (home : ℕ) (me : Private) (p : Place) (m : M) → Stands home me p → step ways store serving lending me m ≡ executes ways store serving lending p me m
   step_executes home me p m s =
-      let no = all_false me.reset me.halt (is_some me.pending) (is_some me.literal) (is_some me.numbered) s.undisturbed in
-      ap (λ (b : Bool). if b then resets_by store serving lending me m else (if me.halt then halts_or_acts ways store serving lending me m else acts ways store serving lending me m)) no.0
-      ∙ ap (λ (b : Bool). if b then halts_or_acts ways store serving lending me m else acts ways store serving lending me m) no.1
-      ∙ ap (λ (o : Option (List ℕ × List ℕ)). shows_or_goes_on ways store serving lending o me m) (nothing me.pending no.2)
-      ∙ ap (λ (o : Option (List ℕ)). types_or_goes_on ways store serving lending o me m) (nothing me.literal no.3)
-      ∙ ap (λ (o : Option (ℕ × Option (List ℕ))). enters_or_goes_on ways store serving lending o me m) (nothing me.numbered no.4)
-      ∙ ap (λ (o : Option Place). runs_or_reads ways store serving lending o me m) s.stands
+      let none = no_rule_before me.reset me.halt (is_some me.pending) (is_some me.literal) (is_some me.numbered) me.place s.undisturbed in
+      ap (λ (r : Rule). steps_by ways store serving lending r (without_halt me) m) (none.0 ∙ ap due_at s.stands)
+      ∙ ap (λ (b : Bool). executes ways store serving lending p (record me { halt = b }) m) (sym none.1)
 
   module _ (loans : LoansGlobals store lending) (again : LendsTextsAgain lending) where
     abbrev lent : ℕ → ℕ → M → M

@@ -1,10 +1,9 @@
 -- A step, by cases on its six rules, and a turn, by its steps, over a store that is seen as another one.
-use Rattle.std.specs.Prelude.{◌≡◌, ℕ, zero, suc, Bool, true, false, List, Option, Some, None, refl, if◌then◌else◌}
+use Rattle.std.specs.Prelude.{◌≡◌, ℕ, zero, suc, Option, Some, None, refl, if◌then◌else◌}
 use Rattle.std.proofs.Common.{sym, ap, subst, ◌∙◌}
 use Rattle.b2_vars.specs.Globals.{Globals, unreached}
 use Rattle.b2_flow.specs.declared.frame.Place.{Place}
 use Rattle.b2_access.specs.Loans.{Loan}
-use Rattle.b2_access.specs.Partition.{is_ready}
 use Rattle.b2_access.specs.Sharing.{Gives, ServingOf}
 use Rattle.b2_access.specs.Store.{StoreState}
 use Rattle.b2_access.specs.declared.accesses.Access.{Access}
@@ -16,16 +15,19 @@ use Rattle.b2_access.specs.declared.lending.At.TheVariants as at
 use Rattle.b2_access.specs.declared.private.Private.{Private}
 use Rattle.b2_language.specs.Languages.{Ways}
 use Rattle.b2_machine.specs.Endings.{Ending}
-use Rattle.b2_machine.specs.Readiness.{gives_back, resets}
+use Rattle.b2_machine.specs.Readiness.{gives_back, resets, without_halt}
 use Rattle.b2_machine.specs.Seeing.{StepsAreSeen, TurnsAreSeen, given_seen, step_seen, turn_seen}
 use Rattle.b2_machine.specs.Statements.{begins, leaves}
-use Rattle.b2_machine.specs.Step.{StepEnd, asks_for, carries_out, enters_or_goes_on, finishes_by, goes_through, halts_or_acts, lent_to_begin, line_read, reads_line, runs_or_reads, seen_by, shows_or_goes_on, step, types_or_goes_on, whose_by}
+use Rattle.b2_machine.specs.Step.{StepEnd, asks_for, carries_out, finishes_by, goes_through, lent_to_begin, line_read, reads_line, seen_by, step, steps_by, whose_by}
 use Rattle.b2_machine.specs.Turn.{counted_on, ended_turn, passes_none, passes_turn, turn, turn_from, unless_ended}
 use Rattle.b2_machine.proofs.PassedTurns.{turn_seen_by}
-use Rattle.b2_machine.specs.Typing.{put_by, puts_numbered, shown_by, shows_pending, typed_by_key}
+use Rattle.b2_machine.specs.Typing.{inserts_literal, put_by, puts_numbered, shown_by, shows_output, typed_by_key}
 use Rattle.b2_machine.specs.declared.ends.Why.{Why}
 use Rattle.b2_machine.specs.declared.statements.Progress.{Progress}
 use Rattle.b2_machine.specs.declared.statements.Progress.TheVariants as progress
+use Rattle.b2_machine.specs.Due.{due}
+use Rattle.b2_machine.specs.declared.rules.Rule.{Rule}
+use Rattle.b2_machine.specs.declared.rules.Rule.TheVariants as rule
 
 module _ (ways : Ways) {M N : Type 0} (see : M → N) (other_store : N → StoreState) (serving : ServingOf M) (other_serving : ServingOf N) (lending : Loan M) (other_lending : Loan N)
     (serves : (m : M) (who : ℕ) (a : Access) → given_seen see (serving m who a) ≡ other_serving (see m) who a)
@@ -65,9 +67,15 @@ module _ (ways : Ways) {M N : Type 0} (see : M → N) (other_store : N → Store
       ap (λ (k : N). record { me = finished.me; after = k; end = finished.end }) (lends who p.home whose g.after _)
       ∙ ap (λ (x : Gives N). finishes_by ways other_store other_serving other_lending who b a w p whose me x) (serves m who a)
 
-  by_place : (x : Option Place) (me : Private) (m : M) → step_seen see (runs_or_reads ways store serving lending x me m) ≡ runs_or_reads ways other_store other_serving other_lending x me (see m)
-  by_place None me m = by_line me m
-  by_place (Some p) me m =
+  -- each rule
+  by_rule : (r : Rule) (me : Private) (m : M) → step_seen see (steps_by ways store serving lending r me m) ≡ steps_by ways other_store other_serving other_lending r me (see m)
+  by_rule rule.Reset me m = by_answer (gives_back me) (λ _. resets me) me m
+  by_rule rule.Halt me m = refl
+  by_rule rule.Show me m = let a = shows_output me in by_answer a (λ x. shown_by a x me) me m
+  by_rule rule.Insert me m = by_answer (inserts_literal me) (λ x. typed_by_key x me) me m
+  by_rule rule.Read me m = by_line me m
+  by_rule rule.Put me m = by_answer (puts_numbered me) (λ x. put_by x me) me m
+  by_rule (rule.Execute p) me m =
       let s = store m in
       let whose = whose_by p me s in
       let seen = seen_by me.part p.home whose s in
@@ -76,30 +84,8 @@ module _ (ways : Ways) {M N : Type 0} (see : M → N) (other_store : N → Store
       carried_out me.part b.progress p whose b.me (lent_to_begin store serving lending me.part p.home whose m left)
       ∙ ap (λ (k : N). goes_through ways other_store other_serving other_lending me.part b p whose k) (begun me.part p.home whose m left)
 
-  -- the rules before it
-  by_number : (x : Option (ℕ × Option (List ℕ))) (me : Private) (m : M) → step_seen see (enters_or_goes_on ways store serving lending x me m) ≡ enters_or_goes_on ways other_store other_serving other_lending x me (see m)
-  by_number (Some line) me m = by_answer (puts_numbered line me) (λ a. put_by a me) me m
-  by_number None me m = by_place me.place me m
-
-  by_literal : (x : Option (List ℕ)) (me : Private) (m : M) → step_seen see (types_or_goes_on ways store serving lending x me m) ≡ types_or_goes_on ways other_store other_serving other_lending x me (see m)
-  by_literal (Some text) me m = by_answer (access.Insert me.term text) (λ a. typed_by_key a me) me m
-  by_literal None me m = by_number me.numbered me m
-
-  by_output : (x : Option (List ℕ × List ℕ)) (me : Private) (m : M) → step_seen see (shows_or_goes_on ways store serving lending x me m) ≡ shows_or_goes_on ways other_store other_serving other_lending x me (see m)
-  by_output (Some text) me m = by_answer (shows_pending text.0 text.1 me) (λ a. shown_by (shows_pending text.0 text.1 me) a me) me m
-  by_output None me m = by_literal me.literal me m
-
-  by_test : (b : Bool) (x y : StepEnd M) (u v : StepEnd N) → step_seen see x ≡ u → step_seen see y ≡ v → step_seen see (if b then x else y) ≡ (if b then u else v)
-  by_test true x y u v e f = e
-  by_test false x y u v e f = f
-
-  by_halt : (me : Private) (m : M) → step_seen see (halts_or_acts ways store serving lending me m) ≡ halts_or_acts ways other_store other_serving other_lending me (see m)
-  by_halt me m = by_test (is_ready me) _ _ _ _ (by_output me.pending (record me { halt = false }) m) refl
-
   one_step : (me : Private) (m : M) → step_seen see (step ways store serving lending me m) ≡ step ways other_store other_serving other_lending me (see m)
-  one_step me m =
-      by_test me.reset _ _ _ _ (by_answer (gives_back me) (λ _. resets me) me m)
-      (by_test me.halt _ _ _ _ (by_halt me m) (by_output me.pending me m))
+  one_step me m = by_rule (due me) (without_halt me) m
 
   -- at most so many more steps
   more_steps : (n : ℕ) (me : Private) (m : M) (steps : ℕ) → turn_seen see (turn_from ways store serving lending n me m steps) ≡ turn_from ways other_store other_serving other_lending n me (see m) steps

@@ -1,11 +1,12 @@
 -- A step asks for devices that the table lists for its partition, and for no others.
-use Rattle.std.proofs.Common.{ℕ, Bool, true, false, List, Option, Some, None, is_some, inl, inr, subst, sym}
+use Rattle.std.specs.Prelude.{unwrap_or}
+use Rattle.std.proofs.Common.{ℕ, Bool, true, false, List, [], Option, Some, None, is_some, inl, inr, subst, sym}
 use Rattle.std.specs.Str.{bytes_eq}
 use Rattle.b2_flow.specs.declared.frame.Place.{Place}
 use Rattle.b2_text.specs.Program.{Lines}
 use Rattle.b2_access.specs.Lending.{SeenLent}
 use Rattle.b2_access.specs.OwnDevices.{PlannedListed, ReachesListed}
-use Rattle.b2_access.specs.Partition.{is_ready, terminal_address}
+use Rattle.b2_access.specs.Partition.{terminal_address}
 use Rattle.b2_access.specs.Pending.{IsForListed}
 use Rattle.b2_access.specs.Placed.{Statement, statement_placed}
 use Rattle.b2_access.specs.Store.{StoreState}
@@ -20,10 +21,14 @@ use Rattle.b2_machine.specs.Listed.{lists}
 use Rattle.b2_machine.specs.Messages.{prints_text, shows_text}
 use Rattle.b2_machine.specs.Statements.{begins_where, begun_by, builder_of, plan_by}
 use Rattle.b2_machine.specs.Step.{seen_at}
-use Rattle.b2_machine.specs.Touched.{AskedListed, StepsAskForListed, access_asked, asking, asks_at, asks_to_enter, asks_to_show, asks_to_type, asks_unless_halted}
+use Rattle.b2_machine.specs.Touched.{AskedListed, StepsAskForListed, access_asked, asks_by}
 use Rattle.b2_machine.specs.Typing.{on_own_line, shows_pending}
 use Rattle.b2_machine.specs.declared.statements.Builder.{Builder}
 use Rattle.b2_machine.specs.declared.statements.Builder.TheVariants as builder
+use Rattle.b2_machine.specs.Due.{due}
+use Rattle.b2_machine.specs.declared.rules.Rule.{Rule}
+use Rattle.b2_machine.specs.declared.rules.Rule.TheVariants as rule
+use Rattle.b2_machine.specs.Readiness.{without_halt}
 
 -- LIST shows lines at the terminal
 listing_listed : (devices : List Device) (b : Bool) (range : ℕ × ℕ) (me : Private) (s : SeenLent) → PlannedListed devices me.part (lists b range me s).planned
@@ -52,33 +57,20 @@ module _ (ways : List Device → Ways) (listed : AskForListed ways) (devices : L
   abbrev Listed : ℕ → Option Access → Type 0
   Listed who x = AskedListed devices who x
 
-  at_place : (x : Option Place) (me : Private) (s : StoreState) → Listed me.part (asks_at (ways devices) x me s)
-  at_place None me s = tt
-  at_place (Some p) me s = let seen = seen_at p me s in begins_listed (statement_placed p me.immediate seen.home.lines) p me seen
-
-  at_number : (x : Option (ℕ × Option (List ℕ))) (me : Private) (s : StoreState) → Listed me.part (asks_to_enter (ways devices) x me s)
-  at_number (Some line) me s = tt
-  at_number None me s = at_place me.place me s
-
-  at_literal : (x : Option (List ℕ)) (me : Private) (s : StoreState) → Listed me.part (asks_to_type (ways devices) x me s)
-  at_literal (Some text) me s = tt
-  at_literal None me s = at_number me.numbered me s
-
   -- what waits is shown at the terminal, or at a printer that is listed
   pending_listed : (device text : List ℕ) (me : Private) → IsForListed devices me.part (Some (device, text)) → ReachesListed devices me.part (shows_pending device text me)
   pending_listed device text me (inl is) = subst (λ (d : List ℕ). ReachesListed devices me.part (shows_pending d text me)) (sym is) tt
   pending_listed device text me (inr is) =
       either (ReachesListed devices me.part) (bytes_eq device terminal_address) (shows_text (on_own_line me.term_column text) me) (prints_text device text me) tt (is, tt)
 
-  at_output : (x : Option (List ℕ × List ℕ)) (me : Private) (s : StoreState) → IsForListed devices me.part x → Listed me.part (asks_to_show (ways devices) x me s)
-  at_output (Some waiting) me s h = pending_listed waiting.0 waiting.1 me h
-  at_output None me s h = at_literal me.literal me s
+  output_listed : (x : Option (List ℕ × List ℕ)) (me : Private) → IsForListed devices me.part x → let shown = unwrap_or x (terminal_address, []) in ReachesListed devices me.part (shows_pending shown.0 shown.1 me)
+  output_listed (Some waiting) me h = pending_listed waiting.0 waiting.1 me h
+  output_listed None me h = tt
 
-  at_halt : (me : Private) (s : StoreState) → IsForListed devices me.part me.pending → Listed me.part (asks_unless_halted (ways devices) me s)
-  at_halt me s h = either (Listed me.part) (is_ready me) _ _ (at_output me.pending (record me { halt = false }) s h) tt
-
-  step_listed : (me : Private) (s : StoreState) → IsForListed devices me.part me.pending → Listed me.part (asking (ways devices) me s)
-  step_listed me s h = either (Listed me.part) me.reset _ _ tt (either (Listed me.part) me.halt _ _ (at_halt me s h) (at_output me.pending me s h))
+  by_rule : (r : Rule) (me : Private) (s : StoreState) → IsForListed devices me.part me.pending → Listed me.part (asks_by (ways devices) r me s)
+  by_rule rule.Show me s h = output_listed me.pending me h
+  by_rule (rule.Execute p) me s h = let seen = seen_at p me s in begins_listed (statement_placed p me.immediate seen.home.lines) p me seen
+  by_rule r me s h = tt
 
 pub steps_ask_for_listed : (ways : List Device → Ways) (listed : AskForListed ways) → StepsAskForListed ways
-steps_ask_for_listed ways listed devices me s h = step_listed ways listed devices me s h
+steps_ask_for_listed ways listed devices me s h = by_rule ways listed devices (due me) (without_halt me) s h

@@ -1,5 +1,5 @@
 -- A step names no partition as a home but its own, those that were named before, and those to whom a name leads that it touches.
-use Rattle.std.proofs.Common.{◌≡◌, ℕ, ◌∙◌, sym, ap, nat_lt, Bool, true, false, not, if◌then◌else◌, List, [], ◌∷◌, length, Option, Some, None, is_some, Result, Ok, Err, refl}
+use Rattle.std.proofs.Common.{◌≡◌, ℕ, ◌∙◌, sym, ap, subst, nat_lt, Bool, true, false, not, if◌then◌else◌, List, [], ◌∷◌, length, Option, Some, None, is_some, Result, Ok, Err, refl}
 use Rattle.std.specs.Prelude.{◌&&◌, ◌++◌, ◌+◌}
 use Rattle.std.specs.Option.{option_map, option_and_then}
 use Rattle.b2_flow.specs.Frames.{is_immediate_loop}
@@ -22,7 +22,7 @@ use Rattle.b2_access.specs.Homes.{AnswerIn, FramesIn, HomesIn, IsWithin, Outcome
 use Rattle.b2_access.specs.Lending.{SeenLent}
 use Rattle.b2_access.specs.Leading.{AnswersLead, TouchedNamesIn}
 use Rattle.b2_access.specs.Loans.{Loan, LoansGlobals, loan_touched}
-use Rattle.b2_access.specs.Partition.{is_ready, runs_program}
+use Rattle.b2_access.specs.Partition.{runs_program}
 use Rattle.b2_access.specs.Placed.{Statement, statement_placed}
 use Rattle.b2_access.specs.Places.{goal_place, line_after, line_start}
 use Rattle.b2_access.specs.Planning.{Finishing, Planning}
@@ -54,11 +54,11 @@ use Rattle.b2_machine.specs.Keys.{called_at, calls_where, pressed_by}
 use Rattle.b2_machine.specs.Listed.{range_listed, lists}
 use Rattle.b2_machine.specs.Messages.{shows_text}
 use Rattle.b2_machine.specs.Moving.{ends_by, ends_onward, enters_program, error_place, faults, goes_to, is_continue, is_taken, jumps, place_onward}
-use Rattle.b2_machine.specs.Readiness.{halted, readies, resets, without_immediate_loops}
+use Rattle.b2_machine.specs.Readiness.{halted, readies, resets, without_halt, without_immediate_loops}
 use Rattle.b2_machine.specs.Statements.{begins, begins_where, begun_by, builder_of, finish_by, finishes, leaves, plan_by}
-use Rattle.b2_machine.specs.Step.{StepEnd, carries_out, enters_or_goes_on, halts_or_acts, lent_to_begin, line_read, runs_or_reads, seen_by, shows_or_goes_on, step, text_in, types_or_goes_on, whose_by}
-use Rattle.b2_machine.specs.Touched.{StepsStayWithin, Told, begin_touched, tells_carrying, told, told_at, told_entering, told_showing, told_typing, told_unless_halted}
-use Rattle.b2_machine.specs.Typing.{line_taken, put_by, shown_by, shows_pending, takes, takes_or_refuses, typed_by_key}
+use Rattle.b2_machine.specs.Step.{StepEnd, carries_out, lent_to_begin, line_read, seen_by, step, steps_by, text_in, whose_by}
+use Rattle.b2_machine.specs.Touched.{StepsStayWithin, Told, begin_touched, tells_carrying, told, told_by}
+use Rattle.b2_machine.specs.Typing.{line_taken, put_by, shown_by, shows_output, takes, takes_or_refuses, typed_by_key}
 use Rattle.b2_machine.specs.declared.ends.Stepped.{Stepped}
 use Rattle.b2_machine.specs.declared.moving.Onward.{Onward}
 use Rattle.b2_machine.specs.declared.statements.Builder.{Builder}
@@ -69,6 +69,10 @@ use Rattle.b2_machine.specs.declared.statements.Progress.TheVariants as progress
 use Rattle.b2_machine.proofs.Lent.{begun_store, names_left}
 use Rattle.b2_access.specs.Showing.{shown}
 use Rattle.b2_access.specs.Views.{column_shown}
+use Rattle.b2_machine.specs.Due.{HasDue, due}
+use Rattle.b2_machine.specs.declared.rules.Rule.{Rule}
+use Rattle.b2_machine.specs.declared.rules.Rule.TheVariants as rule
+use Rattle.b2_machine.proofs.DueRules.{has_due}
 
 module _ (ways : Ways) (lawful : AreLawful ways) (among : ℕ → Bool) where
   abbrev Within : Private → Type 0
@@ -238,10 +242,6 @@ module _ (ways : Ways) (lawful : AreLawful ways) (among : ℕ → Bool) where
     abbrev Led : Told → M → Type 0
     Led t m = TouchedNamesIn among t.touched (store m)
 
-    by_test : (b : Bool) (e f : StepEnd M) (t u : Told) (m : M) → (Led t m → StepIn e) → (Led u m → StepIn f) → Led (if b then t else u) m → StepIn (if b then e else f)
-    by_test true e f t u m h k = h
-    by_test false e f t u m h k = k
-
     read_in : (x : Answer) (me : Private) (m : M) → Within me → Within (line_read store serving lending x me m).me
     read_in (answer.Line bytes) me m w = line_in bytes me w
     read_in (answer.Special n) me m w = pressed_in (typed_by_mark n (text_in (store m) me.part).lines) (first_opening (is_mark n) (text_in (store m) me.part).lines) me w
@@ -261,40 +261,26 @@ module _ (ways : Ways) (lawful : AreLawful ways) (among : ℕ → Bool) where
         led n q (in_right (object.Name n) front back i)
         (sym (ap (λ (s : StoreState). content s (object.Name n)) (begun_store store serving lending loans who home whose m left) ∙ names_left home whose left.vars (store m) n) ∙ is)
 
-    at_place : (x : Option Place) (me : Private) (m : M) → Led (told_at ways store serving lending x me m) m → PlaceIn among x → Within me → StepIn (runs_or_reads ways store serving lending x me m)
-    at_place None me m led h w = read_in (serving m me.part (access.ReadLine me.term)).answer me (serving m me.part (access.ReadLine me.term)).after w
-    at_place (Some p) me m led h w =
+    by_rule : (r : Rule) (me : Private) (m : M) → HasDue r me → Within me → Led (told_by ways store serving lending r me m) m → StepIn (steps_by ways store serving lending r me m)
+    by_rule rule.Reset me m is w led = reset_in me w
+    by_rule rule.Halt me m is w led = halted_in me w
+    by_rule rule.Show me m is w led = shown_in (shows_output me) _ me w
+    by_rule rule.Insert me m is w led = typed_in _ me w
+    by_rule rule.Read me m is w led = let g = serving m me.part (access.ReadLine me.term) in read_in g.answer me g.after w
+    by_rule rule.Put me m is w led = put_in _ me w
+    by_rule (rule.Execute p) me m is w led =
         let whose = whose_by p me (store m) in
         let s = seen_by me.part p.home whose (store m) in
         let left = leaves ways p me s in
         let b = begins ways p me s in
+        let h = subst (PlaceIn among) is w.place in
         let x = begins_in (statement_placed p me.immediate s.home.lines) p me s h w in
         let u = lent_to_begin store serving lending me.part p.home whose m left in
         let led_then = led_on me.part p.home whose left m (begin_touched me.part p.home whose (store m)) (tells_carrying ways store serving lending me.part b.progress p whose b.me u).touched led in
         carried_in me.part b.progress p whose b.me u led_then h x
 
-    at_number : (x : Option (ℕ × Option (List ℕ))) (me : Private) (m : M) → Led (told_entering ways store serving lending x me m) m → Within me → StepIn (enters_or_goes_on ways store serving lending x me m)
-    at_number (Some line) me m led w = put_in _ me w
-    at_number None me m led w = at_place me.place me m led w.place w
-
-    at_literal : (x : Option (List ℕ)) (me : Private) (m : M) → Led (told_typing ways store serving lending x me m) m → Within me → StepIn (types_or_goes_on ways store serving lending x me m)
-    at_literal (Some text) me m led w = typed_in _ me w
-    at_literal None me m led w = at_number me.numbered me m led w
-
-    at_output : (x : Option (List ℕ × List ℕ)) (me : Private) (m : M) → Led (told_showing ways store serving lending x me m) m → Within me → StepIn (shows_or_goes_on ways store serving lending x me m)
-    at_output (Some text) me m led w = shown_in (shows_pending text.0 text.1 me) _ me w
-    at_output None me m led w = at_literal me.literal me m led w
-
-    at_halt : (me : Private) (m : M) → Within me → Led (told_unless_halted ways store serving lending me m) m → StepIn (halts_or_acts ways store serving lending me m)
-    at_halt me m w =
-        by_test (is_ready me) _ _ _ _ m
-        (λ led. at_output me.pending (record me { halt = false }) m led (record { part = w.part; place = w.place; kept = w.kept; frames = w.frames }))
-        (λ led. halted_in me w)
-
     step_in : (me : Private) (m : M) → Within me → Led (told ways store serving lending me m) m → StepIn (step ways store serving lending me m)
-    step_in me m w =
-        by_test me.reset _ _ _ _ m (λ led. reset_in me w)
-        (by_test me.halt _ _ _ _ m (at_halt me m w) (λ led. at_output me.pending me m led w))
+    step_in me m w led = by_rule (due me) (without_halt me) m (has_due me) (record { part = w.part; place = w.place; kept = w.kept; frames = w.frames }) led
 
 pub steps_stay_within : (ways : Ways) (lawful : AreLawful ways) {M : Type 0} (store : M → StoreState) (serving : ServingOf M) (lending : Loan M) → LoansGlobals store lending → AnswersLead store serving
     → StepsStayWithin ways store serving lending

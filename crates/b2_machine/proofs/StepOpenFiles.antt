@@ -1,5 +1,5 @@
 -- A step keeps the files that a partition has open on platters that are listed for it, at their first sectors or after them.
-use Rattle.std.proofs.Common.{refl, ap, ℕ, false, List, Option, Some, None, is_some, subst, sym}
+use Rattle.std.proofs.Common.{refl, ap, ℕ, List, Option, Some, None, is_some, subst, sym}
 use Rattle.b2_flow.specs.declared.frame.Place.{Place}
 use Rattle.b2_syntax.specs.Reading.{reads}
 use Rattle.b2_text.specs.Program.{Lines}
@@ -11,7 +11,6 @@ use Rattle.b2_access.specs.LegalPlans.{IsLegalPlan}
 use Rattle.b2_access.specs.KeyLiterals.{typed_by_mark}
 use Rattle.b2_access.specs.OpenFiles.{HasOpenFiles}
 use Rattle.b2_access.specs.OwnDevices.{PlannedListed, ReachesListed}
-use Rattle.b2_access.specs.Partition.{is_ready}
 use Rattle.b2_access.specs.Placed.{Statement, statement_placed}
 use Rattle.b2_access.specs.Sharing.{ServingOf}
 use Rattle.b2_access.specs.Store.{StoreState}
@@ -26,14 +25,13 @@ use Rattle.b2_access.specs.declared.lending.At.{At}
 use Rattle.b2_access.specs.declared.planned.Planned.{Planned}
 use Rattle.b2_access.specs.declared.planned.Planned.TheVariants as planned
 use Rattle.b2_access.specs.declared.private.Private.{Private}
-use Rattle.b2_access.proofs.Choice.{either}
 use Rattle.b2_access.proofs.OpenFiles.{same_files}
 use Rattle.b2_language.specs.Languages.{AreLawful, AskForListed, KeepOpenFiles, Ways}
 use Rattle.b2_machine.specs.Endings.{counts, repeats}
 use Rattle.b2_machine.specs.OpenFiles.{FitsFrom, StepsKeepOpenFiles}
 use Rattle.b2_machine.specs.Statements.{Begun, begins, begins_where, begun_by, builder_of, finish_by, finishes, leaves, plan_by}
-use Rattle.b2_machine.specs.Step.{StepEnd, carries_out, enters_or_goes_on, halts_or_acts, lent_to_begin, line_read, runs_or_reads, seen_by, shows_or_goes_on, step, text_in, types_or_goes_on, whose_by}
-use Rattle.b2_machine.specs.Typing.{puts_numbered, shows_pending}
+use Rattle.b2_machine.specs.Step.{StepEnd, carries_out, lent_to_begin, line_read, seen_by, step, steps_by, text_in, whose_by}
+use Rattle.b2_machine.specs.Typing.{inserts_literal, put_by, puts_numbered, shown_by, shows_output, typed_by_key}
 use Rattle.b2_machine.specs.declared.moving.Onward.{Onward}
 use Rattle.b2_machine.specs.declared.statements.Builder.{Builder}
 use Rattle.b2_machine.specs.declared.statements.Builder.TheVariants as builder
@@ -44,6 +42,10 @@ use Rattle.b2_machine.proofs.OwnRules.{Own, StaysOwn, ended_stays, line_stays, l
 use Rattle.b2_machine.proofs.StepDevices.{planned_listed}
 use Rattle.b2_machine.proofs.Unchanged.{plans}
 use Rattle.b2_vars.specs.Globals.{Globals}
+use Rattle.b2_machine.specs.Due.{due}
+use Rattle.b2_machine.specs.declared.rules.Rule.{Rule}
+use Rattle.b2_machine.specs.declared.rules.Rule.TheVariants as rule
+use Rattle.b2_machine.specs.Readiness.{without_halt}
 
 module _ (ways : List Device → Ways) (lawful : (devices : List Device) → AreLawful (ways devices)) (listed : AskForListed ways) (keeps : KeepOpenFiles ways) (devices : List Device) where
   abbrev Open : Private → Type 0
@@ -110,11 +112,17 @@ module _ (ways : List Device → Ways) (lawful : (devices : List Device) → Are
     abbrev Fits : Private → M → Type 0
     Fits me m = (home : ℕ) (whose : At) (left : Globals) → FitsFrom serving (lent_to_begin store serving lending me.part home whose m left)
 
-    at_place : (x : Option Place) (me : Private) (m : M) → Fits me m → Open me → StepOpen (runs_or_reads (ways devices) store serving lending x me m)
-    at_place None me m fits h =
-        let g = serving m me.part (access.ReadLine me.term) in
-        read_open g.answer me g.after h
-    at_place (Some p) me m fits h =
+    by_rule : (r : Rule) (me : Private) (m : M) → Fits me m → Open me → StepOpen (steps_by (ways devices) store serving lending r me m)
+    by_rule rule.Reset me m fits h = h
+    by_rule rule.Halt me m fits h = h
+    by_rule rule.Show me m fits h =
+        let a = shows_output me in
+        let x = (serving m me.part a).answer in
+        still me (shown_by a x me).me (shown_stays a x me) h
+    by_rule rule.Insert me m fits h = let x = (serving m me.part (inserts_literal me)).answer in still me (typed_by_key x me).me (typed_stays x me) h
+    by_rule rule.Read me m fits h = let g = serving m me.part (access.ReadLine me.term) in read_open g.answer me g.after h
+    by_rule rule.Put me m fits h = let x = (serving m me.part (puts_numbered me)).answer in still me (put_by x me).me (put_stays x me) h
+    by_rule (rule.Execute p) me m fits h =
         let whose = whose_by p me (store m) in
         let s = seen_by me.part p.home whose (store m) in
         let left = leaves (ways devices) p me s in
@@ -122,25 +130,8 @@ module _ (ways : List Device → Ways) (lawful : (devices : List Device) → Are
         let k = begins_open (statement_placed p me.immediate s.home.lines) p me s h in
         carried_open me.part b.progress p whose b.me (lent_to_begin store serving lending me.part p.home whose m left) (fits p.home whose left) k.1 k.0
 
-    at_number : (x : Option (ℕ × Option (List ℕ))) (me : Private) (m : M) → Fits me m → Open me → StepOpen (enters_or_goes_on (ways devices) store serving lending x me m)
-    at_number (Some line) me m fits h = still me (enters_or_goes_on (ways devices) store serving lending (Some line) me m).me (put_stays (serving m me.part (puts_numbered line me)).answer me) h
-    at_number None me m fits h = at_place me.place me m fits h
-
-    at_literal : (x : Option (List ℕ)) (me : Private) (m : M) → Fits me m → Open me → StepOpen (types_or_goes_on (ways devices) store serving lending x me m)
-    at_literal (Some text) me m fits h = still me (types_or_goes_on (ways devices) store serving lending (Some text) me m).me (typed_stays (serving m me.part (access.Insert me.term text)).answer me) h
-    at_literal None me m fits h = at_number me.numbered me m fits h
-
-    at_output : (x : Option (List ℕ × List ℕ)) (me : Private) (m : M) → Fits me m → Open me → StepOpen (shows_or_goes_on (ways devices) store serving lending x me m)
-    at_output (Some waiting) me m fits h =
-        let a = shows_pending waiting.0 waiting.1 me in
-        still me (shows_or_goes_on (ways devices) store serving lending (Some waiting) me m).me (shown_stays a (serving m me.part a).answer me) h
-    at_output None me m fits h = at_literal me.literal me m fits h
-
-    at_halt : (me : Private) (m : M) → Fits me m → Open me → StepOpen (halts_or_acts (ways devices) store serving lending me m)
-    at_halt me m fits h = either StepOpen (is_ready me) _ _ (at_output me.pending (record me { halt = false }) m fits h) h
-
     step_open : (me : Private) (m : M) → Fits me m → Open me → StepOpen (step (ways devices) store serving lending me m)
-    step_open me m fits h = either StepOpen me.reset _ _ h (either StepOpen me.halt _ _ (at_halt me m fits h) (at_output me.pending me m fits h))
+    step_open me m fits h = by_rule (due me) (without_halt me) m fits h
 
 pub steps_keep_open_files : (ways : List Device → Ways) (lawful : (devices : List Device) → AreLawful (ways devices)) (listed : AskForListed ways) (keeps : KeepOpenFiles ways) {M : Type 0} (store : M → StoreState) (serving : ServingOf M) (lending : Loan M)
     → StepsKeepOpenFiles ways store serving lending

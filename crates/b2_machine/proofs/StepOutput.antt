@@ -13,7 +13,6 @@ use Rattle.b2_text.specs.declared.spots.Spot.{Spot}
 use Rattle.b2_access.specs.Lending.{SeenLent}
 use Rattle.b2_access.specs.Loans.{Loan}
 use Rattle.b2_access.specs.KeyLiterals.{typed_by_mark}
-use Rattle.b2_access.specs.Partition.{is_ready}
 use Rattle.b2_access.specs.Pending.{IsForTerminal, KeepsOrShows, PendingOutput}
 use Rattle.b2_access.specs.Placed.{Statement, statement_placed}
 use Rattle.b2_access.specs.Sharing.{ServingOf}
@@ -38,11 +37,11 @@ use Rattle.b2_machine.specs.Keys.{calls_where, pressed_by}
 use Rattle.b2_machine.specs.Listed.{lists}
 use Rattle.b2_machine.specs.Moving.{ends_by, ends_onward, error_place, faults, goes_to, jumps, place_onward}
 use Rattle.b2_machine.specs.Statements.{begins, begins_where, begun_by, builder_of, finish_by, finishes, leaves, plan_by}
-use Rattle.b2_machine.specs.Step.{StepEnd, carries_out, enters_or_goes_on, halts_or_acts, lent_to_begin, line_read, runs_or_reads, seen_by, shows_or_goes_on, step, text_in, types_or_goes_on, whose_by}
+use Rattle.b2_machine.specs.Step.{StepEnd, carries_out, executes, lent_to_begin, line_read, seen_by, step, steps_by, text_in, whose_by}
 use Rattle.b2_machine.specs.Touched.{StepsShowAtTerminal}
 use Rattle.b2_machine.specs.Turn.{TurnEnd, counted_on, ended_turn as turn_ended, passes_none, turn, turn_from, unless_ended}
 use Rattle.b2_machine.proofs.PassedTurns.{each_turn}
-use Rattle.b2_machine.specs.Typing.{put_by, puts_numbered, shown_by, shows_pending, takes, takes_or_refuses, typed_by_key}
+use Rattle.b2_machine.specs.Typing.{inserts_literal, put_by, puts_numbered, shown_by, shows_output, takes, takes_or_refuses, typed_by_key}
 use Rattle.b2_machine.specs.declared.ends.Stepped.{Stepped}
 use Rattle.b2_machine.specs.declared.ends.Why.{Why}
 use Rattle.b2_machine.specs.declared.moving.Onward.{Onward}
@@ -50,6 +49,10 @@ use Rattle.b2_machine.specs.declared.statements.Builder.{Builder}
 use Rattle.b2_machine.specs.declared.statements.Builder.TheVariants as builder
 use Rattle.b2_machine.specs.declared.statements.Progress.{Progress}
 use Rattle.b2_machine.specs.declared.statements.Progress.TheVariants as progress
+use Rattle.b2_machine.specs.Due.{due}
+use Rattle.b2_machine.specs.declared.rules.Rule.{Rule}
+use Rattle.b2_machine.specs.declared.rules.Rule.TheVariants as rule
+use Rattle.b2_machine.specs.Readiness.{without_halt}
 
 abbrev Shows : Private → Private → Type 0
 Shows me after = KeepsOrShows me.pending after.pending
@@ -167,37 +170,23 @@ module _ (ways : Ways) (lawful : AreLawful ways) {M : Type 0} (store : M → Sto
       let g = serving m who a in
       finished_shows ways lawful b a g.answer w p me (seen_by who p.home whose (store g.after))
 
-  at_place : (x : Option Place) (me : Private) (m : M) → StepShows me (runs_or_reads ways store serving lending x me m)
-  at_place None me m =
-      let g = serving m me.part (access.ReadLine me.term) in
-      read_shows g.answer me g.after
-  at_place (Some p) me m =
+  by_rule : (r : Rule) (me : Private) (m : M) → StepShows me (steps_by ways store serving lending r me m)
+  by_rule rule.Reset me m = inr refl
+  by_rule rule.Halt me m = inr refl
+  by_rule rule.Show me m = let a = shows_output me in shown_shows a (serving m me.part a).answer me
+  by_rule rule.Insert me m = typed_shows (serving m me.part (inserts_literal me)).answer me
+  by_rule rule.Read me m = let g = serving m me.part (access.ReadLine me.term) in read_shows g.answer me g.after
+  by_rule rule.Put me m = put_shows (serving m me.part (puts_numbered me)).answer me
+  by_rule (rule.Execute p) me m =
       let whose = whose_by p me (store m) in
       let s = seen_by me.part p.home whose (store m) in
       let b = begins ways p me s in
-      then_shows me.pending b.me.pending (runs_or_reads ways store serving lending (Some p) me m).me.pending
+      then_shows me.pending b.me.pending (executes ways store serving lending p me m).me.pending
       (begins_shows ways lawful (statement_placed p me.immediate s.home.lines) p me s)
       (carried_shows me.part b.progress p whose b.me (lent_to_begin store serving lending me.part p.home whose m (leaves ways p me s)))
 
-  at_number : (x : Option (ℕ × Option (List ℕ))) (me : Private) (m : M) → StepShows me (enters_or_goes_on ways store serving lending x me m)
-  at_number (Some line) me m = put_shows (serving m me.part (puts_numbered line me)).answer me
-  at_number None me m = at_place me.place me m
-
-  at_literal : (x : Option (List ℕ)) (me : Private) (m : M) → StepShows me (types_or_goes_on ways store serving lending x me m)
-  at_literal (Some text) me m = typed_shows (serving m me.part (access.Insert me.term text)).answer me
-  at_literal None me m = at_number me.numbered me m
-
-  at_output : (x : PendingOutput) (me : Private) (m : M) → StepShows me (shows_or_goes_on ways store serving lending x me m)
-  at_output (Some waiting) me m =
-      let a = shows_pending waiting.0 waiting.1 me in
-      shown_shows a (serving m me.part a).answer me
-  at_output None me m = at_literal me.literal me m
-
-  at_halt : (me : Private) (m : M) → StepShows me (halts_or_acts ways store serving lending me m)
-  at_halt me m = either (StepShows me) (is_ready me) _ _ (at_output me.pending (record me { halt = false }) m) (inr refl)
-
   pub step_shows : StepsShowAtTerminal ways store serving lending
-  step_shows me m = either (StepShows me) me.reset _ _ (inr refl) (either (StepShows me) me.halt _ _ (at_halt me m) (at_output me.pending me m))
+  step_shows me m = by_rule (due me) (without_halt me) m
 
   -- and so a turn: what waits for the terminal alone, as at the start, does so after it
   pub still_for_terminal : (me after : Private) → Shows me after → IsForTerminal me.pending → IsForTerminal after.pending

@@ -1,5 +1,5 @@
 -- A step leaves which partition it is.
-use Rattle.std.proofs.Common.{◌≡◌, ◌∙◌, refl, ap, ℕ, false, List, Option, Some, None, is_some}
+use Rattle.std.proofs.Common.{◌≡◌, ◌∙◌, refl, ap, ℕ, Option, Some, None, is_some}
 use Rattle.b2_flow.specs.declared.frame.Place.{Place}
 use Rattle.b2_syntax.specs.Reading.{reads}
 use Rattle.b2_text.specs.Program.{Lines}
@@ -7,7 +7,6 @@ use Rattle.b2_text.specs.Spots.{first_opening, is_mark}
 use Rattle.b2_access.specs.Lending.{SeenLent}
 use Rattle.b2_access.specs.Loans.{Loan}
 use Rattle.b2_access.specs.KeyLiterals.{typed_by_mark}
-use Rattle.b2_access.specs.Partition.{is_ready}
 use Rattle.b2_access.specs.Placed.{Statement, statement_placed}
 use Rattle.b2_access.specs.Sharing.{ServingOf}
 use Rattle.b2_access.specs.Store.{StoreState}
@@ -19,21 +18,24 @@ use Rattle.b2_access.specs.declared.lending.At.{At}
 use Rattle.b2_access.specs.declared.planned.Planned.{Planned}
 use Rattle.b2_access.specs.declared.planned.Planned.TheVariants as planned
 use Rattle.b2_access.specs.declared.private.Private.{Private}
-use Rattle.b2_access.proofs.Choice.{either}
 use Rattle.b2_language.specs.Languages.{AreLawful, Ways}
 use Rattle.b2_machine.specs.Endings.{counts, repeats}
 use Rattle.b2_machine.specs.Keys.{pressed}
 use Rattle.b2_machine.specs.Moving.{ends_by, ends_onward}
 use Rattle.b2_machine.specs.Statements.{begins, begins_where, begun_by, builder_of, finish_by, finishes, leaves, plan_by}
-use Rattle.b2_machine.specs.Step.{StepEnd, carries_out, enters_or_goes_on, halts_or_acts, lent_to_begin, line_read, runs_or_reads, seen_by, shows_or_goes_on, text_in, types_or_goes_on, whose_by}
+use Rattle.b2_machine.specs.Step.{StepEnd, carries_out, lent_to_begin, line_read, seen_by, steps_by, text_in, whose_by}
 use Rattle.b2_machine.specs.Touched.{StepsKeepPart}
-use Rattle.b2_machine.specs.Typing.{put_by, puts_numbered, shown_by, shows_pending, takes_or_refuses, typed_by_key}
+use Rattle.b2_machine.specs.Typing.{inserts_literal, put_by, puts_numbered, shown_by, shows_output, takes_or_refuses, typed_by_key}
 use Rattle.b2_machine.proofs.OwnRules.{Own, StaysOwn, ended_stays, line_stays, listed_stays, onward_stays, pressed_stays, put_stays, shown_stays, typed_stays}
 use Rattle.b2_machine.specs.declared.moving.Onward.{Onward}
 use Rattle.b2_machine.specs.declared.statements.Builder.{Builder}
 use Rattle.b2_machine.specs.declared.statements.Builder.TheVariants as builder
 use Rattle.b2_machine.specs.declared.statements.Progress.{Progress}
 use Rattle.b2_machine.specs.declared.statements.Progress.TheVariants as progress
+use Rattle.b2_machine.specs.Due.{due}
+use Rattle.b2_machine.specs.declared.rules.Rule.{Rule}
+use Rattle.b2_machine.specs.declared.rules.Rule.TheVariants as rule
+use Rattle.b2_machine.specs.Readiness.{without_halt}
 
 abbrev SamePart : Private → Private → Type 0
 SamePart me after = after.part ≡ me.part
@@ -80,31 +82,21 @@ module _ (ways : Ways) (lawful : AreLawful ways) where
     carried who (progress.Ended e) p whose me m = refl
     carried who (progress.Asks a b w) p whose me m = let g = serving m who a in finished b a g.answer w p me (seen_by who p.home whose (store g.after))
 
-    at_place : (x : Option Place) (me : Private) (m : M) → Same me (runs_or_reads ways store serving lending x me m)
-    at_place None me m = let g = serving m me.part (access.ReadLine me.term) in read g.answer me g.after
-    at_place (Some p) me m =
+    by_rule : (r : Rule) (me : Private) (m : M) → Same me (steps_by ways store serving lending r me m)
+    by_rule rule.Reset me m = refl
+    by_rule rule.Halt me m = refl
+    by_rule rule.Show me m =
+        let a = shows_output me in
+        let x = (serving m me.part a).answer in
+        same_part me (shown_by a x me).me (shown_stays a x me)
+    by_rule rule.Insert me m = let x = (serving m me.part (inserts_literal me)).answer in same_part me (typed_by_key x me).me (typed_stays x me)
+    by_rule rule.Read me m = let g = serving m me.part (access.ReadLine me.term) in read g.answer me g.after
+    by_rule rule.Put me m = let x = (serving m me.part (puts_numbered me)).answer in same_part me (put_by x me).me (put_stays x me)
+    by_rule (rule.Execute p) me m =
         let whose = whose_by p me (store m) in
         let s = seen_by me.part p.home whose (store m) in
         let b = begins ways p me s in
         carried me.part b.progress p whose b.me (lent_to_begin store serving lending me.part p.home whose m (leaves ways p me s)) ∙ begins_same (statement_placed p me.immediate s.home.lines) p me s
 
-    at_number : (x : Option (ℕ × Option (List ℕ))) (me : Private) (m : M) → Same me (enters_or_goes_on ways store serving lending x me m)
-    at_number (Some line) me m = let a = (serving m me.part (puts_numbered line me)).answer in same_part me (put_by a me).me (put_stays a me)
-    at_number None me m = at_place me.place me m
-
-    at_literal : (x : Option (List ℕ)) (me : Private) (m : M) → Same me (types_or_goes_on ways store serving lending x me m)
-    at_literal (Some text) me m = let a = (serving m me.part (access.Insert me.term text)).answer in same_part me (typed_by_key a me).me (typed_stays a me)
-    at_literal None me m = at_number me.numbered me m
-
-    at_output : (x : Option (List ℕ × List ℕ)) (me : Private) (m : M) → Same me (shows_or_goes_on ways store serving lending x me m)
-    at_output (Some text) me m =
-        let a = shows_pending text.0 text.1 me in
-        let x = (serving m me.part a).answer in
-        same_part me (shown_by a x me).me (shown_stays a x me)
-    at_output None me m = at_literal me.literal me m
-
-    at_halt : (me : Private) (m : M) → Same me (halts_or_acts ways store serving lending me m)
-    at_halt me m = either (Same me) (is_ready me) _ _ (at_output me.pending (record me { halt = false }) m) refl
-
     pub steps_keep_part : StepsKeepPart ways store serving lending
-    steps_keep_part me m = either (Same me) me.reset _ _ refl (either (Same me) me.halt _ _ (at_halt me m) (at_output me.pending me m))
+    steps_keep_part me m = by_rule (due me) (without_halt me) m

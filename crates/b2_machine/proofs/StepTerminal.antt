@@ -8,7 +8,7 @@ use Rattle.b2_text.specs.Spots.{first_opening, is_mark}
 use Rattle.b2_access.specs.Lending.{SeenLent}
 use Rattle.b2_access.specs.Loans.{Loan}
 use Rattle.b2_access.specs.OwnTerminal.{AskedAt, NamesAlone, PlannedAt}
-use Rattle.b2_access.specs.Partition.{is_ready, terminal_address}
+use Rattle.b2_access.specs.Partition.{terminal_address}
 use Rattle.b2_access.specs.Placed.{Statement, statement_placed}
 use Rattle.b2_access.specs.Planning.{Planning}
 use Rattle.b2_access.specs.Sharing.{ServingOf}
@@ -30,17 +30,20 @@ use Rattle.b2_machine.specs.Keys.{pressed}
 use Rattle.b2_machine.specs.Listed.{range_listed, lists}
 use Rattle.b2_machine.specs.Messages.{prints_text, shows_text}
 use Rattle.b2_machine.specs.Moving.{ends_by, ends_onward}
-use Rattle.b2_machine.specs.Readiness.{gives_back}
+use Rattle.b2_machine.specs.Readiness.{gives_back, without_halt}
 use Rattle.b2_machine.specs.Statements.{Begun, begins, begins_where, begun_by, builder_of, finish_by, finishes, leaves, plan_by}
-use Rattle.b2_machine.specs.Step.{StepEnd, carries_out, enters_or_goes_on, halts_or_acts, lent_to_begin, line_read, runs_or_reads, seen_by, shows_or_goes_on, step, text_in, types_or_goes_on, whose_by}
-use Rattle.b2_machine.specs.Touched.{StepsAskAtTerminal, access_asked, asking, asks_at, asks_to_enter, asks_to_show, asks_to_type, asks_unless_halted}
-use Rattle.b2_machine.specs.Typing.{on_own_line, put_by, puts_numbered, shown_by, shows_pending, takes_or_refuses, typed_by_key}
+use Rattle.b2_machine.specs.Step.{StepEnd, carries_out, lent_to_begin, line_read, seen_by, step, steps_by, text_in, whose_by}
+use Rattle.b2_machine.specs.Touched.{StepsAskAtTerminal, access_asked, asks_by}
+use Rattle.b2_machine.specs.Typing.{inserts_literal, on_own_line, output_pending, put_by, puts_numbered, shown_by, shows_output, shows_pending, takes_or_refuses, typed_by_key}
 use Rattle.b2_machine.proofs.OwnRules.{Own, StaysOwn, ended_stays, line_stays, onward_stays, pressed_stays, put_stays, shown_stays, typed_stays}
 use Rattle.b2_machine.specs.declared.moving.Onward.{Onward}
 use Rattle.b2_machine.specs.declared.statements.Builder.{Builder}
 use Rattle.b2_machine.specs.declared.statements.Builder.TheVariants as builder
 use Rattle.b2_machine.specs.declared.statements.Progress.{Progress}
 use Rattle.b2_machine.specs.declared.statements.Progress.TheVariants as progress
+use Rattle.b2_machine.specs.Due.{due}
+use Rattle.b2_machine.specs.declared.rules.Rule.{Rule}
+use Rattle.b2_machine.specs.declared.rules.Rule.TheVariants as rule
 
 -- the terminal stays
 abbrev SameTerminal : Private → Private → Type 0
@@ -98,10 +101,6 @@ module _ (ways : Ways) (lawful : AreLawful ways) {M : Type 0} (store : M → Sto
   abbrev StepAt : ℕ → StepEnd M → Option Access → Type 0
   StepAt t e asks = (e.me.term ≡ t) × AskedAt t asks
 
-  by_test : (t : ℕ) (b : Bool) (e f : StepEnd M) (x y : Option Access) → StepAt t e x → StepAt t f y → StepAt t (if b then e else f) (if b then x else y)
-  by_test t true e f x y h k = h
-  by_test t false e f x y h k = k
-
   read_stays : (x : Answer) (me : Private) (m : M) → SameTerminal me (line_read store serving lending x me m).me
   read_stays (answer.Line bytes) me m = same_terminal me (takes_or_refuses (reads bytes) (record me { term_column = 0 })) (line_stays (reads bytes) (record me { term_column = 0 }))
   read_stays (answer.Special n) me m =
@@ -115,41 +114,31 @@ module _ (ways : Ways) (lawful : AreLawful ways) {M : Type 0} (store : M → Sto
       let g = serving m who a in
       finished_stays ways lawful b a g.answer w p me (seen_by who p.home whose (store g.after))
 
-  at_place : (x : Option Place) (me : Private) (m : M) → StepAt me.term (runs_or_reads ways store serving lending x me m) (asks_at ways x me (store m))
-  at_place None me m =
-      let g = serving m me.part (access.ReadLine me.term) in
-      (read_stays g.answer me g.after, names_own me.term (access.ReadLine me.term) refl)
-  at_place (Some p) me m =
+  by_rule : (r : Rule) (me : Private) (m : M) → StepAt me.term (steps_by ways store serving lending r me m) (asks_by ways r me (store m))
+  by_rule rule.Reset me m = (refl, names_none me.term (gives_back me) refl)
+  by_rule rule.Halt me m = (refl, tt)
+  by_rule rule.Show me m =
+      let a = shows_output me in
+      let x = (serving m me.part a).answer in
+      (same_terminal me (shown_by a x me).me (shown_stays a x me), pending_names (output_pending me).0 (output_pending me).1 me)
+  by_rule rule.Insert me m =
+      let a = inserts_literal me in
+      let x = (serving m me.part a).answer in
+      (same_terminal me (typed_by_key x me).me (typed_stays x me), names_own me.term a refl)
+  by_rule rule.Read me m =
+      let a = access.ReadLine me.term in
+      let g = serving m me.part a in
+      (read_stays g.answer me g.after, names_own me.term a refl)
+  by_rule rule.Put me m =
+      let a = puts_numbered me in
+      let x = (serving m me.part a).answer in
+      (same_terminal me (put_by x me).me (put_stays x me), names_none me.term a refl)
+  by_rule (rule.Execute p) me m =
       let whose = whose_by p me (store m) in
       let s = seen_by me.part p.home whose (store m) in
       let b = begins ways p me s in
       let h = begins_at ways lawful (statement_placed p me.immediate s.home.lines) p me s in
       (carried_stays me.part b.progress p whose b.me (lent_to_begin store serving lending me.part p.home whose m (leaves ways p me s)) ∙ h.0, h.1)
 
-  at_number : (x : Option (ℕ × Option (List ℕ))) (me : Private) (m : M) → StepAt me.term (enters_or_goes_on ways store serving lending x me m) (asks_to_enter ways x me (store m))
-  at_number (Some line) me m =
-      let a = (serving m me.part (puts_numbered line me)).answer in
-      (same_terminal me (put_by a me).me (put_stays a me), names_none me.term (puts_numbered line me) refl)
-  at_number None me m = at_place me.place me m
-
-  at_literal : (x : Option (List ℕ)) (me : Private) (m : M) → StepAt me.term (types_or_goes_on ways store serving lending x me m) (asks_to_type ways x me (store m))
-  at_literal (Some text) me m =
-      let a = (serving m me.part (access.Insert me.term text)).answer in
-      (same_terminal me (typed_by_key a me).me (typed_stays a me), names_own me.term (access.Insert me.term text) refl)
-  at_literal None me m = at_number me.numbered me m
-
-  at_output : (x : Option (List ℕ × List ℕ)) (me : Private) (m : M) → StepAt me.term (shows_or_goes_on ways store serving lending x me m) (asks_to_show ways x me (store m))
-  at_output (Some text) me m =
-      let a = shows_pending text.0 text.1 me in
-      let x = (serving m me.part a).answer in
-      (same_terminal me (shown_by a x me).me (shown_stays a x me), pending_names text.0 text.1 me)
-  at_output None me m = at_literal me.literal me m
-
-  at_halt : (me : Private) (m : M) → StepAt me.term (halts_or_acts ways store serving lending me m) (asks_unless_halted ways me (store m))
-  at_halt me m = by_test me.term (is_ready me) _ _ _ _ (at_output me.pending (record me { halt = false }) m) (refl, tt)
-
-  step_at : (me : Private) (m : M) → StepAt me.term (step ways store serving lending me m) (asking ways me (store m))
-  step_at me m = by_test me.term me.reset _ _ _ _ (refl, names_none me.term (gives_back me) refl) (by_test me.term me.halt _ _ _ _ (at_halt me m) (at_output me.pending me m))
-
 pub steps_ask_at_terminal : (ways : Ways) (lawful : AreLawful ways) {M : Type 0} (store : M → StoreState) (serving : ServingOf M) (lending : Loan M) → StepsAskAtTerminal ways store serving lending
-steps_ask_at_terminal ways lawful store serving lending me m = step_at ways lawful store serving lending me m
+steps_ask_at_terminal ways lawful store serving lending me m = by_rule ways lawful store serving lending (due me) (without_halt me) m

@@ -1,5 +1,5 @@
 -- A step that doesn't count has changed nothing of its partition, but that a halt is forgotten.
-use Rattle.std.proofs.Common.{◌≡◌, ◌∙◌, refl, ap, ℕ, Bool, true, false, if◌then◌else◌, List, Option, Some, None, is_some}
+use Rattle.std.proofs.Common.{◌≡◌, ◌∙◌, refl, ap, ℕ, Bool, true, false, if◌then◌else◌, Option, Some, None, is_some}
 use Rattle.b2_flow.specs.declared.frame.Place.{Place}
 use Rattle.b2_text.specs.Program.{Lines}
 use Rattle.b2_access.specs.AnswerKinds.{delays}
@@ -28,15 +28,18 @@ use Rattle.b2_machine.specs.Counting.{UncountedStepsChangeNothing}
 use Rattle.b2_machine.specs.Endings.{counts, ends_turn, repeats}
 use Rattle.b2_machine.specs.Listed.{lists}
 use Rattle.b2_machine.specs.Moving.{ends_by, ends_onward, error_place, faults, goes_to, onward_from, place_onward}
-use Rattle.b2_machine.specs.Readiness.{halted}
+use Rattle.b2_machine.specs.Readiness.{without_halt}
 use Rattle.b2_machine.specs.Statements.{begins_where, begun_by, builder_of, finish_by, finishes, leaves, plan_by}
-use Rattle.b2_machine.specs.Step.{acts, by_itself, enters_or_goes_on, executes, goes_through, halts_or_acts, lent_to_begin, line_read, resets_by, runs_or_reads, seen_by, shows_or_goes_on, types_or_goes_on, whose_by}
-use Rattle.b2_machine.specs.Typing.{put_by, shown_by, shows_pending, typed_by_key}
+use Rattle.b2_machine.specs.Step.{executes, goes_through, lent_to_begin, line_read, seen_by, steps_by, whose_by}
+use Rattle.b2_machine.specs.Typing.{put_by, shown_by, shows_output, typed_by_key}
 use Rattle.b2_machine.specs.declared.ends.Stepped.{Stepped}
 use Rattle.b2_machine.specs.declared.ends.Why.TheVariants as reason
 use Rattle.b2_machine.specs.declared.moving.Onward.{Onward}
 use Rattle.b2_machine.specs.declared.statements.Builder.{Builder}
 use Rattle.b2_machine.specs.declared.statements.Builder.TheVariants as builder
+use Rattle.b2_machine.specs.Due.{due}
+use Rattle.b2_machine.specs.declared.rules.Rule.{Rule}
+use Rattle.b2_machine.specs.declared.rules.Rule.TheVariants as rule
 
 delayed : (a : Answer) → (repeats a).counted ≡ false → delays a ≡ true
 delayed answer.NoKeys h = refl
@@ -127,51 +130,19 @@ module _ (ways : Ways) (lawful : AreLawful ways) (before : Private) where
     read (answer.Special n) m h = cc
     read a m h = refl
 
-    run : (o : Option Place) (m : M) → Unless (runs_or_reads ways store serving lending o before m).end (runs_or_reads ways store serving lending o before m).me
-    run None m = let g = serving m before.part (access.ReadLine before.term) in read g.answer g.after
-    run (Some p) m = executed p m
+    reset_counts : (b : Bool) → (if b then counts else ends_turn reason.Ready).counted ≡ true
+    reset_counts true = refl
+    reset_counts false = refl
 
-    enter : (o : Option (ℕ × Option (List ℕ))) (m : M) → Unless (enters_or_goes_on ways store serving lending o before m).end (enters_or_goes_on ways store serving lending o before m).me
-    enter None m = run before.place m
-    enter (Some line) m = put _
-
-    type_ : (o : Option (List ℕ)) (m : M) → Unless (types_or_goes_on ways store serving lending o before m).end (types_or_goes_on ways store serving lending o before m).me
-    type_ None m = enter before.numbered m
-    type_ (Some text) m = typed _
-
-    show : (o : Option (List ℕ × List ℕ)) (m : M) → Unless (shows_or_goes_on ways store serving lending o before m).end (shows_or_goes_on ways store serving lending o before m).me
-    show None m = type_ before.literal m
-    show (Some waiting) m = shown (shows_pending waiting.0 waiting.1 before) _
+    by_rule : (r : Rule) (m : M) → Unless (steps_by ways store serving lending r before m).end (steps_by ways store serving lending r before m).me
+    by_rule rule.Reset m h = let counted = reset_counts (is_ready before) in cc
+    by_rule rule.Halt m h = cc
+    by_rule rule.Show m = shown (shows_output before) _
+    by_rule rule.Insert m = typed _
+    by_rule rule.Read m = let g = serving m before.part (access.ReadLine before.term) in read g.answer g.after
+    by_rule rule.Put m = put _
+    by_rule (rule.Execute p) m = executed p m
 
 module _ (ways : Ways) (lawful : AreLawful ways) {M : Type 0} (store : M → StoreState) (serving : ServingOf M) (lending : Loan M) where
-  -- but for the flag of a halt
-  abbrev ButForHalt : Private → Stepped → Private → Type 0
-  ButForHalt me e after = e.counted ≡ false → record after { halt = me.halt } ≡ me
-
-  acted : (me : Private) (m : M) → ButForHalt me (acts ways store serving lending me m).end (acts ways store serving lending me m).me
-  acted me m h = ap (λ (p : Private). record p { halt = me.halt }) (show ways lawful me store serving lending me.pending m h)
-
-  halt : (b : Bool) (me : Private) (m : M)
-      → ButForHalt me (if b then acts ways store serving lending (record me { halt = false }) m else by_itself store serving lending (halted me) m).end
-      (if b then acts ways store serving lending (record me { halt = false }) m else by_itself store serving lending (halted me) m).me
-  halt true me m h = let ready = record me { halt = false } in ap (λ (p : Private). record p { halt = me.halt }) (show ways lawful ready store serving lending me.pending m h)
-  halt false me m h = cc
-
-  act : (b : Bool) (me : Private) (m : M)
-      → ButForHalt me (if b then halts_or_acts ways store serving lending me m else acts ways store serving lending me m).end
-      (if b then halts_or_acts ways store serving lending me m else acts ways store serving lending me m).me
-  act true me m = halt (is_ready me) me m
-  act false me m = acted me m
-
-  reset_counts : (b : Bool) → (if b then counts else ends_turn reason.Ready).counted ≡ true
-  reset_counts true = refl
-  reset_counts false = refl
-
-  any : (b : Bool) (me : Private) (m : M)
-      → ButForHalt me (if b then resets_by store serving lending me m else (if me.halt then halts_or_acts ways store serving lending me m else acts ways store serving lending me m)).end
-      (if b then resets_by store serving lending me m else (if me.halt then halts_or_acts ways store serving lending me m else acts ways store serving lending me m)).me
-  any true me m h = let counted = reset_counts (is_ready me) in cc
-  any false me m h = act me.halt me m h
-
   pub uncounted_steps_change_nothing : UncountedStepsChangeNothing ways store serving lending
-  uncounted_steps_change_nothing me m h = any me.reset me m h
+  uncounted_steps_change_nothing me m h = ap (λ (p : Private). record p { halt = me.halt }) (by_rule ways lawful (without_halt me) store serving lending (due me) m h)

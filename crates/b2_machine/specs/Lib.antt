@@ -7,6 +7,7 @@ pub mod Statements
 pub mod Typing
 pub mod Keys
 pub mod StraightLine
+pub mod Due
 pub mod Step
 pub mod Turn
 pub mod Tables

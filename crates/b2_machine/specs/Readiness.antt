@@ -53,6 +53,10 @@ with_error code me = record me { last = code; args = None }
 abbrev pub refuses : ℕ → List ℕ → Private → Private
 refuses code where_met me = prompts (error_text code where_met) (with_error code me)
 
+-- a halt that was asked for is no more
+abbrev pub without_halt : Private → Private
+without_halt me = record me { halt = false }
+
 -- A halt: the place is kept where it is in the program, and in an immediate line what was kept stays.
 abbrev pub halts : Private → Private
 halts me = readies halt_text (record me { halt = false; kept = if runs_program me then me.place else me.kept })

@@ -1,11 +1,10 @@
 -- A step of a partition of any language over a shared store: the first of six rules that applies. It makes at most one access.
-use Rattle.std.specs.Prelude.{false, ℕ, List, [], Option, Some, None, unwrap_or, if◌then◌else◌}
+use Rattle.std.specs.Prelude.{ℕ, [], None, unwrap_or}
 use Rattle.b2_flow.specs.declared.frame.Place.{Place}
 use Rattle.b2_text.specs.Program.{TextState}
 use Rattle.b2_vars.specs.Globals.{unreached}
 use Rattle.b2_access.specs.Lending.{SeenLent}
 use Rattle.b2_access.specs.Loans.{Loan, globals_at}
-use Rattle.b2_access.specs.Partition.{is_ready}
 use Rattle.b2_access.specs.Sharing.{Gives, ServingOf}
 use Rattle.b2_access.specs.Store.{StoreState, content}
 use Rattle.b2_access.specs.declared.accesses.Access.{Access}
@@ -18,16 +17,19 @@ use Rattle.b2_access.specs.declared.objects.Object.TheVariants as object
 use Rattle.b2_access.specs.declared.private.Private.{Private}
 use Rattle.b2_language.specs.Languages.{Ways}
 use Rattle.b2_language.specs.Wanted.{wanted_at}
+use Rattle.b2_machine.specs.Due.{due}
 use Rattle.b2_machine.specs.Endings.{Ending, again, carries_on}
 use Rattle.b2_machine.specs.Keys.{pressed}
-use Rattle.b2_machine.specs.Readiness.{gives_back, halted, resets}
+use Rattle.b2_machine.specs.Readiness.{gives_back, halted, resets, without_halt}
 use Rattle.b2_machine.specs.Statements.{Begun, begins, finish_by, finishes, leaves}
 use Rattle.b2_machine.specs.declared.moving.Onward.{Onward}
 use Rattle.b2_machine.specs.declared.statements.Builder.{Builder}
 use Rattle.b2_machine.specs.declared.statements.Progress.{Progress}
 use Rattle.b2_machine.specs.declared.statements.Progress.TheVariants as progress
-use Rattle.b2_machine.specs.Typing.{line_taken, put_by, puts_numbered, shown_by, shows_pending, typed_by_key}
+use Rattle.b2_machine.specs.Typing.{inserts_literal, line_taken, put_by, puts_numbered, shown_by, shows_output, typed_by_key}
 use Rattle.b2_machine.specs.declared.ends.Stepped.{Stepped}
+use Rattle.b2_machine.specs.declared.rules.Rule.{Rule}
+use Rattle.b2_machine.specs.declared.rules.Rule.TheVariants as rule
 
 -- a step, the private state after it, and what the store then means
 pub record StepEnd (M : Type 0) : Type 0 where
@@ -79,12 +81,12 @@ module _ {M : Type 0} (store : M → StoreState) (serving : ServingOf M) (lendin
   resets_by me m = asks_for (gives_back me) (λ _. resets me) me m
 
   -- the third: output that is pending is shown at its device
-  abbrev pub shows : Access → Private → M → StepEnd M
-  shows x me m = asks_for x (λ a. shown_by x a me) me m
+  abbrev pub shows : Private → M → StepEnd M
+  shows me m = asks_for (shows_output me) (λ a. shown_by (shows_output me) a me) me m
 
   -- the fourth: a literal is typed
-  abbrev pub types_literal : List ℕ → Private → M → StepEnd M
-  types_literal text me m = asks_for (access.Insert me.term text) (λ a. typed_by_key a me) me m
+  abbrev pub types_literal : Private → M → StepEnd M
+  types_literal me m = asks_for (inserts_literal me) (λ a. typed_by_key a me) me m
 
   -- or a line is read, and where it is a special function key that ends the reading, the own text says what that does
   abbrev pub line_read : Answer → Private → M → StepEnd M
@@ -99,8 +101,8 @@ module _ {M : Type 0} (store : M → StoreState) (serving : ServingOf M) (lendin
   reads_line me m = read_by (serving m me.part (access.ReadLine me.term)) me
 
   -- the fifth: a numbered line that was read is put into the own text
-  abbrev pub enters_line : ℕ × Option (List ℕ) → Private → M → StepEnd M
-  enters_line line me m = asks_for (puts_numbered line me) (λ a. put_by a me) me m
+  abbrev pub enters_line : Private → M → StepEnd M
+  enters_line me m = asks_for (puts_numbered me) (λ a. put_by a me) me m
 
 module _ (ways : Ways) {M : Type 0} (store : M → StoreState) (serving : ServingOf M) (lending : Loan M) where
   -- the sixth: the statement at its place is executed. It ends at once over what is lent, or over what is lent again after
@@ -134,35 +136,16 @@ module _ (ways : Ways) {M : Type 0} (store : M → StoreState) (serving : Servin
   abbrev pub executes : Place → Private → M → StepEnd M
   executes p me m = executes_by (whose_by p me (store m)) p me m
 
-  -- the rules from the third on
-  abbrev pub runs_or_reads : Option Place → Private → M → StepEnd M
-  runs_or_reads None me m = reads_line store serving lending me m
-  runs_or_reads (Some p) me m = executes p me m
+  -- what each rule does; the second halts a partition that runs
+  abbrev pub steps_by : Rule → Private → M → StepEnd M
+  steps_by rule.Reset me m = resets_by store serving lending me m
+  steps_by rule.Halt me m = by_itself store serving lending (halted me) m
+  steps_by rule.Show me m = shows store serving lending me m
+  steps_by rule.Insert me m = types_literal store serving lending me m
+  steps_by rule.Read me m = reads_line store serving lending me m
+  steps_by rule.Put me m = enters_line store serving lending me m
+  steps_by (rule.Execute p) me m = executes p me m
 
-  abbrev pub enters_or_goes_on : Option (ℕ × Option (List ℕ)) → Private → M → StepEnd M
-  enters_or_goes_on (Some line) me m = enters_line store serving lending line me m
-  enters_or_goes_on None me m = runs_or_reads me.place me m
-
-  abbrev pub types_or_goes_on : Option (List ℕ) → Private → M → StepEnd M
-  types_or_goes_on (Some text) me m = types_literal store serving lending text me m
-  types_or_goes_on None me m = enters_or_goes_on me.numbered me m
-
-  abbrev pub shows_or_goes_on : Option (List ℕ × List ℕ) → Private → M → StepEnd M
-  shows_or_goes_on (Some shown) me m = shows store serving lending (shows_pending shown.0 shown.1 me) me m
-  shows_or_goes_on None me m = types_or_goes_on me.literal me m
-
-  abbrev pub acts : Private → M → StepEnd M
-  acts me m = shows_or_goes_on me.pending me m
-
-  -- the second: a partition that runs is halted, and another goes on as if nothing had been asked for
-  abbrev pub halts_or_acts : Private → M → StepEnd M
-  halts_or_acts me m =
-      if is_ready me then acts (record me { halt = false }) m
-      else by_itself store serving lending (halted me) m
-
-  -- the first: a reset
+  -- A STEP, by the first rule that applies. A halt that was asked for is then no more, also where it found the partition ready.
   abbrev pub step : Private → M → StepEnd M
-  step me m =
-      if me.reset then resets_by store serving lending me m
-      else (if me.halt then halts_or_acts me m
-      else acts me m)
+  step me m = steps_by (due me) (without_halt me) m

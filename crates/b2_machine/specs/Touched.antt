@@ -1,6 +1,6 @@
 -- What a step asks for, and what it touches and writes: the own text, and what its access touches and writes; and where a statement is
 -- executed, the text of its home, and the name and the `@` variables that are lent to it.
-use Rattle.std.specs.Prelude.{◌≡◌, ◌⊎◌, ℕ, Bool, false, List, [], ◌∷◌, ◌++◌, Option, Some, None, if◌then◌else◌}
+use Rattle.std.specs.Prelude.{◌≡◌, ◌⊎◌, ℕ, Bool, List, [], ◌∷◌, ◌++◌, Option, Some, None}
 use Rattle.b2_flow.specs.declared.frame.Place.{Place}
 use Rattle.b2_access.specs.Homes.{IsWithin}
 use Rattle.b2_access.specs.Leading.{LeadsTo, TouchedNamesIn}
@@ -8,7 +8,6 @@ pub use Rattle.b2_access.specs.Loans.{reached_objects}
 use Rattle.b2_access.specs.Loans.{Loan, loan_touched}
 use Rattle.b2_access.specs.OwnDevices.{ReachesListed}
 use Rattle.b2_access.specs.OwnTerminal.{AskedAt}
-use Rattle.b2_access.specs.Partition.{is_ready}
 use Rattle.b2_access.specs.Pending.{IsForListed, KeepsOrShows}
 use Rattle.b2_access.specs.Sharing.{Gives, ServingOf, writes}
 use Rattle.b2_access.specs.Store.{StoreState, AgreeOn, IsIn, content}
@@ -22,10 +21,13 @@ use Rattle.b2_access.specs.declared.objects.Object.{Object}
 use Rattle.b2_access.specs.declared.objects.Object.TheVariants as object
 use Rattle.b2_access.specs.declared.private.Private.{Private}
 use Rattle.b2_language.specs.Languages.{Ways}
-use Rattle.b2_machine.specs.Readiness.{gives_back}
+use Rattle.b2_machine.specs.Due.{due}
+use Rattle.b2_machine.specs.Readiness.{gives_back, without_halt}
 use Rattle.b2_machine.specs.Statements.{begins, finish_by, leaves}
 use Rattle.b2_machine.specs.Step.{StepEnd, lent_to_begin, seen_at, seen_by, step, whose_by}
-use Rattle.b2_machine.specs.Typing.{puts_numbered, shows_pending}
+use Rattle.b2_machine.specs.Typing.{inserts_literal, puts_numbered, shows_output}
+use Rattle.b2_machine.specs.declared.rules.Rule.{Rule}
+use Rattle.b2_machine.specs.declared.rules.Rule.TheVariants as rule
 use Rattle.b2_machine.specs.declared.statements.Builder.{Builder}
 use Rattle.b2_machine.specs.declared.statements.Progress.{Progress}
 use Rattle.b2_machine.specs.declared.statements.Progress.TheVariants as progress
@@ -35,39 +37,19 @@ abbrev pub access_asked : Progress → Option Access
 access_asked (progress.Ended e) = None
 access_asked (progress.Asks a b w) = Some a
 
--- the sixth rule and the fourth: the statement at the place asks, or a line is read
-abbrev pub asks_at : Ways → Option Place → Private → StoreState → Option Access
-asks_at ways None me s = Some (access.ReadLine me.term)
-asks_at ways (Some p) me s = access_asked (begins ways p me (seen_at p me s)).progress
+-- what a rule asks for: a halt asks for nothing, and a reset gives back the texts that calls entered
+abbrev pub asks_by : Ways → Rule → Private → StoreState → Option Access
+asks_by ways rule.Reset me s = Some (gives_back me)
+asks_by ways rule.Halt me s = None
+asks_by ways rule.Show me s = Some (shows_output me)
+asks_by ways rule.Insert me s = Some (inserts_literal me)
+asks_by ways rule.Read me s = Some (access.ReadLine me.term)
+asks_by ways rule.Put me s = Some (puts_numbered me)
+asks_by ways (rule.Execute p) me s = access_asked (begins ways p me (seen_at p me s)).progress
 
--- the fifth: a numbered line is put
-abbrev pub asks_to_enter : Ways → Option (ℕ × Option (List ℕ)) → Private → StoreState → Option Access
-asks_to_enter ways (Some line) me s = Some (puts_numbered line me)
-asks_to_enter ways None me s = asks_at ways me.place me s
-
--- the fourth: a literal is typed
-abbrev pub asks_to_type : Ways → Option (List ℕ) → Private → StoreState → Option Access
-asks_to_type ways (Some text) me s = Some (access.Insert me.term text)
-asks_to_type ways None me s = asks_to_enter ways me.numbered me s
-
--- the third: pending output is shown
-abbrev pub asks_to_show : Ways → Option (List ℕ × List ℕ) → Private → StoreState → Option Access
-asks_to_show ways (Some shown) me s = Some (shows_pending shown.0 shown.1 me)
-asks_to_show ways None me s = asks_to_type ways me.literal me s
-
-abbrev pub asks_as_it_acts : Ways → Private → StoreState → Option Access
-asks_as_it_acts ways me s = asks_to_show ways me.pending me s
-
--- the second: a halt asks for nothing
-abbrev pub asks_unless_halted : Ways → Private → StoreState → Option Access
-asks_unless_halted ways me s = if is_ready me then asks_as_it_acts ways (record me { halt = false }) s else None
-
--- WHAT A STEP ASKS FOR, for its partition: None where it asks for nothing. A reset gives back the texts that calls entered.
+-- WHAT A STEP ASKS FOR, for its partition: None where it asks for nothing.
 abbrev pub asking : Ways → Private → StoreState → Option Access
-asking ways me s =
-    if me.reset then Some (gives_back me)
-    else (if me.halt then asks_unless_halted ways me s
-    else asks_as_it_acts ways me s)
+asking ways me s = asks_by ways (due me) (without_halt me) s
 
 -- what is asked for reaches only devices that the table lists for a partition, where anything is
 abbrev pub AskedListed : List Device → ℕ → Option Access → Type 0
@@ -125,34 +107,14 @@ module _ (ways : Ways) {M : Type 0} (store : M → StoreState) (serving : Servin
       tells_both (begin_touched me.part p.home whose (store m)) (reached_objects left.reached p.home whose (store m))
       (tells_carrying me.part b.progress p whose b.me (lent_to_begin store serving lending me.part p.home whose m left))
 
-  abbrev pub told_at : Option Place → Private → M → Told
-  told_at None me m = tells store serving lending me.part (Some (access.ReadLine me.term)) m
-  told_at (Some p) me m = tells_executing (whose_by p me (store m)) p me m
-
-  abbrev pub told_entering : Option (ℕ × Option (List ℕ)) → Private → M → Told
-  told_entering (Some line) me m = tells store serving lending me.part (Some (puts_numbered line me)) m
-  told_entering None me m = told_at me.place me m
-
-  abbrev pub told_typing : Option (List ℕ) → Private → M → Told
-  told_typing (Some text) me m = tells store serving lending me.part (Some (access.Insert me.term text)) m
-  told_typing None me m = told_entering me.numbered me m
-
-  abbrev pub told_showing : Option (List ℕ × List ℕ) → Private → M → Told
-  told_showing (Some shown) me m = tells store serving lending me.part (Some (shows_pending shown.0 shown.1 me)) m
-  told_showing None me m = told_typing me.literal me m
-
-  abbrev pub told_acting : Private → M → Told
-  told_acting me m = told_showing me.pending me m
-
-  abbrev pub told_unless_halted : Private → M → Told
-  told_unless_halted me m = if is_ready me then told_acting (record me { halt = false }) m else tells store serving lending me.part None m
+  -- each rule but the sixth tells by what it asks for
+  abbrev pub told_by : Rule → Private → M → Told
+  told_by (rule.Execute p) me m = tells_executing (whose_by p me (store m)) p me m
+  told_by r me m = tells store serving lending me.part (asks_by ways r me (store m)) m
 
   -- WHAT A STEP TOUCHES AND WRITES
   abbrev pub told : Private → M → Told
-  told me m =
-      if me.reset then tells store serving lending me.part (Some (gives_back me)) m
-      else (if me.halt then told_unless_halted me m
-      else told_acting me m)
+  told me m = told_by (due me) (without_halt me) m
 
   abbrev pub step_touched : Private → M → List Object
   step_touched me m = (told me m).touched

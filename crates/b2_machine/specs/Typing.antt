@@ -1,5 +1,5 @@
 -- Lines that are typed: what is read, and numbered ones that go into the text.
-use Rattle.std.specs.Prelude.{ℕ, ◌==◌, min, List, [], ◌∷◌, Option, Some, None, Result, Ok, Err, if◌then◌else◌}
+use Rattle.std.specs.Prelude.{ℕ, ◌==◌, min, List, [], ◌∷◌, Option, Some, None, Result, Ok, Err, unwrap_or, if◌then◌else◌}
 use Rattle.std.specs.Str.{bytes_eq}
 use Rattle.b2_base.specs.Byte as byte
 use Rattle.b2_base.specs.declared.codes.TheConstants.{A08_TEXT_BORROWED}
@@ -28,13 +28,24 @@ shows_pending device text me =
     if bytes_eq device terminal_address then shows_text (on_own_line me.term_column text) me
     else prints_text device text me
 
+-- the output that is pending; where none is, nothing is asked for
+abbrev pub output_pending : Private → List ℕ × List ℕ
+output_pending me = unwrap_or me.pending (terminal_address, [])
+
+abbrev pub shows_output : Private → Access
+shows_output me = shows_pending (output_pending me).0 (output_pending me).1 me
+
 -- it was shown at its device; with any other answer it waits on
 abbrev pub shown_by : Access → Answer → Private → Ending
 shown_by (access.Show term shown column) answer.Done me = carries_on (record me { term_column = column; pending = None })
 shown_by (access.PrintTo addr printed column) answer.Done me = carries_on (record me { print_column = column; pending = None })
 shown_by x a me = again a me
 
--- the literal of a special function key was typed; with any other answer it waits on
+-- the literal of a special function key is typed at the terminal
+abbrev pub inserts_literal : Private → Access
+inserts_literal me = access.Insert me.term (unwrap_or me.literal [])
+
+-- it was typed; with any other answer it waits on
 abbrev pub typed_by_key : Answer → Private → Ending
 typed_by_key answer.Done me = carries_on (record me { literal = None })
 typed_by_key a me = again a me
@@ -65,13 +76,8 @@ line_taken bytes me = takes_or_refuses (reads bytes) (record me { term_column = 
 abbrev pub puts_line : ℕ × Option (List ℕ) → ℕ → Access
 puts_line line homes = access.PutLine (min line.0 9999) line.1 homes
 
-abbrev pub puts_numbered : ℕ × Option (List ℕ) → Private → Access
-puts_numbered line me = puts_line line (homes_entered me.stack)
-
--- the line that an access puts, back from it
-abbrev pub atoms_put : Access → Option (List ℕ)
-atoms_put (access.PutLine line atoms homes) = atoms
-atoms_put x = None
+abbrev pub puts_numbered : Private → Access
+puts_numbered me = puts_line (unwrap_or me.numbered (0, None)) (homes_entered me.stack)
 
 -- the line isn't waiting to be put any more
 abbrev pub without_numbered : Private → Private

@@ -11,7 +11,7 @@
 //!
 //! The definitions are in `specs/`: how a step ends in `Endings`, what is shown in `Messages`, becoming ready in `Readiness`,
 //! where a partition goes on in `Moving`, LIST in `Listed`, the choice among statements in `Statements`, one that is planned at once in `AtOnce`, typed lines in
-//! `Typing`, special function keys in `Keys`, the six rules in `Step`, turns in `Turn`, statements one after another over one loan in
+//! `Typing`, special function keys in `Keys`, which of the six rules applies in `Due`, what each does in `Step`, turns in `Turn`, statements one after another over one loan in
 //! `Running`, how far a turn goes on at once in `Advancing`, and what a step touches and writes in
 //! `Touched`. What holds of steps stands in `laws`.
 #![tactic(auto)]
@@ -23,6 +23,7 @@ mod listed;
 mod messages;
 mod moving;
 mod readiness;
+mod rules;
 mod statements;
 mod stepping;
 mod straight_line;

@@ -17,12 +17,11 @@ use crate::ends::{Stepped, counts, repeats};
 use crate::keys::press_over;
 use crate::moving::Onward;
 use crate::readiness::{give_back, halt, reset};
+use crate::rules::{Rule, due};
 use crate::statements::{Builder, Opening, Progress, begin_with, finish_with};
 use crate::straight_line::{Ran, run_on};
 use crate::text_only::open_over;
-use crate::typing::{
-    after_literal, after_pending, after_put, ask_to_show, atoms_put, put_line, take_line,
-};
+use crate::typing::{after_literal, after_pending, after_put, ask_to_show, put_line, take_line};
 use b2_access::{Access, Answer, At, DeviceTable, Lent, Object, Private, Shared, homes_entered};
 use b2_base::{ByteList, NoMemory, Part};
 use b2_flow::Place;
@@ -53,28 +52,34 @@ fn give_back_and_reset<S: Shared>(
     reset(alloc, me)
 }
 
-/// Pending output is shown, by what it asks for.
-fn show<S: Shared>(me: &mut Private, s: &mut S, access: Access) -> Result<Stepped, NoMemory>
-    requires legal { IsLegal access }
-    ensures ended { IfOk result (λ e. record { me = me.new; after = S.meaning s.new; end = e } ≡ spec.shows S.store S.serving S.lending access me.old (S.meaning s.old)) }
+/// Output that is pending is shown.
+fn show<S: Shared>(alloc: Global, me: &mut Private, s: &mut S) -> Result<Stepped, NoMemory>
+    requires waits { IsSome me.old.pending }
+    ensures ended { IfOk result (λ e. record { me = me.new; after = S.meaning s.new; end = e } ≡ spec.shows S.store S.serving S.lending me.old (S.meaning s.old)) }
     ensures kept { Keeps result (S.holds s.old) (S.holds s.new) me.old.part me.new.part (S.store (S.meaning s.old)) (S.store (S.meaning s.new)) }
 {
+    let access = ask_to_show(alloc, me)?;
     let answer = ask_store(s, me.part, &access)?;
     Ok(after_pending(me, &access, &answer))
 }
 
 /// A literal is typed.
 fn insert_literal<S: Shared>(
+    alloc: Global,
     me: &mut Private,
     s: &mut S,
-    text: ByteList,
 ) -> Result<Stepped, NoMemory>
-    ensures ended { IfOk result (λ e. record { me = me.new; after = S.meaning s.new; end = e } ≡ spec.types_literal S.store S.serving S.lending text me.old (S.meaning s.old)) }
+    requires waits { IsSome me.old.literal }
+    ensures ended { IfOk result (λ e. record { me = me.new; after = S.meaning s.new; end = e } ≡ spec.types_literal S.store S.serving S.lending me.old (S.meaning s.old)) }
     ensures kept { Keeps result (S.holds s.old) (S.holds s.new) me.old.part me.new.part (S.store (S.meaning s.old)) (S.store (S.meaning s.new)) }
 {
+    let Some(text) = &me.literal else {
+        unreachable!();
+    };
+    let typed = ByteList::from_slice(alloc, text.bytes())?;
     let access = Access::Insert {
         term: me.term,
-        bytes: text,
+        bytes: typed,
     };
     let answer = ask_store(s, me.part, &access)?;
     Ok(after_literal(me, &answer))
@@ -116,14 +121,9 @@ fn read_typed_line<S: Shared>(
 }
 
 /// A numbered line is put into the own text, and the texts are given back that calls of the partition entered, whose frames go with it.
-/// Where it has to wait, it is kept.
-fn enter_line<L: Language, S: Shared>(
-    alloc: Global,
-    me: &mut Private,
-    s: &mut S,
-) -> Result<Stepped, NoMemory>
-    requires read { IsSome me.old.numbered }
-    ensures ended { (devices : List Device) → IfOk result (λ e. record { me = me.new; after = S.meaning s.new; end = e } ≡ spec.enters_or_goes_on (L.ways devices) S.store S.serving S.lending me.old.numbered me.old (S.meaning s.old)) }
+fn enter_line<S: Shared>(alloc: Global, me: &mut Private, s: &mut S) -> Result<Stepped, NoMemory>
+    requires waits { IsSome me.old.numbered }
+    ensures ended { IfOk result (λ e. record { me = me.new; after = S.meaning s.new; end = e } ≡ spec.enters_line S.store S.serving S.lending me.old (S.meaning s.old)) }
     ensures kept { Keeps result (S.holds s.old) (S.holds s.new) me.old.part me.new.part (S.store (S.meaning s.old)) (S.store (S.meaning s.new)) }
 {
     let homes = homes_entered(&me.stack);
@@ -132,7 +132,6 @@ fn enter_line<L: Language, S: Shared>(
     };
     let access = put_line(line, atoms, homes);
     let answer = ask_store(s, me.part, &access)?;
-    me.numbered = Some((line, atoms_put(access)));
     after_put(alloc, me, &answer)
 }
 
@@ -378,103 +377,6 @@ pub fn run_lent<L: Language, S: Shared>(
     run_on::<L>(alloc, me, own, text, globals, d, home, left, access)
 }
 
-/// The statement at the place is executed, or a line is read.
-fn run_or_read<L: Language, S: Shared>(
-    alloc: Global,
-    me: &mut Private,
-    s: &mut S,
-    d: &DeviceTable,
-) -> Result<Stepped, NoMemory>
-    requires own { IsSome (content (S.store (S.meaning s.old)) (Object.Text me.old.part)) }
-    requires home { PlaceIn (is_present (S.store (S.meaning s.old))) me.old.place }
-    ensures ended { IfOk result (λ e. record { me = me.new; after = S.meaning s.new; end = e } ≡ spec.runs_or_reads (L.ways d.now) S.store S.serving S.lending me.old.place me.old (S.meaning s.old)) }
-    ensures kept { Keeps result (S.holds s.old) (S.holds s.new) me.old.part me.new.part (S.store (S.meaning s.old)) (S.store (S.meaning s.new)) }
-{
-    match me.place {
-        Some(place) => execute::<L, S>(alloc, me, s, d, place),
-        None => read_typed_line(alloc, me, s),
-    }
-}
-
-/// A numbered line is put, or it goes on.
-fn enter_or_go_on<L: Language, S: Shared>(
-    alloc: Global,
-    me: &mut Private,
-    s: &mut S,
-    d: &DeviceTable,
-) -> Result<Stepped, NoMemory>
-    requires own { IsSome (content (S.store (S.meaning s.old)) (Object.Text me.old.part)) }
-    requires home { PlaceIn (is_present (S.store (S.meaning s.old))) me.old.place }
-    ensures ended { IfOk result (λ e. record { me = me.new; after = S.meaning s.new; end = e } ≡ spec.enters_or_goes_on (L.ways d.now) S.store S.serving S.lending me.old.numbered me.old (S.meaning s.old)) }
-    ensures kept { Keeps result (S.holds s.old) (S.holds s.new) me.old.part me.new.part (S.store (S.meaning s.old)) (S.store (S.meaning s.new)) }
-{
-    match &me.numbered {
-        Some(_) => enter_line::<L, S>(alloc, me, s),
-        None => run_or_read::<L, S>(alloc, me, s, d),
-    }
-}
-
-/// A literal is typed, or it goes on.
-fn type_or_go_on<L: Language, S: Shared>(
-    alloc: Global,
-    me: &mut Private,
-    s: &mut S,
-    d: &DeviceTable,
-) -> Result<Stepped, NoMemory>
-    requires own { IsSome (content (S.store (S.meaning s.old)) (Object.Text me.old.part)) }
-    requires home { PlaceIn (is_present (S.store (S.meaning s.old))) me.old.place }
-    ensures ended { IfOk result (λ e. record { me = me.new; after = S.meaning s.new; end = e } ≡ spec.types_or_goes_on (L.ways d.now) S.store S.serving S.lending me.old.literal me.old (S.meaning s.old)) }
-    ensures kept { Keeps result (S.holds s.old) (S.holds s.new) me.old.part me.new.part (S.store (S.meaning s.old)) (S.store (S.meaning s.new)) }
-{
-    match &me.literal {
-        Some(text) => {
-            let typed = ByteList::from_slice(alloc, text.bytes())?;
-            insert_literal(me, s, typed)
-        }
-        None => enter_or_go_on::<L, S>(alloc, me, s, d),
-    }
-}
-
-/// Pending output is shown, or it goes on.
-fn act<L: Language, S: Shared>(
-    alloc: Global,
-    me: &mut Private,
-    s: &mut S,
-    d: &DeviceTable,
-) -> Result<Stepped, NoMemory>
-    requires own { IsSome (content (S.store (S.meaning s.old)) (Object.Text me.old.part)) }
-    requires home { PlaceIn (is_present (S.store (S.meaning s.old))) me.old.place }
-    ensures ended { IfOk result (λ e. record { me = me.new; after = S.meaning s.new; end = e } ≡ spec.shows_or_goes_on (L.ways d.now) S.store S.serving S.lending me.old.pending me.old (S.meaning s.old)) }
-    ensures kept { Keeps result (S.holds s.old) (S.holds s.new) me.old.part me.new.part (S.store (S.meaning s.old)) (S.store (S.meaning s.new)) }
-{
-    match &me.pending {
-        Some((device, text)) => {
-            let access = ask_to_show(alloc, me, *device, text.bytes())?;
-            show(me, s, access)
-        }
-        None => type_or_go_on::<L, S>(alloc, me, s, d),
-    }
-}
-
-/// A partition that runs is halted, and another goes on.
-fn halt_or_act<L: Language, S: Shared>(
-    alloc: Global,
-    me: &mut Private,
-    s: &mut S,
-    d: &DeviceTable,
-) -> Result<Stepped, NoMemory>
-    requires own { IsSome (content (S.store (S.meaning s.old)) (Object.Text me.old.part)) }
-    requires home { PlaceIn (is_present (S.store (S.meaning s.old))) me.old.place }
-    ensures ended { IfOk result (λ e. record { me = me.new; after = S.meaning s.new; end = e } ≡ spec.halts_or_acts (L.ways d.now) S.store S.serving S.lending me.old (S.meaning s.old)) }
-    ensures kept { Keeps result (S.holds s.old) (S.holds s.new) me.old.part me.new.part (S.store (S.meaning s.old)) (S.store (S.meaning s.new)) }
-{
-    if me.place.is_some() {
-        return halt(alloc, me);
-    }
-    me.halt = false;
-    act::<L, S>(alloc, me, s, d)
-}
-
 /// One step of a partition whose own text is in the store, and that of the home of its place: the first of the six rules that applies.
 /// After want of memory nothing is said of the partition and of what the store means.
 pub fn step<L: Language, S: Shared>(
@@ -488,11 +390,15 @@ pub fn step<L: Language, S: Shared>(
     ensures stepped { IfOk result (λ e. record { me = me.new; after = S.meaning s.new; end = e } ≡ spec.step (L.ways d.now) S.store S.serving S.lending me.old (S.meaning s.old)) }
     ensures kept { Keeps result (S.holds s.old) (S.holds s.new) me.old.part me.new.part (S.store (S.meaning s.old)) (S.store (S.meaning s.new)) }
 {
-    if me.reset {
-        return give_back_and_reset(alloc, me, s);
+    let rule = due(me);
+    me.halt = false;
+    match rule {
+        Rule::Reset => give_back_and_reset(alloc, me, s),
+        Rule::Halt => halt(alloc, me),
+        Rule::Show => show(alloc, me, s),
+        Rule::Insert => insert_literal(alloc, me, s),
+        Rule::Read => read_typed_line(alloc, me, s),
+        Rule::Put => enter_line(alloc, me, s),
+        Rule::Execute(place) => execute::<L, S>(alloc, me, s, d, place),
     }
-    if me.halt {
-        return halt_or_act::<L, S>(alloc, me, s, d);
-    }
-    act::<L, S>(alloc, me, s, d)
 }

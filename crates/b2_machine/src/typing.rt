@@ -1,5 +1,5 @@
 // Lines that are typed: what is read, and numbered ones that go into the text.
-ghost use Rattle.std.specs.Prelude.{◌≡◌, ◌≢◌, true, [], None, Err, IfOk, OnOk};
+ghost use Rattle.std.specs.Prelude.{◌≡◌, ◌≢◌, true, [], None, Err, IfOk, IsSome, OnOk};
 ghost use Rattle.b2_access.specs.Answering.{can_answer};
 ghost use Rattle.b2_access.specs.Touching.{IsLegal};
 ghost use Rattle.b2_machine.specs.Typing as spec;
@@ -27,22 +27,21 @@ fn on_own_line(alloc: Global, column: u16, text: &[u8]) -> Result<ByteList, NoMe
     Ok(ByteList::new(shown))
 }
 
-/// What shows pending output at the device that it is for.
-pub fn ask_to_show(
-    alloc: Global,
-    me: &Private,
-    device: Addr,
-    text: &[u8],
-) -> Result<Access, NoMemory>
-    ensures asked { IfOk result (λ a. a ≡ spec.shows_pending device text.now me.now) }
+/// What shows the output that is pending at the device that it is for.
+pub fn ask_to_show(alloc: Global, me: &Private) -> Result<Access, NoMemory>
+    requires waits { IsSome me.now.pending }
+    ensures asked { IfOk result (λ a. a ≡ spec.shows_output me.now) }
     ensures legal { IfOk result IsLegal }
 {
-    if device == Addr::default() {
-        let shown = on_own_line(alloc, me.term_column, text)?;
+    let Some((device, text)) = &me.pending else {
+        unreachable!();
+    };
+    if *device == Addr::default() {
+        let shown = on_own_line(alloc, me.term_column, text.bytes())?;
         Ok(show_text(me, shown))
     } else {
-        let printed = ByteList::from_slice(alloc, text)?;
-        Ok(print_text(me, device, printed))
+        let printed = ByteList::from_slice(alloc, text.bytes())?;
+        Ok(print_text(me, *device, printed))
     }
 }
 
@@ -156,36 +155,24 @@ pub fn put_line(line: u16, atoms: Option<Atoms>, homes: u16) -> Access
     }
 }
 
-/// The line that an access puts into the text, back from it.
-pub fn atoms_put(access: Access) -> Option<Atoms>
-    ensures { result ≡ spec.atoms_put access }
-{
-    match access {
-        Access::PutLine { atoms, .. } => atoms,
-        _ => None,
-    }
-}
-
-/// A numbered line was put, or it is refused.
+/// A numbered line, which waits no more, was put, or it is refused.
 pub fn after_put(alloc: Global, me: &mut Private, answer: &Answer) -> Result<Stepped, NoMemory>
+    requires taken { me.old.numbered ≡ None }
     requires possible { can_answer (Access.PutLine 0 None 0) answer.now ≡ true }
     ensures ended { IfOk result (λ e. record { me = me.new; end = e } ≡ spec.put_by answer.now me.old) }
     ensures part { me.new.part ≡ me.old.part }
 {
     match answer {
         Answer::Done => {
-            me.numbered = None;
             drop_frames(me);
             prompt(me, Vec::new(alloc))?;
             Ok(counts())
         }
         Answer::Locked(_) => {
-            me.numbered = None;
             refuse(alloc, me, Code::known(A08_TEXT_BORROWED))?;
             Ok(counts())
         }
         Answer::Refused(code) => {
-            me.numbered = None;
             refuse(alloc, me, *code)?;
             Ok(counts())
         }

@@ -159,11 +159,11 @@ put_stands (answer.Locked q) me is w = record { place = w.place; kept = w.kept; 
 put_stands (answer.Refused code) me is w = record { place = w.place; kept = w.kept; frames = w.frames }
 put_stands a me is w = w
 
-pub put_counts : (line : ℕ × Option (List ℕ)) (a : Answer) (me : Private) (g : ℕ) → 1 ≤ g → g ≤ 16 → entered_in g (put_by a me).me.stack ≡ entered_after (puts_numbered line me) a g (entered_in g me.stack)
-put_counts line answer.Done me g low high = all_given_back g me.stack low high
-put_counts line (answer.Locked q) me g low high = refl
-put_counts line (answer.Refused code) me g low high = refl
-put_counts line a me g low high = refl
+pub put_counts : (a : Answer) (me : Private) (g : ℕ) → 1 ≤ g → g ≤ 16 → entered_in g (put_by a me).me.stack ≡ entered_after (puts_numbered me) a g (entered_in g me.stack)
+put_counts answer.Done me g low high = all_given_back g me.stack low high
+put_counts (answer.Locked q) me g low high = refl
+put_counts (answer.Refused code) me g low high = refl
+put_counts a me g low high = refl
 
 pub put_ready : (a : Answer) (me : Private) → PutsReady me → PutsReady (put_by a me).me
 put_ready answer.Done me r = inl refl

@@ -1,6 +1,6 @@
 -- A step makes as many frames of its partition enter each text as the access that it asks for and its answer say; where the partition stood
 -- in the texts of others above calls that entered them, it does so after it; and what it asks for enters no text of its own.
-use Rattle.std.proofs.Common.{◌≡◌, ◌∙◌, ◌≤◌, refl, sym, ap, subst, inl, inr, ℕ, Bool, true, false, if◌then◌else◌, List, Option, Some, None, is_some}
+use Rattle.std.proofs.Common.{◌≡◌, ◌∙◌, ◌≤◌, true≢false, refl, sym, ap, subst, inl, inr, ℕ, Bool, true, false, if◌then◌else◌, List, Option, Some, None, is_some}
 use Rattle.b2_flow.specs.declared.frame.Place.{Place}
 use Rattle.b2_text.specs.Spots.{first_opening, is_mark}
 use Rattle.b2_vars.specs.Globals.{Globals}
@@ -12,7 +12,7 @@ use Rattle.b2_access.specs.Lending.{SeenLent}
 use Rattle.b2_access.specs.Loans.{lends}
 use Rattle.b2_access.specs.KeyLiterals.{typed_by_mark}
 use Rattle.b2_access.specs.Objects.{Decided}
-use Rattle.b2_access.specs.Partition.{KeepsNone, is_ready}
+use Rattle.b2_access.specs.Partition.{KeepsNone}
 use Rattle.b2_access.specs.Placed.{Statement, statement_placed}
 use Rattle.b2_access.specs.Reaching.{ReachedUnlessAsks}
 use Rattle.b2_access.specs.Serving.{itself}
@@ -44,11 +44,11 @@ use Rattle.b2_machine.specs.Endings.{counts, repeats}
 use Rattle.b2_machine.specs.Listed.{lists, range_listed}
 use Rattle.b2_machine.specs.Messages.{shows_text}
 use Rattle.b2_machine.specs.Moving.{ends_by, ends_onward}
-use Rattle.b2_machine.specs.Readiness.{gives_back, halted}
+use Rattle.b2_machine.specs.Readiness.{gives_back, halted, without_halt}
 use Rattle.b2_machine.specs.Statements.{begins, begins_where, begun_by, builder_of, finish_by, leaves, left_where, plan_by}
-use Rattle.b2_machine.specs.Step.{StepEnd, by_itself, carries_out, enters_or_goes_on, finishes_by, halts_or_acts, lent_to_begin, line_read, resets_by, runs_or_reads, seen_by, shows_or_goes_on, step, text_in, types_or_goes_on, whose_by}
-use Rattle.b2_machine.specs.Touched.{access_asked, asking, asks_at, asks_to_enter, asks_to_show, asks_to_type, asks_unless_halted}
-use Rattle.b2_machine.specs.Typing.{puts_numbered, shows_pending}
+use Rattle.b2_machine.specs.Step.{StepEnd, by_itself, carries_out, finishes_by, lent_to_begin, line_read, resets_by, seen_by, step, steps_by, text_in, whose_by}
+use Rattle.b2_machine.specs.Touched.{access_asked, asking, asks_by}
+use Rattle.b2_machine.specs.Typing.{inserts_literal, output_pending, puts_numbered, shows_output}
 use Rattle.b2_machine.specs.declared.moving.Onward.{Onward}
 use Rattle.b2_machine.specs.declared.statements.Builder.{Builder}
 use Rattle.b2_machine.specs.declared.statements.Builder.TheVariants as builder
@@ -59,6 +59,10 @@ use Rattle.b2_sched.proofs.EnteredRules.{KeepsStanding, ReadsStanding, SameEnter
 use Rattle.b2_sched.proofs.StepEnds.{begun_stays, is_seen, left_where as left_by, line_left, loan_seen, loan_stays}
 use Rattle.b2_sched.specs.Holding.{is_globals}
 use Rattle.b2_sched.specs.Inside.{EnterAsSaid, EntersNoOwn, HasOwnLine, PutsReady, entered_where}
+use Rattle.b2_machine.specs.Due.{HasDue, due}
+use Rattle.b2_machine.specs.declared.rules.Rule.{Rule}
+use Rattle.b2_machine.specs.declared.rules.Rule.TheVariants as rule
+use Rattle.b2_machine.proofs.DueRules.{PutsFirst, has_due, puts_first}
 
 -- ---- from stores that have the same in each object an access is answered alike, and leaves the same in each
 
@@ -103,10 +107,6 @@ pub record Goes (me : Private) (s : StoreState) (x : Option Access) (e : StepEnd
   pub frames : (g : ℕ) → 1 ≤ g → g ≤ 16 → entered_in g e.me.stack ≡ entered_where x me.part g (entered_in g me.stack) s
   pub left : (o : Object) → is_globals o ≡ false → content e.after o ≡ content (left_by x me.part s) o
   pub others : EntersNoOwn x (text_in s me.part).lines
-
-by_test : (me : Private) (s : StoreState) (b : Bool) (x y : Option Access) (e f : StepEnd StoreState) → Goes me s x e → Goes me s y f → Goes me s (if b then x else y) (if b then e else f)
-by_test me s true x y e f h k = h
-by_test me s false x y e f h k = k
 
 module _ (ways : Ways) (lawful : AreLawful ways) (enter : EnterAsSaid ways) where
   -- ---- what a statement plans
@@ -327,54 +327,6 @@ module _ (ways : Ways) (lawful : AreLawful ways) (enter : EnterAsSaid ways) wher
   read_well (answer.Special n) me s empty is w = let own = (text_in s me.part).lines in pressed_well (typed_by_mark n own) (first_opening (is_mark n) own) me empty w
   read_well a me s empty is w = record { stands = w; same = λ g. refl; ready = inl empty }
 
-  at_place : (x : Option Place) (me : Private) (s : StoreState) → me.place ≡ x → me.numbered ≡ None → KeepsNone me → HasOwnLine me.part me → Stands me → Goes me s (asks_at ways x me s) (runs_or_reads ways itself serves lends x me s)
-  at_place None me s at empty none own w =
-      let g = serves s me.part (access.ReadLine me.term) in
-      let h = read_well g.answer me g.after empty at w in
-      record { stands = h.stands; ready = h.ready; frames = λ k low high. h.same k; left = λ o is. ap (λ (t : StoreState). content t o) (line_left g.answer me g.after); others = tt }
-  at_place (Some p) me s at empty none own w =
-      let whose = whose_by p me s in
-      let seen = seen_by me.part p.home whose s in
-      let b = begins ways p me seen in
-      carried b.progress p whose me b.me s (leaves ways p me seen) (begins_so (statement_placed p me.immediate seen.home.lines) p me seen at w) at empty none own w
-
-  at_number : (x : Option (ℕ × Option (List ℕ))) (me : Private) (s : StoreState) → me.numbered ≡ x → PutsReady me → KeepsNone me → HasOwnLine me.part me → Stands me → Goes me s (asks_to_enter ways x me s) (enters_or_goes_on ways itself serves lends x me s)
-  at_number (Some line) me s is ready none own w =
-      let a = (serves s me.part (puts_numbered line me)).answer in
-      record { stands = put_stands a me (no_place ready) w; ready = put_ready a me ready; frames = λ g low high. put_counts line a me g low high; left = λ o is. refl; others = tt }
-    where
-      no_place : PutsReady me → me.place ≡ None
-      no_place (inl none) = absurd (some_line (sym none ∙ is))
-        where
-          some_line : None ≡ Some line → ⊥
-          some_line e = cc
-      no_place (inr at) = at
-  at_number None me s is ready none own w = at_place me.place me s refl is none own w
-
-  at_literal : (x : Option (List ℕ)) (me : Private) (s : StoreState) → PutsReady me → KeepsNone me → HasOwnLine me.part me → Stands me → Goes me s (asks_to_type ways x me s) (types_or_goes_on ways itself serves lends x me s)
-  at_literal (Some text) me s ready none own w =
-      let a = (serves s me.part (access.Insert me.term text)).answer in
-      let k = typed_keeps a me w in
-      record { stands = k.stands; ready = typed_ready a me ready; frames = λ g low high. k.same g; left = λ o is. refl; others = tt }
-  at_literal None me s ready none own w = at_number me.numbered me s refl ready none own w
-
-  at_output : (x : Option (List ℕ × List ℕ)) (me : Private) (s : StoreState) → PutsReady me → KeepsNone me → HasOwnLine me.part me → Stands me → Goes me s (asks_to_show ways x me s) (shows_or_goes_on ways itself serves lends x me s)
-  at_output (Some text) me s ready none own w =
-      let x = shows_pending text.0 text.1 me in
-      let a = (serves s me.part x).answer in
-      let k = shown_keeps x a me w in
-      record { stands = k.stands; ready = shown_ready x a me ready; frames = λ g low high. k.same g ∙ sym (shows_none text.0 text.1 me a g (entered_in g me.stack)); left = λ o is. refl; others = shows_no_own text.0 text.1 me (text_in s me.part).lines }
-  at_output None me s ready none own w = at_literal me.literal me s ready none own w
-
-  at_halt : (me : Private) (s : StoreState) → PutsReady me → KeepsNone me → HasOwnLine me.part me → Stands me → Goes me s (asks_unless_halted ways me s) (halts_or_acts ways itself serves lends me s)
-  at_halt me s ready none own w = by_test me s (is_ready me) _ _ _ _ (unhalted _ _ (at_output me.pending (record me { halt = false }) s ready none (record { part = own.part; place = own.place; kept = own.kept; frames = own.frames }) (record { place = w.place; kept = w.kept; frames = w.frames }))) halted_so
-    where
-      unhalted : (x : Option Access) (e : StepEnd StoreState) → Goes (record me { halt = false }) s x e → Goes me s x e
-      unhalted x e h = record { stands = h.stands; ready = h.ready; frames = h.frames; left = h.left; others = h.others }
-
-      halted_so : Goes me s None (by_itself itself serves lends (halted me) s)
-      halted_so = let k = halted_keeps me w in record { stands = k.stands; ready = inr refl; frames = λ g low high. k.same g; left = λ o is. refl; others = tt }
-
   at_reset : (me : Private) (s : StoreState) → Goes me s (Some (gives_back me)) (resets_by itself serves lends me s)
   at_reset me s = record {
     stands = reset_stands me;
@@ -386,6 +338,43 @@ module _ (ways : Ways) (lawful : AreLawful ways) (enter : EnterAsSaid ways) wher
     others = tt;
   }
 
+  at_halt : (me : Private) (s : StoreState) → Stands me → Goes me s None (by_itself itself serves lends (halted me) s)
+  at_halt me s w = let k = halted_keeps me w in record { stands = k.stands; ready = inr refl; frames = λ g low high. k.same g; left = λ o is. refl; others = tt }
+
+  -- a line that waits to be put is there only at a partition that is ready
+  no_place : (me : Private) → is_some me.numbered ≡ true → PutsReady me → me.place ≡ None
+  no_place me is (inl none) = absurd (true≢false (sym is ∙ ap is_some none))
+  no_place me is (inr at) = at
+
+  by_rule : (r : Rule) (me : Private) (s : StoreState) → HasDue r me → PutsFirst r me → PutsReady me → KeepsNone me → HasOwnLine me.part me → Stands me → Goes me s (asks_by ways r me s) (steps_by ways itself serves lends r me s)
+  by_rule rule.Reset me s is empty ready none own w = at_reset me s
+  by_rule rule.Halt me s is empty ready none own w = at_halt me s w
+  by_rule rule.Show me s is empty ready none own w =
+      let device = (output_pending me).0 in
+      let text = (output_pending me).1 in
+      let x = shows_output me in
+      let a = (serves s me.part x).answer in
+      let k = shown_keeps x a me w in
+      record { stands = k.stands; ready = shown_ready x a me ready; frames = λ g low high. k.same g ∙ sym (shows_none device text me a g (entered_in g me.stack)); left = λ o is. refl; others = shows_no_own device text me (text_in s me.part).lines }
+  by_rule rule.Insert me s is empty ready none own w =
+      let a = (serves s me.part (inserts_literal me)).answer in
+      let k = typed_keeps a me w in
+      record { stands = k.stands; ready = typed_ready a me ready; frames = λ g low high. k.same g; left = λ o is. refl; others = tt }
+  by_rule rule.Read me s is empty ready none own w =
+      let g = serves s me.part (access.ReadLine me.term) in
+      let h = read_well g.answer me g.after empty.0 empty.1 w in
+      record { stands = h.stands; ready = h.ready; frames = λ k low high. h.same k; left = λ o is. ap (λ (t : StoreState). content t o) (line_left g.answer me g.after); others = tt }
+  by_rule rule.Put me s is empty ready none own w =
+      let a = (serves s me.part (puts_numbered me)).answer in
+      record { stands = put_stands a me (no_place me is ready) w; ready = put_ready a me ready; frames = λ g low high. put_counts a me g low high; left = λ o is. refl; others = tt }
+  by_rule (rule.Execute p) me s is empty ready none own w =
+      let whose = whose_by p me s in
+      let seen = seen_by me.part p.home whose s in
+      let b = begins ways p me seen in
+      carried b.progress p whose me b.me s (leaves ways p me seen) (begins_so (statement_placed p me.immediate seen.home.lines) p me seen is w) is empty none own w
+
   pub step_goes : (me : Private) (s : StoreState) → PutsReady me → KeepsNone me → HasOwnLine me.part me → Stands me → Goes me s (asking ways me s) (step ways itself serves lends me s)
   step_goes me s ready none own w =
-      by_test me s me.reset _ _ _ _ (at_reset me s) (by_test me s me.halt _ _ _ _ (at_halt me s ready none own w) (at_output me.pending me s ready none own w))
+      let h =
+      by_rule (due me) (without_halt me) s (has_due me) (puts_first me) ready none (record { part = own.part; place = own.place; kept = own.kept; frames = own.frames }) (record { place = w.place; kept = w.kept; frames = w.frames }) in
+      record { stands = h.stands; ready = h.ready; frames = h.frames; left = h.left; others = h.others }

@@ -9,7 +9,7 @@ use Rattle.b2_text.specs.Spots.{first_opening, is_mark}
 use Rattle.b2_access.specs.Lending.{SeenLent}
 use Rattle.b2_access.specs.Loans.{lends}
 use Rattle.b2_access.specs.KeyLiterals.{typed_by_mark}
-use Rattle.b2_access.specs.Partition.{is_ready, terminal_address}
+use Rattle.b2_access.specs.Partition.{terminal_address}
 use Rattle.b2_access.specs.Placed.{Statement, statement_placed}
 use Rattle.b2_access.specs.Serving.{itself}
 use Rattle.b2_access.specs.Reach.{device_objects, objects_held, to_free, to_take}
@@ -30,9 +30,9 @@ use Rattle.b2_machine.specs.Endings.{counts, repeats}
 use Rattle.b2_machine.specs.Listed.{lists}
 use Rattle.b2_machine.specs.Messages.{prints_text, shows_text}
 use Rattle.b2_machine.specs.Statements.{Begun, begins, begins_where, begun_by, builder_of, finish_by, leaves, plan_by}
-use Rattle.b2_machine.specs.Step.{StepEnd, carries_out, enters_or_goes_on, halts_or_acts, lent_to_begin, line_read, runs_or_reads, seen_by, shows_or_goes_on, step, text_in, types_or_goes_on, whose_by}
-use Rattle.b2_machine.specs.Touched.{access_asked, asking, asks_at, asks_to_enter, asks_to_show, asks_to_type, asks_unless_halted}
-use Rattle.b2_machine.specs.Typing.{on_own_line, puts_numbered, shows_pending}
+use Rattle.b2_machine.specs.Step.{StepEnd, carries_out, lent_to_begin, line_read, seen_by, step, steps_by, text_in, whose_by}
+use Rattle.b2_machine.specs.Touched.{access_asked, asking, asks_by}
+use Rattle.b2_machine.specs.Typing.{inserts_literal, on_own_line, output_pending, puts_numbered, shows_output, shows_pending}
 use Rattle.b2_machine.specs.declared.statements.Builder.{Builder}
 use Rattle.b2_machine.specs.declared.statements.Builder.TheVariants as builder
 use Rattle.b2_machine.specs.declared.statements.Progress.{Progress}
@@ -43,6 +43,10 @@ use Rattle.b2_store.specs.DiskWork.{disks, serves}
 use Rattle.b2_audit.proofs.InParts.{freed_are_held, taken_are_held}
 use Rattle.b2_sched.proofs.StepEnds.{begun_stays}
 use Rattle.b2_sched.specs.Holding.{FinishesByAccess, IsLent, KeepTheList, held_where, is_globals}
+use Rattle.b2_machine.specs.Due.{due}
+use Rattle.b2_machine.specs.declared.rules.Rule.{Rule}
+use Rattle.b2_machine.specs.declared.rules.Rule.TheVariants as rule
+use Rattle.b2_machine.specs.Readiness.{without_halt}
 
 -- what the machine's own rules leave has the same list
 same_list : {x y : Own} → x ≡ y → x.held ≡ y.held
@@ -89,10 +93,6 @@ module _ (ways : Ways) (keep : KeepTheList ways) where
   abbrev SoLeft : List (List ℕ) → StepEnd StoreState → Option Access → ℕ → StoreState → Type 0
   SoLeft held e asks who s = e.me.held ≡ held_where asks who held s
 
-  by_test : (held : List (List ℕ)) (b : Bool) (e f : StepEnd StoreState) (x y : Option Access) (who : ℕ) (s : StoreState) → SoLeft held e x who s → SoLeft held f y who s → SoLeft held (if b then e else f) (if b then x else y) who s
-  by_test held true e f x y who s h k = h
-  by_test held false e f x y who s h k = k
-
   read_stays : (x : Answer) (me : Private) (s : StoreState) → (line_read itself serves lends x me s).me.held ≡ me.held
   read_stays (answer.Line bytes) me s = same_list (line_stays (reads bytes) (record me { term_column = 0 }))
   read_stays (answer.Special n) me s = let own = (text_in s me.part).lines in same_list (pressed_stays (typed_by_mark n own) (first_opening (is_mark n) own) me)
@@ -130,9 +130,17 @@ module _ (ways : Ways) (keep : KeepTheList ways) where
       ((serves_is_local disks).alike who (access.CloseDevices addrs) u s (λ o i. same_holders addrs s u lent o (subst (IsIn o) (freed_are_held addrs) (none_after o (device_objects (to_free addrs).devices) i)))).answers
   lent_same (Some x) who held s u lent = refl
 
-  at_place : (x : Option Place) (me : Private) (s : StoreState) → SoLeft me.held (runs_or_reads ways itself serves lends x me s) (asks_at ways x me s) me.part s
-  at_place None me s = let g = serves s me.part (access.ReadLine me.term) in read_stays g.answer me g.after
-  at_place (Some p) me s =
+  by_rule : (r : Rule) (me : Private) (s : StoreState) → SoLeft me.held (steps_by ways itself serves lends r me s) (asks_by ways r me s) me.part s
+  by_rule rule.Reset me s = refl
+  by_rule rule.Halt me s = refl
+  by_rule rule.Show me s =
+      let x = shows_output me in
+      let a = (serves s me.part x).answer in
+      same_list (shown_stays x a me) ∙ sym (pending_stays (output_pending me).0 (output_pending me).1 a me)
+  by_rule rule.Insert me s = same_list (typed_stays (serves s me.part (inserts_literal me)).answer me)
+  by_rule rule.Read me s = let g = serves s me.part (access.ReadLine me.term) in read_stays g.answer me g.after
+  by_rule rule.Put me s = same_list (put_stays (serves s me.part (puts_numbered me)).answer me)
+  by_rule (rule.Execute p) me s =
       let whose = whose_by p me s in
       let seen = seen_by me.part p.home whose s in
       let left = leaves ways p me seen in
@@ -141,23 +149,5 @@ module _ (ways : Ways) (keep : KeepTheList ways) where
       let so = begins_so (statement_placed p me.immediate seen.home.lines) p me seen in
       carried me.held me.part b.progress p whose b.me u so.same so.goes ∙ lent_same (access_asked b.progress) me.part me.held s u (λ o is. begun_stays me.part p.home whose left s o is)
 
-  at_number : (x : Option (ℕ × Option (List ℕ))) (me : Private) (s : StoreState) → SoLeft me.held (enters_or_goes_on ways itself serves lends x me s) (asks_to_enter ways x me s) me.part s
-  at_number (Some line) me s = same_list (put_stays (serves s me.part (puts_numbered line me)).answer me)
-  at_number None me s = at_place me.place me s
-
-  at_literal : (x : Option (List ℕ)) (me : Private) (s : StoreState) → SoLeft me.held (types_or_goes_on ways itself serves lends x me s) (asks_to_type ways x me s) me.part s
-  at_literal (Some text) me s = same_list (typed_stays (serves s me.part (access.Insert me.term text)).answer me)
-  at_literal None me s = at_number me.numbered me s
-
-  at_output : (x : Option (List ℕ × List ℕ)) (me : Private) (s : StoreState) → SoLeft me.held (shows_or_goes_on ways itself serves lends x me s) (asks_to_show ways x me s) me.part s
-  at_output (Some text) me s =
-      let x = shows_pending text.0 text.1 me in
-      let a = (serves s me.part x).answer in
-      same_list (shown_stays x a me) ∙ sym (pending_stays text.0 text.1 a me)
-  at_output None me s = at_literal me.literal me s
-
-  at_halt : (me : Private) (s : StoreState) → SoLeft me.held (halts_or_acts ways itself serves lends me s) (asks_unless_halted ways me s) me.part s
-  at_halt me s = by_test me.held (is_ready me) _ _ _ _ me.part s (at_output me.pending (record me { halt = false }) s) refl
-
   pub list_after : (me : Private) (s : StoreState) → SoLeft me.held (step ways itself serves lends me s) (asking ways me s) me.part s
-  list_after me s = by_test me.held me.reset _ _ _ _ me.part s refl (by_test me.held me.halt _ _ _ _ me.part s (at_halt me s) (at_output me.pending me s))
+  list_after me s = by_rule (due me) (without_halt me) s

@@ -5,7 +5,6 @@ use Rattle.std.specs.Prelude.{◌≡◌, ℕ, zero, suc, Bool, true, false, List
 use Rattle.std.proofs.Common.{sym, ap, subst, ◌∙◌}
 use Rattle.b2_vars.specs.Globals.{Globals}
 use Rattle.b2_access.specs.Loans.{lends, loan_touched, reached_objects}
-use Rattle.b2_access.specs.Partition.{is_ready}
 use Rattle.b2_access.specs.Serving.{itself}
 use Rattle.b2_access.specs.Sharing.{writes}
 use Rattle.b2_store.specs.DiskWork.{serves}
@@ -31,12 +30,12 @@ use Rattle.b2_audit.specs.Watching.{watched_loan, watching}
 use Rattle.b2_flow.specs.declared.frame.Place.{Place}
 use Rattle.b2_language.specs.Languages.{Ways}
 use Rattle.b2_machine.specs.Endings.{Ending}
-use Rattle.b2_machine.specs.Readiness.{gives_back, halted, resets}
+use Rattle.b2_machine.specs.Readiness.{gives_back, halted, resets, without_halt}
 use Rattle.b2_machine.specs.Statements.{begins, finish_by, finishes, leaves}
-use Rattle.b2_machine.specs.Step.{StepEnd, acts, carries_out, enters_or_goes_on, executes, goes_through, halts_or_acts, lent_to_begin, line_read, reads_line, resets_by, runs_or_reads, seen_by, shows_or_goes_on, step, texts_lent, types_or_goes_on, whose_by}
-use Rattle.b2_machine.specs.Touched.{Told, begin_touched, step_touched, step_written, tells, tells_carrying, told, told_at, told_entering, told_showing, told_typing, told_unless_halted, written_where}
+use Rattle.b2_machine.specs.Step.{StepEnd, carries_out, executes, goes_through, lent_to_begin, line_read, reads_line, seen_by, step, steps_by, texts_lent, whose_by}
+use Rattle.b2_machine.specs.Touched.{Told, begin_touched, step_touched, step_written, tells, tells_carrying, told, told_by, written_where}
 use Rattle.b2_machine.specs.Turn.{TurnEnd, counted_on, ended_turn, passed_one, passes_none, passes_turn, turn_from, unless_ended}
-use Rattle.b2_machine.specs.Typing.{put_by, puts_numbered, shown_by, shows_pending, typed_by_key}
+use Rattle.b2_machine.specs.Typing.{inserts_literal, put_by, puts_numbered, shown_by, shows_output, typed_by_key}
 use Rattle.b2_machine.specs.declared.ends.Why.{Why}
 use Rattle.b2_machine.specs.declared.statements.Progress.{Progress}
 use Rattle.b2_machine.specs.declared.statements.Progress.TheVariants as progress
@@ -45,7 +44,10 @@ use Rattle.b2_sched.specs.Choice.{basic}
 use Rattle.b2_sched.proofs.OwnObjects.{step_part}
 use Rattle.b2_sched.proofs.OwnTexts.{still_own, whole_on}
 use Rattle.b2_sched.specs.Marking.{IsOwnText, TurnsMarkTheirSteps, Watched, store_in}
-use Rattle.b2_sched.specs.Turns.{step_of, steps_from, steps_in_turn, turn_of}
+use Rattle.b2_sched.specs.Turns.{step_of, steps_from}
+use Rattle.b2_machine.specs.Due.{due}
+use Rattle.b2_machine.specs.declared.rules.Rule.{Rule}
+use Rattle.b2_machine.specs.declared.rules.Rule.TheVariants as rule
 
 touch_idle : (p : ℕ) (m : Marks) → IsOwnText p m → touch p (object.Text p) m ≡ m
 touch_idle p m own = ap (λ (b : Bool). if b then record m { clean = without_part m.clean p } else m) own
@@ -68,11 +70,6 @@ abbrev IsMarkedBy : ℕ → (StoreState → Told) → (StoreState → StepEnd St
 IsMarkedBy p says f watched =
     (s : StoreState) (m : Marks) → IsPartition p → AreMarked (says s).touched → AreMarked (says s).written → IsOwnText p m → IsOwnText p (step_marks p (says s) m)
     → watched (s, m) ≡ with_marks (f s) (step_marks p (says s) m)
-
-by_test : (p : ℕ) (b : Bool) (xs ys : StoreState → Told) (f g : StoreState → StepEnd StoreState) (v w : Watched → StepEnd Watched) → IsMarkedBy p xs f v → IsMarkedBy p ys g w
-    → IsMarkedBy p (λ s. if b then xs s else ys s) (λ s. if b then f s else g s) (λ m. if b then v m else w m)
-by_test p true xs ys f g v w h k = h
-by_test p false xs ys f g v w h k = k
 
 -- the own text may be left out
 shorter : (p : ℕ) (ts ws : List Object) (m : Marks) → IsOwnText p m → marked p (object.Text p ∷ ts) ws m ≡ marked p ts ws m
@@ -150,7 +147,7 @@ module _ (ways : Ways) where
       let end = finishes ways b a g.answer w p me seen in
       ap (λ (k : Marks). ended_with end (lends who p.home whose g.after left, k)) (two_parts who os later wrote reached m is (λ o i. ts o (in_right o os later i)) (λ o i. ws o (in_left o wrote reached i)))
 
-  by_statement : (p : Place) (me : Private) → IsMarkedBy me.part (λ s. told_at ways itself serves lends (Some p) me s) (λ s. executes ways itself serves lends p me s) (λ m. executes ways store_in (watching itself serves) (watched_loan itself lends) p me m)
+  by_statement : (p : Place) (me : Private) → IsMarkedBy me.part (λ s. told_by ways itself serves lends (rule.Execute p) me s) (λ s. executes ways itself serves lends p me s) (λ m. executes ways store_in (watching itself serves) (watched_loan itself lends) p me m)
   by_statement p me s m is ts ws own after =
       let whose = whose_by p me s in
       let seen = seen_by me.part p.home whose s in
@@ -166,40 +163,19 @@ module _ (ways : Ways) where
       (two_parts me.part front rest.touched reached rest.written m is (λ o i. ts o (in_right o front rest.touched i)) (λ o i. ws o (in_left o reached rest.written i)))
 
 module _ (devices : List Device) where
-  by_place : (x : Option Place) (me : Private) → IsMarkedBy me.part (λ s. told_at (basic devices) itself serves lends x me s) (λ s. runs_or_reads (basic devices) itself serves lends x me s)
-      (λ m. runs_or_reads (basic devices) store_in (watching itself serves) (watched_loan itself lends) x me m)
-  by_place None me = by_line me
-  by_place (Some place) me = by_statement (basic devices) place me
-
-  by_number : (x : Option (ℕ × Option (List ℕ))) (me : Private) → IsMarkedBy me.part (λ s. told_entering (basic devices) itself serves lends x me s) (λ s. enters_or_goes_on (basic devices) itself serves lends x me s)
-      (λ m. enters_or_goes_on (basic devices) store_in (watching itself serves) (watched_loan itself lends) x me m)
-  by_number (Some line) me = by_answer me (puts_numbered line me) (λ a. put_by a me)
-  by_number None me = by_place me.place me
-
-  by_literal : (x : Option (List ℕ)) (me : Private) → IsMarkedBy me.part (λ s. told_typing (basic devices) itself serves lends x me s) (λ s. types_or_goes_on (basic devices) itself serves lends x me s)
-      (λ m. types_or_goes_on (basic devices) store_in (watching itself serves) (watched_loan itself lends) x me m)
-  by_literal (Some text) me = by_answer me (access.Insert me.term text) (λ a. typed_by_key a me)
-  by_literal None me = by_number me.numbered me
-
-  by_output : (x : Option (List ℕ × List ℕ)) (me : Private) → IsMarkedBy me.part (λ s. told_showing (basic devices) itself serves lends x me s) (λ s. shows_or_goes_on (basic devices) itself serves lends x me s)
-      (λ m. shows_or_goes_on (basic devices) store_in (watching itself serves) (watched_loan itself lends) x me m)
-  by_output (Some text) me = by_answer me (shows_pending text.0 text.1 me) (λ a. shown_by (shows_pending text.0 text.1 me) a me)
-  by_output None me = by_literal me.literal me
-
-  by_halt : (me : Private) → IsMarkedBy me.part (λ s. told_unless_halted (basic devices) itself serves lends me s) (λ s. halts_or_acts (basic devices) itself serves lends me s)
-      (λ m. halts_or_acts (basic devices) store_in (watching itself serves) (watched_loan itself lends) me m)
-  by_halt me =
-      by_test me.part (is_ready me) _ _ _ _ (acts (basic devices) store_in (watching itself serves) (watched_loan itself lends) (record me { halt = false })) (λ m. record { me = (halted me).me; after = m; end = (halted me).end })
-      (by_output me.pending (record me { halt = false })) (by_itself me (halted me))
+  by_rule : (r : Rule) (me : Private) → IsMarkedBy me.part (λ s. told_by (basic devices) itself serves lends r me s) (λ s. steps_by (basic devices) itself serves lends r me s)
+      (λ m. steps_by (basic devices) store_in (watching itself serves) (watched_loan itself lends) r me m)
+  by_rule rule.Reset me = by_answer me (gives_back me) (λ _. resets me)
+  by_rule rule.Halt me = by_itself me (halted me)
+  by_rule rule.Show me = let a = shows_output me in by_answer me a (λ x. shown_by a x me)
+  by_rule rule.Insert me = by_answer me (inserts_literal me) (λ a. typed_by_key a me)
+  by_rule rule.Read me = by_line me
+  by_rule rule.Put me = by_answer me (puts_numbered me) (λ a. put_by a me)
+  by_rule (rule.Execute p) me = by_statement (basic devices) p me
 
   step_is_marked : (me : Private) → IsMarkedBy me.part (λ s. told (basic devices) itself serves lends me s) (λ s. step (basic devices) itself serves lends me s)
       (λ m. step (basic devices) store_in (watching itself serves) (watched_loan itself lends) me m)
-  step_is_marked me =
-      by_test me.part me.reset _ _ _ _
-      (λ m. resets_by store_in (watching itself serves) (watched_loan itself lends) me m)
-      (λ m. if me.halt then halts_or_acts (basic devices) store_in (watching itself serves) (watched_loan itself lends) me m else acts (basic devices) store_in (watching itself serves) (watched_loan itself lends) me m)
-      (by_answer me (gives_back me) (λ _. resets me))
-      (by_test me.part me.halt _ _ _ _ (halts_or_acts (basic devices) store_in (watching itself serves) (watched_loan itself lends) me) (acts (basic devices) store_in (watching itself serves) (watched_loan itself lends) me) (by_halt me) (by_output me.pending me))
+  step_is_marked me = by_rule (due me) (without_halt me)
 
   -- A turn, with marks
   abbrev turn_with : TurnEnd StoreState → Marks → TurnEnd Watched

@@ -16,7 +16,6 @@ use Rattle.b2_text.specs.declared.spots.Spot.{Spot}
 use Rattle.b2_access.specs.Lending.{SeenLent}
 use Rattle.b2_access.specs.Loans.{lends}
 use Rattle.b2_access.specs.KeyLiterals.{typed_by_mark}
-use Rattle.b2_access.specs.Partition.{is_ready}
 use Rattle.b2_access.specs.Placed.{Statement, statement_placed}
 use Rattle.b2_access.specs.Planning.{finished}
 use Rattle.b2_access.specs.Serving.{itself}
@@ -41,10 +40,10 @@ use Rattle.b2_machine.specs.Endings.{counts, repeats}
 use Rattle.b2_machine.specs.Keys.{called_at, calls_where, pressed_by}
 use Rattle.b2_machine.specs.Listed.{lists}
 use Rattle.b2_machine.specs.Moving.{ends_by, ends_onward, enters_program, error_place, faults, goes_to, is_continue, jumps, place_onward}
-use Rattle.b2_machine.specs.Readiness.{gives_back, refuses}
+use Rattle.b2_machine.specs.Readiness.{gives_back, refuses, without_halt}
 use Rattle.b2_machine.specs.Statements.{begins, begins_where, begun_by, builder_of, finish_by, leaves, left_where, plan_by}
-use Rattle.b2_machine.specs.Step.{StepEnd, carries_out, enters_or_goes_on, halts_or_acts, lent_to_begin, line_read, runs_or_reads, seen_by, shows_or_goes_on, step, text_in, types_or_goes_on, whose_by}
-use Rattle.b2_machine.specs.Typing.{put_by, puts_numbered, shown_by, shows_pending, takes, takes_or_refuses, typed_by_key}
+use Rattle.b2_machine.specs.Step.{StepEnd, carries_out, lent_to_begin, line_read, seen_by, step, steps_by, text_in, whose_by}
+use Rattle.b2_machine.specs.Typing.{inserts_literal, put_by, puts_numbered, shown_by, shows_output, takes, takes_or_refuses, typed_by_key}
 use Rattle.b2_machine.specs.declared.ends.Stepped.{Stepped}
 use Rattle.b2_machine.specs.declared.moving.Onward.{Onward}
 use Rattle.b2_machine.specs.declared.statements.Builder.{Builder}
@@ -55,6 +54,9 @@ use Rattle.b2_store.specs.DiskWork.{serves}
 use Rattle.b2_stmt_file.specs.SavedNumbers.{IsAnyNumber}
 use Rattle.b2_sched.proofs.NumbersServed.{StoreHolds, answered_holds, begun_holds, lent_holds, seen_holds, served_holds}
 use Rattle.b2_sched.specs.Numbers.{AnswerHolds, FinishingHolds, GlobalsHold, PlanningHolds, PrivateHolds}
+use Rattle.b2_machine.specs.Due.{due}
+use Rattle.b2_machine.specs.declared.rules.Rule.{Rule}
+use Rattle.b2_machine.specs.declared.rules.Rule.TheVariants as rule
 
 -- the statements of a language keep numbers, as they plan and as they finish
 pub record KeepNumbers (ways : Ways) : Type 0 where
@@ -189,34 +191,22 @@ module _ (ways : Ways) (keep : KeepNumbers ways) where
       let k = finish_keeps b a g.answer me seen (answered_holds s who a) h.0 (seen_holds who p.home whose g.after after) in
       (onward_keeps (repeats g.answer) y.outcome w p y.me seen.home.lines k.0, lent_holds who p.home whose g.after y.globals k.1 after)
 
-  at_place : (x : Option Place) (me : Private) (s : StoreState) → Holds me s → StepHolds (runs_or_reads ways itself serves lends x me s)
-  at_place None me s h =
+  by_rule : (r : Rule) (me : Private) (s : StoreState) → Holds me s → StepHolds (steps_by ways itself serves lends r me s)
+  by_rule rule.Reset me s h = ((h.0.0, tt), served_holds s me.part (gives_back me) h.1)
+  by_rule rule.Halt me s h = h
+  by_rule rule.Show me s h = let a = shows_output me in (shown_keeps a (serves s me.part a).answer me h.0, served_holds s me.part a h.1)
+  by_rule rule.Insert me s h = let a = inserts_literal me in (typed_keeps (serves s me.part a).answer me h.0, served_holds s me.part a h.1)
+  by_rule rule.Read me s h =
       let a = access.ReadLine me.term in
       let g = serves s me.part a in
       read_holds g.answer me g.after (h.0, served_holds s me.part a h.1)
-  at_place (Some p) me s h =
+  by_rule rule.Put me s h = let a = puts_numbered me in (put_keeps (serves s me.part a).answer me h.0, served_holds s me.part a h.1)
+  by_rule (rule.Execute p) me s h =
       let whose = whose_by p me s in
       let seen = seen_by me.part p.home whose s in
       let b = begins ways p me seen in
       let k = begins_keeps (statement_placed p me.immediate seen.home.lines) p me seen h.0 (seen_holds me.part p.home whose s h.1) in
       carried_holds me.part b.progress p whose b.me (lent_to_begin itself serves lends me.part p.home whose s (leaves ways p me seen)) (k.0, begun_holds me.part p.home whose s (leaves ways p me seen) k.1 h.1)
 
-  at_number : (x : Option (ℕ × Option (List ℕ))) (me : Private) (s : StoreState) → Holds me s → StepHolds (enters_or_goes_on ways itself serves lends x me s)
-  at_number (Some line) me s h = let a = puts_numbered line me in (put_keeps (serves s me.part a).answer me h.0, served_holds s me.part a h.1)
-  at_number None me s h = at_place me.place me s h
-
-  at_literal : (x : Option (List ℕ)) (me : Private) (s : StoreState) → Holds me s → StepHolds (types_or_goes_on ways itself serves lends x me s)
-  at_literal (Some text) me s h = let a = access.Insert me.term text in (typed_keeps (serves s me.part a).answer me h.0, served_holds s me.part a h.1)
-  at_literal None me s h = at_number me.numbered me s h
-
-  at_output : (x : Option (List ℕ × List ℕ)) (me : Private) (s : StoreState) → Holds me s → StepHolds (shows_or_goes_on ways itself serves lends x me s)
-  at_output (Some waiting) me s h = let a = shows_pending waiting.0 waiting.1 me in (shown_keeps a (serves s me.part a).answer me h.0, served_holds s me.part a h.1)
-  at_output None me s h = at_literal me.literal me s h
-
-  at_halt : (me : Private) (s : StoreState) → Holds me s → StepHolds (halts_or_acts ways itself serves lends me s)
-  at_halt me s h = either StepHolds (is_ready me) _ _ (at_output me.pending (record me { halt = false }) s h) h
-
   pub step_holds : (me : Private) (s : StoreState) → Holds me s → StepHolds (step ways itself serves lends me s)
-  step_holds me s h =
-      either StepHolds me.reset _ _ ((h.0.0, tt), served_holds s me.part (gives_back me) h.1)
-      (either StepHolds me.halt _ _ (at_halt me s h) (at_output me.pending me s h))
+  step_holds me s h = by_rule (due me) (without_halt me) s h

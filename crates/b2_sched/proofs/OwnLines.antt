@@ -1,5 +1,5 @@
 -- Where a partition is at a place in an immediate line, or is to be led back to one, that is its own: each step leaves it so.
-use Rattle.std.proofs.Common.{◌≡◌, ◌∙◌, refl, ap, ℕ, ◌==◌, ◌&&◌, ◌+◌, Bool, true, false, not, nat_lt, List, [], ◌∷◌, length, Option, Some, None, is_some, Result, Ok, Err, arith}
+use Rattle.std.proofs.Common.{◌≡◌, ◌∙◌, refl, ap, subst, ℕ, ◌==◌, ◌&&◌, ◌+◌, Bool, true, false, not, nat_lt, List, [], ◌∷◌, length, Option, Some, None, is_some, Result, Ok, Err, arith}
 use Rattle.std.proofs.lemmas.Bool.Decides.{nat_tests}
 use Rattle.std.specs.Option.{option_and_then, option_map}
 use Rattle.b2_base.specs.declared.codes.TheConstants.{A04_TOO_DEEP}
@@ -21,7 +21,7 @@ use Rattle.b2_text.specs.declared.spots.Spot.{Spot}
 use Rattle.b2_access.specs.Lending.{SeenLent}
 use Rattle.b2_access.specs.Loans.{lends}
 use Rattle.b2_access.specs.KeyLiterals.{typed_by_mark}
-use Rattle.b2_access.specs.Partition.{is_ready, runs_program}
+use Rattle.b2_access.specs.Partition.{runs_program}
 use Rattle.b2_access.specs.Placed.{Statement, statement_placed}
 use Rattle.b2_access.specs.Places.{goal_place, line_after, line_start}
 use Rattle.b2_access.specs.Serving.{itself}
@@ -45,10 +45,10 @@ use Rattle.b2_machine.specs.Endings.{Ending, counts, repeats}
 use Rattle.b2_machine.specs.Keys.{called_at, calls_where, pressed_by}
 use Rattle.b2_machine.specs.Listed.{lists}
 use Rattle.b2_machine.specs.Moving.{ends_by, ends_onward, enters_program, error_place, faults, goes_to, is_continue, is_taken, jumps, place_onward}
-use Rattle.b2_machine.specs.Readiness.{halted, readies, refuses, resets, without_immediate_loops}
+use Rattle.b2_machine.specs.Readiness.{halted, readies, refuses, resets, without_halt, without_immediate_loops}
 use Rattle.b2_machine.specs.Statements.{begins, begins_where, begun_by, builder_of, finish_by, finishes, leaves, plan_by}
-use Rattle.b2_machine.specs.Step.{StepEnd, carries_out, enters_or_goes_on, halts_or_acts, lent_to_begin, line_read, runs_or_reads, seen_by, shows_or_goes_on, step, text_in, types_or_goes_on, whose_by}
-use Rattle.b2_machine.specs.Typing.{line_taken, put_by, puts_numbered, shown_by, shows_pending, takes, takes_or_refuses, typed_by_key}
+use Rattle.b2_machine.specs.Step.{StepEnd, carries_out, lent_to_begin, line_read, seen_by, step, steps_by, text_in, whose_by}
+use Rattle.b2_machine.specs.Typing.{inserts_literal, line_taken, put_by, puts_numbered, shown_by, shows_output, takes, takes_or_refuses, typed_by_key}
 use Rattle.b2_machine.specs.declared.ends.Stepped.{Stepped}
 use Rattle.b2_machine.specs.declared.moving.Onward.{Onward}
 use Rattle.b2_machine.specs.declared.moving.Onward.TheVariants as onward
@@ -58,6 +58,10 @@ use Rattle.b2_machine.specs.declared.statements.Progress.{Progress}
 use Rattle.b2_machine.specs.declared.statements.Progress.TheVariants as progress
 use Rattle.b2_store.specs.DiskWork.{serves}
 use Rattle.b2_sched.specs.Inside.{EnterAsSaid, FramesOwn, HasOwnLine, LeadsOwn, PlaceOwn, PlannedOwn, is_own_line}
+use Rattle.b2_machine.specs.Due.{HasDue, due}
+use Rattle.b2_machine.specs.declared.rules.Rule.{Rule}
+use Rattle.b2_machine.specs.declared.rules.Rule.TheVariants as rule
+use Rattle.b2_machine.proofs.DueRules.{has_due}
 
 module _ (part : ℕ) where
   abbrev Has : Private → Type 0
@@ -238,28 +242,19 @@ module _ (part : ℕ) where
     carried_has who (progress.Asks a b way) p whose me s h w =
         let g = serves s who a in finished_has b a g.answer way p me (seen_by who p.home whose g.after) h w
 
-    at_place : (x : Option Place) (me : Private) (s : StoreState) → PlaceOwn part x → Has me → StepHas (runs_or_reads ways itself serves lends x me s)
-    at_place None me s h w = read_has (serves s me.part (access.ReadLine me.term)).answer me (serves s me.part (access.ReadLine me.term)).after w
-    at_place (Some p) me s h w =
+    by_rule : (r : Rule) (me : Private) (s : StoreState) → HasDue r me → Has me → StepHas (steps_by ways itself serves lends r me s)
+    by_rule rule.Reset me s is w = reset_has me w
+    by_rule rule.Halt me s is w = halted_has me w
+    by_rule rule.Show me s is w = let x = shows_output me in shown_has x (serves s me.part x).answer me w
+    by_rule rule.Insert me s is w = typed_has (serves s me.part (inserts_literal me)).answer me w
+    by_rule rule.Read me s is w = let g = serves s me.part (access.ReadLine me.term) in read_has g.answer me g.after w
+    by_rule rule.Put me s is w = put_has (serves s me.part (puts_numbered me)).answer me w
+    by_rule (rule.Execute p) me s is w =
         let whose = whose_by p me s in
         let seen = seen_by me.part p.home whose s in
         let b = begins ways p me seen in
+        let h = subst (PlaceOwn part) is w.place in
         carried_has me.part b.progress p whose b.me (lent_to_begin itself serves lends me.part p.home whose s (leaves ways p me seen)) h (begins_has (statement_placed p me.immediate seen.home.lines) p me seen h w)
 
-    at_number : (x : Option (ℕ × Option (List ℕ))) (me : Private) (s : StoreState) → Has me → StepHas (enters_or_goes_on ways itself serves lends x me s)
-    at_number (Some line) me s w = put_has (serves s me.part (puts_numbered line me)).answer me w
-    at_number None me s w = at_place me.place me s w.place w
-
-    at_literal : (x : Option (List ℕ)) (me : Private) (s : StoreState) → Has me → StepHas (types_or_goes_on ways itself serves lends x me s)
-    at_literal (Some text) me s w = typed_has (serves s me.part (access.Insert me.term text)).answer me w
-    at_literal None me s w = at_number me.numbered me s w
-
-    at_output : (x : Option (List ℕ × List ℕ)) (me : Private) (s : StoreState) → Has me → StepHas (shows_or_goes_on ways itself serves lends x me s)
-    at_output (Some text) me s w = let x = shows_pending text.0 text.1 me in shown_has x (serves s me.part x).answer me w
-    at_output None me s w = at_literal me.literal me s w
-
-    at_halt : (me : Private) (s : StoreState) → Has me → StepHas (halts_or_acts ways itself serves lends me s)
-    at_halt me s w = either StepHas (is_ready me) _ _ (at_output me.pending (record me { halt = false }) s (record { part = w.part; place = w.place; kept = w.kept; frames = w.frames })) (halted_has me w)
-
     pub step_has : (me : Private) (s : StoreState) → Has me → StepHas (step ways itself serves lends me s)
-    step_has me s w = either StepHas me.reset _ _ (reset_has me w) (either StepHas me.halt _ _ (at_halt me s w) (at_output me.pending me s w))
+    step_has me s w = by_rule (due me) (without_halt me) s (has_due me) (record { part = w.part; place = w.place; kept = w.kept; frames = w.frames })

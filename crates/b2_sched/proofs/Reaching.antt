@@ -1,13 +1,12 @@
 -- What a step reaches: its own text, what its access reaches, the texts of homes, names, and the `@` variables of homes and of those to whom
 -- a touched name leads. So whatever holds of these holds of all that it touches.
-use Rattle.std.specs.Prelude.{◌≡◌, ◌⊎◌, ℕ, Bool, true, false, List, [], ◌∷◌, ◌++◌, Option, Some, None, refl, if◌then◌else◌}
+use Rattle.std.specs.Prelude.{◌≡◌, ◌⊎◌, ℕ, Bool, true, List, [], ◌∷◌, ◌++◌, Option, Some, None, refl, if◌then◌else◌}
 use Rattle.std.proofs.Common.{sym, ap, subst, ◌∙◌, inl, inr}
 use Rattle.b2_flow.specs.declared.frame.Place.{Place}
 use Rattle.b2_access.specs.AccessRows.{holder_at}
 use Rattle.b2_access.specs.Homes.{IsWithin, PlaceIn}
 use Rattle.b2_access.specs.Leading.{LeadsTo, TouchedNamesIn}
 use Rattle.b2_access.specs.Loans.{globals_objects, holder_of, lender_at, lends, loan_touched, name_objects}
-use Rattle.b2_access.specs.Partition.{is_ready}
 use Rattle.b2_access.specs.Serving.{itself}
 use Rattle.b2_access.specs.Store.{StoreState, IsIn, content}
 use Rattle.b2_access.specs.Task.{in_left, in_right}
@@ -21,15 +20,19 @@ use Rattle.b2_access.specs.declared.objects.Object.TheVariants as object
 use Rattle.b2_access.specs.declared.private.Private.{Private}
 use Rattle.b2_access.proofs.Leading.{names_lead_to_who_asks}
 use Rattle.b2_language.specs.Languages.{Ways}
-use Rattle.b2_machine.specs.Readiness.{gives_back}
+use Rattle.b2_machine.specs.Readiness.{without_halt}
 use Rattle.b2_machine.specs.Statements.{begins, leaves}
 use Rattle.b2_machine.specs.Step.{lent_to_begin, seen_by, whose_by}
-use Rattle.b2_machine.specs.Touched.{Told, access_asked, asking, asks_at, asks_to_enter, asks_to_show, asks_to_type, asks_as_it_acts, asks_unless_halted, begin_touched, tells, tells_carrying, told, told_acting, told_at, told_entering, told_showing, told_typing, told_unless_halted, touched_where}
+use Rattle.b2_machine.specs.Touched.{Told, access_asked, asking, asks_by, begin_touched, tells, tells_carrying, told, told_by, touched_where}
 use Rattle.b2_machine.specs.declared.statements.Progress.{Progress}
 use Rattle.b2_machine.specs.declared.statements.Progress.TheVariants as progress
 use Rattle.b2_machine.proofs.Lent.{begun_store, names_left}
 use Rattle.b2_machine.proofs.LocalSteps.{split}
 use Rattle.b2_store.specs.DiskWork.{disks, serves}
+use Rattle.b2_machine.specs.Due.{HasDue, due}
+use Rattle.b2_machine.specs.declared.rules.Rule.{Rule}
+use Rattle.b2_machine.specs.declared.rules.Rule.TheVariants as rule
+use Rattle.b2_machine.proofs.DueRules.{has_due}
 
 -- something holds of each of some objects
 abbrev pub AreAll : (Object → Type 0) → List Object → Type 0
@@ -124,9 +127,8 @@ module _ (among : ℕ → Bool) (may : ℕ → Access → Type 0) (Fine : Object
     by_rule : (part : ℕ) (a : Option Access) (s : StoreState) → among part ≡ true → Reached part (tells itself serves lends part a s) a s
     by_rule part a s member led h = more (object.Text part) (touched_where a part s) (covers.texts part member) (accessed_where a part s member h (λ n q i. led n q (inr i)))
 
-    at_place : (x : Option Place) (me : Private) (s : StoreState) → PlaceIn among x → among me.part ≡ true → Reached me.part (told_at ways itself serves lends x me s) (asks_at ways x me s) s
-    at_place None me s h member led asks = by_rule me.part (asks_at ways None me s) s member led asks
-    at_place (Some p) me s h member led asks =
+    each_rule : (r : Rule) (me : Private) (s : StoreState) → HasDue r me → IsWithin among me → Reached me.part (told_by ways itself serves lends r me s) (asks_by ways r me s) s
+    each_rule (rule.Execute p) me s is w led asks =
         let whose = whose_by p me s in
         let seen = seen_by me.part p.home whose s in
         let left = leaves ways p me seen in
@@ -134,45 +136,13 @@ module _ (among : ℕ → Bool) (may : ℕ → Access → Type 0) (Fine : Object
         let u = lent_to_begin itself serves lends me.part p.home whose s left in
         let front = begin_touched me.part p.home whose s in
         let back = (tells_carrying ways itself serves lends me.part b.progress p whose b.me u).touched in
+        let h = subst (PlaceIn among) is w.place in
         let names : (n : List ℕ) → content u (object.Name n) ≡ content s (object.Name n) =
         λ n. ap (λ (t : StoreState). content t (object.Name n)) (begun_store itself serves lends (λ who home at m l. refl) me.part p.home whose s left) ∙ names_left p.home whose left.vars s n in
-        both front back (begin_fine me.part p.home whose s member h (λ n q i. led n q (in_left (object.Name n) front back i)))
-        (carried_fine me.part b.progress p whose b.me u member h asks (λ n q i leads. led n q (in_right (object.Name n) front back i) (sym (names n) ∙ leads)))
-
-    at_number : (x : Option (ℕ × Option (List ℕ))) (me : Private) (s : StoreState) → IsWithin among me → Reached me.part (told_entering ways itself serves lends x me s) (asks_to_enter ways x me s) s
-    at_number (Some line) me s w = by_rule me.part (asks_to_enter ways (Some line) me s) s w.part
-    at_number None me s w = at_place me.place me s w.place w.part
-
-    at_literal : (x : Option (List ℕ)) (me : Private) (s : StoreState) → IsWithin among me → Reached me.part (told_typing ways itself serves lends x me s) (asks_to_type ways x me s) s
-    at_literal (Some typed) me s w = by_rule me.part (asks_to_type ways (Some typed) me s) s w.part
-    at_literal None me s w = at_number me.numbered me s w
-
-    at_output : (x : Option (List ℕ × List ℕ)) (me : Private) (s : StoreState) → IsWithin among me → Reached me.part (told_showing ways itself serves lends x me s) (asks_to_show ways x me s) s
-    at_output (Some shown) me s w = by_rule me.part (asks_to_show ways (Some shown) me s) s w.part
-    at_output None me s w = at_literal me.literal me s w
-
-    by_test : (who : ℕ) (b : Bool) (t u : Told) (x y : Option Access) (s : StoreState) → Reached who t x s → Reached who u y s → Reached who (if b then t else u) (if b then x else y) s
-    by_test who true t u x y s h k = h
-    by_test who false t u x y s h k = k
-
-    abbrev nothing_told : Private → StoreState → Told
-    nothing_told me s = tells itself serves lends me.part None s
-
-    acting : (me : Private) (s : StoreState) → IsWithin among me → Reached me.part (told_acting ways itself serves lends me s) (asks_as_it_acts ways me s) s
-    acting me s w = at_output me.pending me s w
-
-    at_halt : (me : Private) (s : StoreState) → IsWithin among me → Reached me.part (told_unless_halted ways itself serves lends me s) (asks_unless_halted ways me s) s
-    at_halt me s w =
-        let on = record me { halt = false } in
-        by_test me.part (is_ready me) (told_acting ways itself serves lends on s) (nothing_told me s) (asks_as_it_acts ways on s) None s
-        (acting on s (record { part = w.part; place = w.place; kept = w.kept; frames = w.frames }))
-        (by_rule me.part None s w.part)
+        both front back (begin_fine me.part p.home whose s w.part h (λ n q i. led n q (in_left (object.Name n) front back i)))
+        (carried_fine me.part b.progress p whose b.me u w.part h asks (λ n q i leads. led n q (in_right (object.Name n) front back i) (sym (names n) ∙ leads)))
+    each_rule r me s is w = by_rule me.part (asks_by ways r me s) s w.part
 
     -- ALL THAT A STEP TOUCHES is so, where each name that it touches leads to one among them
     pub stepped : (me : Private) (s : StoreState) → IsWithin among me → Reached me.part (told ways itself serves lends me s) (asking ways me s) s
-    stepped me s w =
-        let halted = told_unless_halted ways itself serves lends me s in
-        let goes = told_acting ways itself serves lends me s in
-        let back = Some (gives_back me) in
-        by_test me.part me.reset (tells itself serves lends me.part back s) (if me.halt then halted else goes) back (if me.halt then asks_unless_halted ways me s else asks_as_it_acts ways me s) s (by_rule me.part back s w.part)
-        (by_test me.part me.halt halted goes (asks_unless_halted ways me s) (asks_as_it_acts ways me s) s (at_halt me s w) (acting me s w))
+    stepped me s w = each_rule (due me) (without_halt me) s (has_due me) (record { part = w.part; place = w.place; kept = w.kept; frames = w.frames })

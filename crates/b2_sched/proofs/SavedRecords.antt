@@ -13,7 +13,7 @@ use Rattle.b2_vars.specs.Tables.{VarsState}
 use Rattle.b2_record.specs.Items.{AllStorable, IsStorable}
 use Rattle.b2_access.specs.Lending.{SeenLent}
 use Rattle.b2_access.specs.Loans.{globals_of, lender_at}
-use Rattle.b2_access.specs.Partition.{is_ready, terminal_address}
+use Rattle.b2_access.specs.Partition.{terminal_address}
 use Rattle.b2_access.specs.Placed.{Statement, statement_placed}
 use Rattle.b2_access.specs.Store.{StoreState, content}
 use Rattle.b2_access.specs.Touching.{is_short}
@@ -29,8 +29,8 @@ use Rattle.b2_machine.specs.Listed.{lists}
 use Rattle.b2_machine.specs.Messages.{prints_text, shows_text}
 use Rattle.b2_machine.specs.Statements.{begins_where, begun_by, builder_of, plan_by}
 use Rattle.b2_machine.specs.Step.{seen_at, whose_by}
-use Rattle.b2_machine.specs.Touched.{access_asked, asking, asks_at, asks_to_enter, asks_to_show, asks_to_type, asks_unless_halted}
-use Rattle.b2_machine.specs.Typing.{on_own_line}
+use Rattle.b2_machine.specs.Touched.{access_asked, asking, asks_by}
+use Rattle.b2_machine.specs.Typing.{on_own_line, output_pending}
 use Rattle.b2_machine.specs.declared.statements.Builder.{Builder}
 use Rattle.b2_machine.specs.declared.statements.Builder.TheVariants as builder
 use Rattle.b2_stmt_file.specs.SavedNumbers.{HoldsNumbers, IsAnyNumber, SavesNumbers}
@@ -44,6 +44,10 @@ use Rattle.b2_sched.specs.Lawful.{basic_is_lawful}
 use Rattle.b2_sched.specs.Saving.{HoldNumbers, SavesStorable, StepsSaveRecords, StepsSaveStorable}
 use Rattle.b2_sched.specs.declared.choice.Family.{Family}
 use Rattle.b2_sched.specs.declared.choice.Family.TheVariants as family
+use Rattle.b2_machine.specs.Due.{due}
+use Rattle.b2_machine.specs.declared.rules.Rule.{Rule}
+use Rattle.b2_machine.specs.declared.rules.Rule.TheVariants as rule
+use Rattle.b2_machine.specs.Readiness.{without_halt}
 
 -- what saves none saves numbers alone
 none_saves : (x : Planned) → SavesNone x → SavesNumbers x
@@ -102,34 +106,17 @@ module _ (devices : List Device) where
   abbrev Saves : Option Access → Type 0
   Saves x = SavesNumbersIfAny x
 
-  by_test : (b : Bool) (x y : Option Access) → Saves x → Saves y → Saves (if b then x else y)
-  by_test true x y h k = h
-  by_test false x y h k = k
-
-  at_place : (x : Option Place) (me : Private) (s : StoreState) → HoldNumbers me s → Saves (asks_at (basic devices) x me s)
-  at_place None me s h = tt
-  at_place (Some p) me s h =
+  by_rule : (r : Rule) (me : Private) (s : StoreState) → HoldNumbers me s → Saves (asks_by (basic devices) r me s)
+  by_rule rule.Show me s h =
+      let shown = output_pending me in
+      either (λ (a : Access). SavesNumbers (planned.Ask a)) (bytes_eq shown.0 terminal_address) (shows_text (on_own_line me.term_column shown.1) me) (prints_text shown.0 shown.1 me) tt tt
+  by_rule (rule.Execute p) me s h =
       let seen = seen_at p me s in
       begins_saving (statement_placed p me.immediate seen.home.lines) p me seen h.own (by_lender s h.globals (lender_at p.home (whose_by p me s) s))
-
-  entering : (x : Option (ℕ × Option (List ℕ))) (me : Private) (s : StoreState) → HoldNumbers me s → Saves (asks_to_enter (basic devices) x me s)
-  entering (Some line) me s h = tt
-  entering None me s h = at_place me.place me s h
-
-  typing : (x : Option (List ℕ)) (me : Private) (s : StoreState) → HoldNumbers me s → Saves (asks_to_type (basic devices) x me s)
-  typing (Some text) me s h = tt
-  typing None me s h = entering me.numbered me s h
-
-  showing : (x : Option (List ℕ × List ℕ)) (me : Private) (s : StoreState) → HoldNumbers me s → Saves (asks_to_show (basic devices) x me s)
-  showing (Some shown) me s h =
-      either (λ (a : Access). SavesNumbers (planned.Ask a)) (bytes_eq shown.0 terminal_address) (shows_text (on_own_line me.term_column shown.1) me) (prints_text shown.0 shown.1 me) tt tt
-  showing None me s h = typing me.literal me s h
-
-  halting : (me : Private) (s : StoreState) → HoldNumbers me s → Saves (asks_unless_halted (basic devices) me s)
-  halting me s h = by_test (is_ready me) _ _ (showing me.pending (record me { halt = false }) s (record { own = h.own; globals = h.globals })) tt
+  by_rule r me s h = tt
 
   asking_saves : (me : Private) (s : StoreState) → HoldNumbers me s → Saves (asking (basic devices) me s)
-  asking_saves me s h = by_test me.reset _ _ tt (by_test me.halt _ _ (halting me s h) (showing me.pending me s h))
+  asking_saves me s h = by_rule (due me) (without_halt me) s (record { own = h.own; globals = h.globals })
 
 -- numbers, and alpha values that are short, are such as a record may hold
 one_storable : (x : Value) → IsAnyNumber x → is_short x ≡ true → IsStorable x

@@ -11,7 +11,6 @@ use Rattle.b2_access.specs.AccessRows.{holder_entered, reach}
 use Rattle.b2_access.specs.Contents.{content_other}
 use Rattle.b2_access.specs.Lending.{SeenLent}
 use Rattle.b2_access.specs.Loans.{globals_objects, holder_of, lender_at, lends, loan_touched, name_objects, reached_objects, with_globals_at, with_globals_of}
-use Rattle.b2_access.specs.Partition.{is_ready}
 use Rattle.b2_access.specs.Reach.{objects_reached}
 use Rattle.b2_access.specs.Serving.{itself}
 use Rattle.b2_access.specs.Sharing.{writes}
@@ -30,17 +29,20 @@ use Rattle.b2_language.specs.Languages.{Ways}
 use Rattle.b2_language.specs.Wanted.{wanted_at}
 use Rattle.b2_machine.specs.Endings.{Ending, carries_on}
 use Rattle.b2_machine.specs.Keys.{pressed}
-use Rattle.b2_machine.specs.Readiness.{gives_back, halted, resets}
+use Rattle.b2_machine.specs.Readiness.{gives_back, halted, resets, without_halt}
 use Rattle.b2_machine.specs.Statements.{begins, finish_by, finishes, leaves}
-use Rattle.b2_machine.specs.Step.{StepEnd, acts, asks_for, carries_out, enters_or_goes_on, executes_by, goes_through, halts_or_acts, lent_to_begin, line_read, reads_line, runs_or_reads, seen_by, shows_or_goes_on, step, types_or_goes_on, whose_by}
-use Rattle.b2_machine.specs.Touched.{Told, access_asked, asking, asks_as_it_acts, asks_at, asks_to_enter, asks_to_show, asks_to_type, asks_unless_halted, begin_touched, tells, tells_carrying, tells_executing, told, told_at, told_entering, told_showing, told_typing, told_unless_halted}
-use Rattle.b2_machine.specs.Typing.{put_by, puts_numbered, shown_by, shows_pending, typed_by_key}
+use Rattle.b2_machine.specs.Step.{StepEnd, asks_for, carries_out, executes_by, goes_through, lent_to_begin, line_read, reads_line, seen_by, step, steps_by, whose_by}
+use Rattle.b2_machine.specs.Touched.{Told, access_asked, asking, asks_by, begin_touched, tells, tells_carrying, tells_executing, told, told_by}
+use Rattle.b2_machine.specs.Typing.{inserts_literal, put_by, puts_numbered, shown_by, shows_output, typed_by_key}
 use Rattle.b2_machine.specs.declared.statements.Progress.{Progress}
 use Rattle.b2_machine.specs.declared.statements.Progress.TheVariants as progress
 use Rattle.b2_machine.proofs.Lent.{begin_same, begun_store, lender_same, reached_same, same_text, seen_same, touches_same}
 use Rattle.b2_machine.proofs.LocalSteps.{both_same}
 use Rattle.b2_store.specs.DiskWork.{serves}
 use Rattle.b2_sched.specs.Holding.{IsLent, is_globals}
+use Rattle.b2_machine.specs.Due.{due}
+use Rattle.b2_machine.specs.declared.rules.Rule.{Rule}
+use Rattle.b2_machine.specs.declared.rules.Rule.TheVariants as rule
 
 -- the store that an access leaves, where one is asked for
 abbrev pub left_where : Option Access → ℕ → StoreState → StoreState
@@ -79,10 +81,6 @@ module _ (ways : Ways) where
   by_rule : (x : Option Access) (who : ℕ) (s after : StoreState) → after ≡ left_where x who s → Left x who s after
   by_rule x who s after is = record { before = s; lent = λ o _. refl; left = λ o _. ap (λ (t : StoreState). content t o) is }
 
-  left_by_test : (b : Bool) (x y : Option Access) (who : ℕ) (f g : StepEnd StoreState) (s : StoreState) → Left x who s f.after → Left y who s g.after → Left (if b then x else y) who s (if b then f else g).after
-  left_by_test true x y who f g s h k = h
-  left_by_test false x y who f g s h k = k
-
   carried_left : (who : ℕ) (c : Progress) (p : Place) (whose : At) (me : Private) (s : StoreState) (o : Object) → is_globals o ≡ false
       → content (carries_out ways itself serves lends who c p whose me s).after o ≡ content (left_where (access_asked c) who s) o
   carried_left who (progress.Ended e) p whose me s o is = refl
@@ -90,11 +88,11 @@ module _ (ways : Ways) where
       let g = serves s who a in
       loan_stays p.home whose (finish_by ways b a g.answer me (seen_by who p.home whose g.after)).globals.vars g.after o is
 
-  left_at : (x : Option Place) (me : Private) (s : StoreState) → Left (asks_at ways x me s) me.part s (runs_or_reads ways itself serves lends x me s).after
-  left_at None me s =
+  left_by : (r : Rule) (me : Private) (s : StoreState) → Left (asks_by ways r me s) me.part s (steps_by ways itself serves lends r me s).after
+  left_by rule.Read me s =
       let g = serves s me.part (access.ReadLine me.term) in
       by_rule (Some (access.ReadLine me.term)) me.part s (line_read itself serves lends g.answer me g.after).after (line_left g.answer me g.after)
-  left_at (Some p) me s =
+  left_by (rule.Execute p) me s =
       let whose = whose_by p me s in
       let seen = seen_by me.part p.home whose s in
       let left = leaves ways p me seen in
@@ -105,27 +103,10 @@ module _ (ways : Ways) where
         lent = λ o is. begun_stays me.part p.home whose left s o is;
         left = λ o is. carried_left me.part b.progress p whose b.me u o is;
       }
-
-  left_entering : (x : Option (ℕ × Option (List ℕ))) (me : Private) (s : StoreState) → Left (asks_to_enter ways x me s) me.part s (enters_or_goes_on ways itself serves lends x me s).after
-  left_entering (Some line) me s = by_rule _ me.part s _ refl
-  left_entering None me s = left_at me.place me s
-
-  left_typing : (x : Option (List ℕ)) (me : Private) (s : StoreState) → Left (asks_to_type ways x me s) me.part s (types_or_goes_on ways itself serves lends x me s).after
-  left_typing (Some text) me s = by_rule _ me.part s _ refl
-  left_typing None me s = left_entering me.numbered me s
-
-  left_showing : (x : Option (List ℕ × List ℕ)) (me : Private) (s : StoreState) → Left (asks_to_show ways x me s) me.part s (shows_or_goes_on ways itself serves lends x me s).after
-  left_showing (Some shown) me s = by_rule _ me.part s _ refl
-  left_showing None me s = left_typing me.literal me s
-
-  left_acting : (me : Private) (s : StoreState) → Left (asks_as_it_acts ways me s) me.part s (acts ways itself serves lends me s).after
-  left_acting me s = left_showing me.pending me s
-
-  left_halting : (me : Private) (s : StoreState) → Left (asks_unless_halted ways me s) me.part s (halts_or_acts ways itself serves lends me s).after
-  left_halting me s = left_by_test (is_ready me) _ _ me.part _ _ s (left_acting (record me { halt = false }) s) (by_rule None me.part s _ refl)
+  left_by r me s = by_rule (asks_by ways r me s) me.part s _ refl
 
   pub step_left : (me : Private) (s : StoreState) → Left (asking ways me s) me.part s (step ways itself serves lends me s).after
-  step_left me s = left_by_test me.reset _ _ me.part _ _ s (by_rule (Some (gives_back me)) me.part s _ refl) (left_by_test me.halt _ _ me.part _ _ s (left_halting me s) (left_acting me s))
+  step_left me s = left_by (due me) (without_halt me) s
 
 -- ---- from two stores
 
@@ -210,10 +191,9 @@ module _ (ways : Ways) (R : StoreState → StoreState → Type 0) where
           stores = subst (λ (x : Globals). R (lends who p.home whose g.after first) (lends who p.home whose h.after x)) left (is.lent p.home whose first g.after h.after both.1);
         }
 
-  by_test : (b : Bool) (x1 x2 y1 y2 : Option Access) (t1 t2 u1 u2 : Told) (f1 f2 g1 g2 : StepEnd StoreState) → GoAlike R x1 y1 t1 u1 f1 g1 → GoAlike R x2 y2 t2 u2 f2 g2
-      → GoAlike R (if b then x1 else x2) (if b then y1 else y2) (if b then t1 else t2) (if b then u1 else u2) (if b then f1 else f2) (if b then g1 else g2)
-  by_test true x1 x2 y1 y2 t1 t2 u1 u2 f1 f2 g1 g2 h k = h
-  by_test false x1 x2 y1 y2 t1 t2 u1 u2 f1 f2 g1 g2 h k = k
+  by_itself : (part : ℕ) (e : Ending) (s t : StoreState) → R s t
+      → GoAlike R None None (tells itself serves lends part None s) (tells itself serves lends part None t) (record { me = e.me; after = s; end = e.end }) (record { me = e.me; after = t; end = e.end })
+  by_itself part e s t r = record { asks = refl; tells = refl; own = refl; end = refl; stores = r }
 
   module _ (me : Private) (is : IsLikeness me.part R) where
     -- by one of the first five rules
@@ -294,41 +274,21 @@ module _ (ways : Ways) (R : StoreState → StoreState → Type 0) where
           let same = seen_same me.part p.home whose s t (of_loan me.part is p.home whose s t r) in
           subst (λ (y : SeenLent). GoAlike R (access_asked (begins ways p me x).progress) (access_asked (begins ways p me y).progress) (says x s) (says y t) (goes x s) (goes y t)) same (over x s t r)
 
-    at_place : (x : Option Place) (s t : StoreState) → R s t
-        → GoAlike R (asks_at ways x me s) (asks_at ways x me t) (told_at ways itself serves lends x me s) (told_at ways itself serves lends x me t) (runs_or_reads ways itself serves lends x me s) (runs_or_reads ways itself serves lends x me t)
-    at_place None s t r = by_line s t r
-    at_place (Some p) s t r =
+    alike_by : (r : Rule) (s t : StoreState) → R s t
+        → GoAlike R (asks_by ways r me s) (asks_by ways r me t) (told_by ways itself serves lends r me s) (told_by ways itself serves lends r me t) (steps_by ways itself serves lends r me s) (steps_by ways itself serves lends r me t)
+    alike_by rule.Reset s t r = by_answer (gives_back me) (λ _. resets me) s t r
+    alike_by rule.Halt s t r = by_itself me.part (halted me) s t r
+    alike_by rule.Show s t r = let a = shows_output me in by_answer a (λ x. shown_by a x me) s t r
+    alike_by rule.Insert s t r = by_answer (inserts_literal me) (λ a. typed_by_key a me) s t r
+    alike_by rule.Read s t r = by_line s t r
+    alike_by rule.Put s t r = by_answer (puts_numbered me) (λ a. put_by a me) s t r
+    alike_by (rule.Execute p) s t r =
         let whose = whose_by p me s in
         let same : whose_by p me s ≡ whose_by p me t = ap (λ (u : TextState). wanted_at p me u.lines) (same_text p.home s t (is.sees s t r (object.Text p.home) refl)) in
         subst (λ (z : At). GoAlike R (access_asked (begins ways p me (seen_by me.part p.home whose s)).progress) (access_asked (begins ways p me (seen_by me.part p.home z t)).progress)
         (tells_executing ways itself serves lends whose p me s) (tells_executing ways itself serves lends z p me t) (executes_by ways itself serves lends whose p me s) (executes_by ways itself serves lends z p me t))
         same (executed p whose s t r)
 
-    at_number : (x : Option (ℕ × Option (List ℕ))) (s t : StoreState) → R s t
-        → GoAlike R (asks_to_enter ways x me s) (asks_to_enter ways x me t) (told_entering ways itself serves lends x me s) (told_entering ways itself serves lends x me t) (enters_or_goes_on ways itself serves lends x me s) (enters_or_goes_on ways itself serves lends x me t)
-    at_number (Some line) s t r = by_answer (puts_numbered line me) (λ a. put_by a me) s t r
-    at_number None s t r = at_place me.place s t r
-
-    at_literal : (x : Option (List ℕ)) (s t : StoreState) → R s t
-        → GoAlike R (asks_to_type ways x me s) (asks_to_type ways x me t) (told_typing ways itself serves lends x me s) (told_typing ways itself serves lends x me t) (types_or_goes_on ways itself serves lends x me s) (types_or_goes_on ways itself serves lends x me t)
-    at_literal (Some literal) s t r = by_answer (access.Insert me.term literal) (λ a. typed_by_key a me) s t r
-    at_literal None s t r = at_number me.numbered s t r
-
-    at_output : (x : Option (List ℕ × List ℕ)) (s t : StoreState) → R s t
-        → GoAlike R (asks_to_show ways x me s) (asks_to_show ways x me t) (told_showing ways itself serves lends x me s) (told_showing ways itself serves lends x me t) (shows_or_goes_on ways itself serves lends x me s) (shows_or_goes_on ways itself serves lends x me t)
-    at_output (Some shown) s t r = let a = shows_pending shown.0 shown.1 me in by_answer a (λ x. shown_by a x me) s t r
-    at_output None s t r = at_literal me.literal s t r
-
-  by_itself : (part : ℕ) (e : Ending) (s t : StoreState) → R s t
-      → GoAlike R None None (tells itself serves lends part None s) (tells itself serves lends part None t) (record { me = e.me; after = s; end = e.end }) (record { me = e.me; after = t; end = e.end })
-  by_itself part e s t r = record { asks = refl; tells = refl; own = refl; end = refl; stores = r }
-
-  at_halt : (me : Private) → IsLikeness me.part R → (s t : StoreState) → R s t
-      → GoAlike R (asks_unless_halted ways me s) (asks_unless_halted ways me t) (told_unless_halted ways itself serves lends me s) (told_unless_halted ways itself serves lends me t) (halts_or_acts ways itself serves lends me s) (halts_or_acts ways itself serves lends me t)
-  at_halt me is s t r = by_test (is_ready me) _ _ _ _ _ _ _ _ _ _ _ _ (at_output (record me { halt = false }) is me.pending s t r) (by_itself me.part (halted me) s t r)
-
   pub step_alike : (me : Private) → IsLikeness me.part R → (s t : StoreState) → R s t
       → GoAlike R (asking ways me s) (asking ways me t) (told ways itself serves lends me s) (told ways itself serves lends me t) (step ways itself serves lends me s) (step ways itself serves lends me t)
-  step_alike me is s t r =
-      by_test me.reset _ _ _ _ _ _ _ _ _ _ _ _ (by_answer me is (gives_back me) (λ _. resets me) s t r)
-      (by_test me.halt _ _ _ _ _ _ _ _ _ _ _ _ (at_halt me is s t r) (at_output me is me.pending s t r))
+  step_alike me is s t r = alike_by (without_halt me) is (due me) s t r

@@ -3,7 +3,6 @@ use Rattle.std.specs.Prelude.{◌≡◌, ℕ, Bool, true, false, List, ◌++◌,
 use Rattle.std.proofs.Common.{inl, inr}
 use Rattle.b2_flow.specs.declared.frame.Place.{Place}
 use Rattle.b2_access.specs.Loans.{globals_objects, lender_at, lends, reached_objects}
-use Rattle.b2_access.specs.Partition.{is_ready}
 use Rattle.b2_access.specs.Serving.{itself}
 use Rattle.b2_access.specs.Sharing.{writes}
 use Rattle.b2_access.specs.Store.{StoreState, IsIn}
@@ -14,14 +13,17 @@ use Rattle.b2_access.specs.declared.objects.Object.TheVariants as object
 use Rattle.b2_access.specs.declared.private.Private.{Private}
 use Rattle.b2_audit.proofs.Accesses.{accesses_write_own_texts}
 use Rattle.b2_language.specs.Languages.{Ways}
-use Rattle.b2_machine.specs.Readiness.{gives_back}
+use Rattle.b2_machine.specs.Readiness.{without_halt}
 use Rattle.b2_machine.specs.Statements.{begins, finish_by, leaves}
 use Rattle.b2_machine.specs.Step.{lent_to_begin, seen_by, whose_by}
-use Rattle.b2_machine.specs.Touched.{Told, asks_at, asks_to_enter, asks_to_show, asks_to_type, step_written, tells, tells_carrying, told_acting, told_at, told_entering, told_showing, told_typing, told_unless_halted, written_where}
+use Rattle.b2_machine.specs.Touched.{asks_by, step_written, tells_carrying, told_by, written_where}
 use Rattle.b2_machine.specs.declared.statements.Progress.{Progress}
 use Rattle.b2_machine.specs.declared.statements.Progress.TheVariants as progress
 use Rattle.b2_machine.proofs.LocalSteps.{split}
 use Rattle.b2_store.specs.DiskWork.{serves}
+use Rattle.b2_machine.specs.Due.{due}
+use Rattle.b2_machine.specs.declared.rules.Rule.{Rule}
+use Rattle.b2_machine.specs.declared.rules.Rule.TheVariants as rule
 
 abbrev OwnAlone : ℕ → List Object → Type 0
 OwnAlone who os = (q : ℕ) → IsIn (object.Text q) os → q ≡ who
@@ -49,46 +51,15 @@ module _ (ways : Ways) where
       both_own who (writes itself serves s who a) _ (λ q i. accesses_write_own_texts who q a g.answer i)
       (reached_own who (finish_by ways b a g.answer me (seen_by who p.home whose g.after)).globals.reached p.home whose g.after) q i
 
-  at_place : (x : Option Place) (me : Private) (s : StoreState) → OwnAlone me.part (told_at ways itself serves lends x me s).written
-  at_place None me s = asked_own me.part (asks_at ways None me s) s
-  at_place (Some p) me s =
+  by_rule : (r : Rule) (me : Private) (s : StoreState) → OwnAlone me.part (told_by ways itself serves lends r me s).written
+  by_rule (rule.Execute p) me s =
       let whose = whose_by p me s in
       let seen = seen_by me.part p.home whose s in
       let b = begins ways p me seen in
       let left = leaves ways p me seen in
       both_own me.part (reached_objects left.reached p.home whose s) _ (reached_own me.part left.reached p.home whose s)
       (carried_own me.part b.progress p whose b.me (lent_to_begin itself serves lends me.part p.home whose s left))
-
-  at_number : (x : Option (ℕ × Option (List ℕ))) (me : Private) (s : StoreState) → OwnAlone me.part (told_entering ways itself serves lends x me s).written
-  at_number (Some line) me s = asked_own me.part (asks_to_enter ways (Some line) me s) s
-  at_number None me s = at_place me.place me s
-
-  at_literal : (x : Option (List ℕ)) (me : Private) (s : StoreState) → OwnAlone me.part (told_typing ways itself serves lends x me s).written
-  at_literal (Some text) me s = asked_own me.part (asks_to_type ways (Some text) me s) s
-  at_literal None me s = at_number me.numbered me s
-
-  at_output : (x : Option (List ℕ × List ℕ)) (me : Private) (s : StoreState) → OwnAlone me.part (told_showing ways itself serves lends x me s).written
-  at_output (Some text) me s = asked_own me.part (asks_to_show ways (Some text) me s) s
-  at_output None me s = at_literal me.literal me s
-
-  by_test : (who : ℕ) (b : Bool) (t u : Told) → OwnAlone who t.written → OwnAlone who u.written → OwnAlone who (if b then t else u).written
-  by_test who true t u h k = h
-  by_test who false t u h k = k
-
-  abbrev nothing_told : Private → StoreState → Told
-  nothing_told me s = tells itself serves lends me.part None s
-
-  acting : (me : Private) (s : StoreState) → OwnAlone me.part (told_acting ways itself serves lends me s).written
-  acting me s = at_output me.pending me s
-
-  at_halt : (me : Private) (s : StoreState) → OwnAlone me.part (told_unless_halted ways itself serves lends me s).written
-  at_halt me s =
-      let on = record me { halt = false } in
-      by_test me.part (is_ready me) (told_acting ways itself serves lends on s) (nothing_told me s) (acting on s) (asked_own me.part None s)
+  by_rule r me s = asked_own me.part (asks_by ways r me s) s
 
   pub writes_own_text : (me : Private) (s : StoreState) (q : ℕ) → IsIn (object.Text q) (step_written ways itself serves lends me s) → q ≡ me.part
-  writes_own_text me s =
-      let halted = told_unless_halted ways itself serves lends me s in
-      let goes = told_acting ways itself serves lends me s in
-      let back = Some (gives_back me) in
-      by_test me.part me.reset (tells itself serves lends me.part back s) (if me.halt then halted else goes) (asked_own me.part back s) (by_test me.part me.halt halted goes (at_halt me s) (acting me s))
+  writes_own_text me s = by_rule (due me) (without_halt me) s
