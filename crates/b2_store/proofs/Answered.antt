@@ -18,7 +18,8 @@ use Rattle.b2_catalog.proofs.DataSectors.{InImage, in-image}
 use Rattle.b2_catalog.proofs.FileMade.{allowed-ok}
 use Rattle.b2_record.specs.Writing.{record_of}
 use Rattle.b2_datafile.specs.Files.{emptied_and_opened, new_opened, with_end}
-use Rattle.b2_datafile.specs.Loading.{agree, is_of, values_loaded}
+use Rattle.b2_record.specs.Asking.{agree, is_of}
+use Rattle.b2_datafile.specs.Loading.{values_loaded}
 use Rattle.b2_datafile.specs.Moving.{Ahead, Behind, Moves}
 use Rattle.b2_datafile.specs.Slots.{file_of, open_file, open_refusal, opened, write_refusal}
 use Rattle.b2_datafile.proofs.FromFunctions.{place-goes, some-loaded}
