@@ -12,7 +12,7 @@ use Rattle.b2_access.specs.declared.accesses.Access.{Access}
 use Rattle.b2_access.specs.declared.accesses.Access.TheVariants as access
 use Rattle.b2_access.specs.declared.accesses.Answer.{Answer}
 use Rattle.b2_access.specs.declared.accesses.Answer.TheVariants as answer
-use Rattle.b2_access.specs.AccessRows.{DeclareTask, EditTask, becomes, changes_image, declares, erases, finds, finds_in_image, gives_up, gives_up_if, is_held_by, is_held_by_other, loaded_answer, loads, loads_from, loads_text, moves, moves_from, moves_to, no_file, puts_atoms, row, saves, saves_in, saves_text, says_or_refuses, takes_name, LoadTask, edits, enters, enters_at, gives_back, gives_back_from, holder_at, mark_in, stands_inside, becomes_text, disk_and_name, holds_name, loads_and_gives_back, loads_and_gives_up, loads_lines, loads_nothing, stays_text}
+use Rattle.b2_access.specs.AccessRows.{DeclareTask, EditTask, becomes, changes_image, declares, erases, finds, finds_in_image, gives_up, gives_up_if, is_held_by, is_held_by_other, loaded_answer, loads, loads_from, loads_text, moves, moves_from, moves_to, no_block, no_file, puts_atoms, row, saves, saves_in, saves_text, says_or_refuses, takes_name, LoadTask, edits, enters, enters_at, gives_back, gives_back_from, holder_at, mark_in, stands_inside, becomes_text, disk_and_name, holds_name, loads_and_gives_back, loads_and_gives_up, loads_lines, loads_nothing, stays_text}
 use Rattle.b2_access.specs.Causes.{GivesCode, GivesCodeOf, IsFullFor, LocksForTheFirst, MeetsCode, MeetsNobody, MissesNobodyElse, RefusesWithTheCode, WaitsForTheFirst, LacksMark}
 use Rattle.b2_access.specs.AnswerKinds.{stops}
 use Rattle.b2_access.specs.Borrowers.{homes_marked, without}
@@ -222,6 +222,11 @@ meets_code disks who c (access.DataLoad slot kinds) s = finding_refuses c slot.a
 meets_code disks who c (access.Skip slot way) s = finding_refuses c slot.addr (answer.Moved slot.pos) refl s answer.Moved (λ n. refl) (disks.skip slot way) (content s (object.Platter slot.addr))
 meets_code disks who c (access.SaveProgram addr old name from to) s = save_refuses who c addr (disks.save_program old name from to) s (content s (object.Platter addr))
 meets_code disks who c (access.LoadProgram addr name replace declared homes) s = program_refuses who homes c addr declared (disks.load_program name replace) s (content s (object.Platter addr))
+meets_code disks who c (access.RawSave addr at values) s = change_refuses c addr (answer.Moved at) refl s (λ m. m.image) (λ m. answer.Moved m.told) (λ m. refl) (disks.raw_save at values) (content s (object.Platter addr))
+meets_code disks who c (access.RawEnd addr at) s = change_refuses c addr (answer.Moved at) refl s (λ m. m.image) (λ m. answer.Moved m.told) (λ m. refl) (disks.raw_end at) (content s (object.Platter addr))
+meets_code disks who c (access.RawLoad addr at kinds) s = finding_refuses c addr answer.AtEnd refl s loaded_answer goes_on (disks.raw_load at kinds) (content s (object.Platter addr))
+meets_code disks who c (access.BlockSave addr at bytes) s = change_refuses c addr (answer.Moved at) refl s (λ m. m.image) (λ m. answer.Moved m.told) (λ m. refl) (disks.block_save at bytes) (content s (object.Platter addr))
+meets_code disks who c (access.BlockLoad addr at) s = finding_refuses c addr (answer.Block no_block) refl s answer.Block (λ b. refl) (disks.block_load at) (content s (object.Platter addr))
 meets_code disks who c (access.MovePlatter from to) s = move_refuses c from to disks.move_platter s (content s (object.Platter from))
 meets_code disks who c (access.MoveFile from name to) s = move_refuses c from to (disks.move_file name) s (content s (object.Platter from))
 meets_code disks who c (access.Enter name mark) s = entering_refuses who c name mark s (holder_of s name)

@@ -7,6 +7,7 @@ use Rattle.b2_access.specs.declared.accesses.Answer.{Answer}
 use Rattle.b2_access.specs.declared.accesses.Answer.TheVariants as answer
 use Rattle.b2_access.specs.AnswerKinds.{delays}
 use Rattle.b2_access.specs.Views.{
+  BlockLater,
   ChangeLater,
   ClearLater,
   KeyLater,
@@ -16,8 +17,11 @@ use Rattle.b2_access.specs.Views.{
   OpeningLater,
   PlaceLater,
   ProgramLater,
+  RawLater,
+  SectorsLater,
   DeviceBusy,
   TakingLater,
+  block_came,
   change_came,
   clear_came,
   column_printed,
@@ -31,6 +35,8 @@ use Rattle.b2_access.specs.Views.{
   opening_came,
   place_came,
   program_came,
+  raw_came,
+  sectors_came,
   taking_came,
 }
 
@@ -112,6 +118,26 @@ loading_delayed (access.DataLoad slot kinds) (answer.Values values place) h = cc
 loading_delayed (access.DataLoad slot kinds) answer.AtEnd h = cc
 loading_delayed (access.DataLoad slot kinds) (answer.Refused c) h = cc
 loading_delayed x a h = refl
+
+pub sectors_delayed : (x : Access) (a : Answer) → delays a ≡ true → sectors_came x a ≡ SectorsLater
+sectors_delayed (access.RawSave addr at values) (answer.Moved next) h = cc
+sectors_delayed (access.RawSave addr at values) (answer.Refused c) h = cc
+sectors_delayed (access.RawEnd addr at) (answer.Moved next) h = cc
+sectors_delayed (access.RawEnd addr at) (answer.Refused c) h = cc
+sectors_delayed (access.BlockSave addr at bytes) (answer.Moved next) h = cc
+sectors_delayed (access.BlockSave addr at bytes) (answer.Refused c) h = cc
+sectors_delayed x a h = refl
+
+pub raw_delayed : (x : Access) (a : Answer) → delays a ≡ true → raw_came x a ≡ RawLater
+raw_delayed (access.RawLoad addr at kinds) (answer.Values values next) h = cc
+raw_delayed (access.RawLoad addr at kinds) answer.AtEnd h = cc
+raw_delayed (access.RawLoad addr at kinds) (answer.Refused c) h = cc
+raw_delayed x a h = refl
+
+pub block_delayed : (x : Access) (a : Answer) → delays a ≡ true → block_came x a ≡ BlockLater
+block_delayed (access.BlockLoad addr at) (answer.Block bytes) h = cc
+block_delayed (access.BlockLoad addr at) (answer.Refused c) h = cc
+block_delayed x a h = refl
 
 pub program_delayed : (x : Access) (a : Answer) → delays a ≡ true → program_came x a ≡ ProgramLater
 program_delayed (access.LoadProgram addr name replace declared homes) answer.Done h = cc

@@ -18,6 +18,8 @@ wait_fits (access.DataSave slot values) q = tt
 wait_fits (access.DataEnd slot) q = tt
 wait_fits (access.DataLoad slot kinds) q = tt
 wait_fits (access.Skip slot way) q = tt
+wait_fits (access.RawLoad addr at kinds) q = tt
+wait_fits (access.BlockLoad addr at) q = tt
 wait_fits a q = tt
 
 lock_fits : (a : Access) (q : ℕ) → AnswerFits a (answer.Locked q)
@@ -27,6 +29,8 @@ lock_fits (access.DataSave slot values) q = tt
 lock_fits (access.DataEnd slot) q = tt
 lock_fits (access.DataLoad slot kinds) q = tt
 lock_fits (access.Skip slot way) q = tt
+lock_fits (access.RawLoad addr at kinds) q = tt
+lock_fits (access.BlockLoad addr at) q = tt
 lock_fits a q = tt
 
 code_fits : (a : Access) (c : ℕ) → AnswerFits a (answer.Refused c)
@@ -36,6 +40,8 @@ code_fits (access.DataSave slot values) c = tt
 code_fits (access.DataEnd slot) c = tt
 code_fits (access.DataLoad slot kinds) c = tt
 code_fits (access.Skip slot way) c = tt
+code_fits (access.RawLoad addr at kinds) c = tt
+code_fits (access.BlockLoad addr at) c = tt
 code_fits a c = tt
 
 -- so does what stops an access

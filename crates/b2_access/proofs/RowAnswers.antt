@@ -16,8 +16,8 @@ use Rattle.b2_access.specs.declared.accesses.Access.{Access}
 use Rattle.b2_access.specs.declared.accesses.Access.TheVariants as access
 use Rattle.b2_access.specs.declared.accesses.Answer.{Answer}
 use Rattle.b2_access.specs.declared.accesses.Answer.TheVariants as answer
-use Rattle.b2_access.specs.AccessRows.{becomes, changes_image, clears, clears_both, clears_text, declares, finds, finds_in_image, frees, frees_if, gives_up, gives_up_if, is_held_by, is_held_by_other, key_answer, line_answer, loaded_answer, loads, loads_from, moves, moves_from, no_file, puts_atoms, puts_line, reach, row, saves, saves_in, says_or_refuses, takes, takes_name, EditTask, LoadTask, edits, enters, enters_at, erases, gives_back, gives_back_from, leaves, mark_in, stands_inside, becomes_text, clears_and_gives_back, clears_own, disk_and_name, drops_no_more, holds_name, loads_and_gives_back, loads_and_gives_up, loads_lines, loads_nothing, stays_text}
-use Rattle.b2_access.specs.AnswerKinds.{is_done, is_done_or_code, is_of_key, is_of_line, is_of_loading, is_of_opening, is_of_place, is_of_search, stops, is_of_entering}
+use Rattle.b2_access.specs.AccessRows.{becomes, changes_image, clears, clears_both, clears_text, declares, finds, finds_in_image, frees, frees_if, gives_up, gives_up_if, is_held_by, is_held_by_other, key_answer, line_answer, loaded_answer, loads, loads_from, moves, moves_from, no_block, no_file, puts_atoms, puts_line, reach, row, saves, saves_in, says_or_refuses, takes, takes_name, EditTask, LoadTask, edits, enters, enters_at, erases, gives_back, gives_back_from, leaves, mark_in, stands_inside, becomes_text, clears_and_gives_back, clears_own, disk_and_name, drops_no_more, holds_name, loads_and_gives_back, loads_and_gives_up, loads_lines, loads_nothing, stays_text}
+use Rattle.b2_access.specs.AnswerKinds.{is_done, is_done_or_code, is_of_block, is_of_key, is_of_line, is_of_loading, is_of_opening, is_of_place, is_of_search, stops, is_of_entering}
 use Rattle.b2_access.specs.Answering.{RowsTellTheirAnswers, TellsOnly}
 use Rattle.b2_access.specs.Borrowers.{homes_marked, without}
 use Rattle.b2_access.specs.Disks.{Loaded, Made, DiskWork}
@@ -145,8 +145,8 @@ module _ (tells : Answer → Bool) (addr : List ℕ) (unlisted : Answer) (there 
 of_done : (addr : List ℕ) (made : List ℕ → Result (List ℕ) ℕ) (c : Option (List ℕ)) → TellsOnly is_done_or_code (changes_image addr answer.Done (λ image. image) (λ image. answer.Done) made c)
 of_done addr made c = of_change is_done_or_code addr answer.Done (refl, refl) (λ c. refl) (λ image. image) (λ image. answer.Done) (λ n. (refl, refl)) made c
 
-of_placing : (slot : Slot) (made : List ℕ → Result (Made ℕ) ℕ) (c : Option (List ℕ)) → TellsOnly is_of_place (changes_image slot.addr (answer.Moved slot.pos) (λ m. m.image) (λ m. answer.Moved m.told) made c)
-of_placing slot made c = of_change is_of_place slot.addr (answer.Moved slot.pos) (refl, refl) (λ c. refl) (λ m. m.image) (λ m. answer.Moved m.told) (λ m. (refl, refl)) made c
+of_placing : (addr : List ℕ) (at : ℕ) (made : List ℕ → Result (Made ℕ) ℕ) (c : Option (List ℕ)) → TellsOnly is_of_place (changes_image addr (answer.Moved at) (λ m. m.image) (λ m. answer.Moved m.told) made c)
+of_placing addr at made c = of_change is_of_place addr (answer.Moved at) (refl, refl) (λ c. refl) (λ m. m.image) (λ m. answer.Moved m.told) (λ m. (refl, refl)) made c
 
 of_saving : (who : ℕ) (addr : List ℕ) (made : TextState → List ℕ → Result (List ℕ) ℕ) (c : Option (List ℕ)) → TellsOnly is_done_or_code (saves_in who addr made c)
 of_saving who addr made None = (refl, refl)
@@ -226,12 +226,17 @@ rows_tell_their_answers disks (access.Format addr index end) who holder = of_don
 rows_tell_their_answers disks (access.DataNew addr old sectors name) who holder =
     of_change is_of_opening addr (answer.Opened (no_file addr name)) (refl, refl) (λ c. refl) (λ m. m.image) (λ m. answer.Opened m.told) (λ m. (refl, refl)) (disks.data_new addr old sectors name)
 rows_tell_their_answers disks (access.DataOpen addr name) who holder = of_finding is_of_opening addr (answer.Opened (no_file addr name)) (refl, refl) (λ c. refl) answer.Opened (λ s. (refl, refl)) (disks.data_open addr name)
-rows_tell_their_answers disks (access.DataSave slot values) who holder = of_placing slot (disks.data_save slot values)
-rows_tell_their_answers disks (access.DataEnd slot) who holder = of_placing slot (disks.data_end slot)
+rows_tell_their_answers disks (access.DataSave slot values) who holder = of_placing slot.addr slot.pos (disks.data_save slot values)
+rows_tell_their_answers disks (access.DataEnd slot) who holder = of_placing slot.addr slot.pos (disks.data_end slot)
 rows_tell_their_answers disks (access.DataLoad slot kinds) who holder = of_finding is_of_loading slot.addr answer.AtEnd (refl, refl) (λ c. refl) loaded_answer of_loaded (disks.data_load slot kinds)
 rows_tell_their_answers disks (access.Skip slot way) who holder = of_finding is_of_place slot.addr (answer.Moved slot.pos) (refl, refl) (λ c. refl) answer.Moved (λ n. (refl, refl)) (disks.skip slot way)
 rows_tell_their_answers disks (access.SaveProgram addr old name from to) who holder = of_saving who addr (disks.save_program old name from to)
 rows_tell_their_answers disks (access.LoadProgram addr name replace declared homes) who holder = of_program who homes addr declared (disks.load_program name replace)
+rows_tell_their_answers disks (access.RawSave addr at values) who holder = of_placing addr at (disks.raw_save at values)
+rows_tell_their_answers disks (access.RawEnd addr at) who holder = of_placing addr at (disks.raw_end at)
+rows_tell_their_answers disks (access.RawLoad addr at kinds) who holder = of_finding is_of_loading addr answer.AtEnd (refl, refl) (λ c. refl) loaded_answer of_loaded (disks.raw_load at kinds)
+rows_tell_their_answers disks (access.BlockSave addr at bytes) who holder = of_placing addr at (disks.block_save at bytes)
+rows_tell_their_answers disks (access.BlockLoad addr at) who holder = of_finding is_of_block addr (answer.Block no_block) (refl, refl) (λ c. refl) answer.Block (λ b. (refl, refl)) (disks.block_load at)
 rows_tell_their_answers disks (access.MovePlatter from to) who holder = of_moving from to disks.move_platter
 rows_tell_their_answers disks (access.MoveFile from name to) who holder = of_moving from to (disks.move_file name)
 
@@ -304,5 +309,10 @@ written_is_reached (access.Skip slot way) who holder o i = absurd i
 written_is_reached (access.SaveProgram addr old name from to) who holder o i = inr (inr i)
 written_is_reached (access.LoadProgram addr name replace declared homes) who holder o i =
     inr (elim i [ inl e ↦ inl e | inr j ↦ inr (beside_reached (homes_marked homes) o (object.Hog addr ∷ object.Platter addr ∷ []) (objects_named declared) j) ])
+written_is_reached (access.RawSave addr at values) who holder o i = inr i
+written_is_reached (access.RawEnd addr at) who holder o i = inr i
+written_is_reached (access.RawLoad addr at kinds) who holder o i = absurd i
+written_is_reached (access.BlockSave addr at bytes) who holder o i = inr i
+written_is_reached (access.BlockLoad addr at) who holder o i = absurd i
 written_is_reached (access.MovePlatter from to) who holder o i = inr (inr (inr i))
 written_is_reached (access.MoveFile from name to) who holder o i = inr (inr (inr i))

@@ -118,6 +118,8 @@ writes_kind (access.ListDisk addr) = is_none
 writes_kind (access.DataOpen addr name) = is_none
 writes_kind (access.DataLoad slot kinds) = is_none
 writes_kind (access.Skip slot way) = is_none
+writes_kind (access.RawLoad addr at kinds) = is_none
+writes_kind (access.BlockLoad addr at) = is_none
 writes_kind a = is_image
 
 -- ---- an object among some is of their kind
@@ -173,6 +175,8 @@ writes_of_kind who holder o (access.ListDisk addr) i = absurd i
 writes_of_kind who holder o (access.DataOpen addr name) i = absurd i
 writes_of_kind who holder o (access.DataLoad slot kinds) i = absurd i
 writes_of_kind who holder o (access.Skip slot way) i = absurd i
+writes_of_kind who holder o (access.RawLoad addr at kinds) i = absurd i
+writes_of_kind who holder o (access.BlockLoad addr at) i = absurd i
 writes_of_kind who holder o a i = in_one (writes_kind a) o _ refl i
 
 -- and an object of another kind is written by none

@@ -1,7 +1,7 @@
 -- THE ROWS OF THE ACCESSES: what each reaches, what it writes of that, which answers it tells where nothing stops it, and what it does.
 -- What isn't listed stays as it is: an empty terminal has no keys, and a disk has no limits and no listing; a file there has no sectors,
 -- and a place in it stays.
-use Rattle.std.specs.Prelude.{ℕ, pos, nat_lt, ◌==◌, Bool, true, false, not, Result, Ok, Err, List, [], ◌∷◌, ◌++◌, map, drop, slice_get, Option, Some, None, refl, if◌then◌else◌}
+use Rattle.std.specs.Prelude.{ℕ, pos, nat_lt, ◌==◌, Bool, true, false, not, Result, Ok, Err, List, [], ◌∷◌, ◌++◌, map, drop, replicate, slice_get, Option, Some, None, refl, if◌then◌else◌}
 use Rattle.std.specs.FinMap as finite
 use Rattle.std.proofs.Common.{inl, inr}
 use Rattle.b2_base.specs.declared.codes.TheConstants.{A01_TEXT_AREA, P38_NO_DEFFN, X78_NAME_HELD}
@@ -21,7 +21,7 @@ use Rattle.b2_access.specs.declared.accesses.Access.{Access}
 use Rattle.b2_access.specs.declared.accesses.Access.TheVariants as access
 use Rattle.b2_access.specs.declared.accesses.Answer.{Answer}
 use Rattle.b2_access.specs.declared.accesses.Answer.TheVariants as answer
-use Rattle.b2_access.specs.AnswerKinds.{is_done, is_done_or_code, is_of_entering, is_of_key, is_of_limits, is_of_line, is_of_listing, is_of_loading, is_of_opening, is_of_place, is_of_search}
+use Rattle.b2_access.specs.AnswerKinds.{is_done, is_done_or_code, is_of_block, is_of_entering, is_of_key, is_of_limits, is_of_line, is_of_listing, is_of_loading, is_of_opening, is_of_place, is_of_search}
 use Rattle.b2_access.specs.Borrowers.{homes_marked, without, without_last}
 use Rattle.b2_access.specs.Disks.{DiskWork, FourNumbers, Loaded, Made}
 use Rattle.b2_access.specs.Reach.{Reach, at_disk, at_disks, at_names, at_printer, at_terminal, borrow_entered, borrow_where, borrows, by_name, disk, if_any, left_texts, objects_held, objects_named, objects_reached, objects_written, own_text, to_free, to_take}
@@ -227,9 +227,13 @@ telling_row addr tells unlisted image_of says made =
 abbrev pub changing_row : List ℕ → (DiskWork → List ℕ → Result (List ℕ) ℕ) → AccessRow
 changing_row addr made = telling_row addr is_done_or_code answer.Done (λ image. image) (λ image. answer.Done) made
 
--- at the place in an open file
-abbrev pub placing_row : Slot → (DiskWork → List ℕ → Result (Made ℕ) ℕ) → AccessRow
-placing_row slot made = telling_row slot.addr is_of_place (answer.Moved slot.pos) (λ m. m.image) (λ m. answer.Moved m.told) made
+-- at a sector of a disk, which is the place in an open file or is named
+abbrev pub placing_row : List ℕ → ℕ → (DiskWork → List ℕ → Result (Made ℕ) ℕ) → AccessRow
+placing_row addr at made = telling_row addr is_of_place (answer.Moved at) (λ m. m.image) (λ m. answer.Moved m.told) made
+
+-- the bytes of a sector of a disk that isn't there
+unfoldable pub no_block : List ℕ
+no_block = replicate 256 0
 
 -- of a disk and the own text: the disk is looked at first
 abbrev pub SaveTask : ℕ → List ℕ → Type 0
@@ -427,8 +431,8 @@ row (access.Scratch addr name) = changing_row addr (λ disks image. disks.scratc
 row (access.Format addr index end) = changing_row addr (λ disks image. disks.format index end image)
 row (access.DataNew addr old sectors name) = telling_row addr is_of_opening (answer.Opened (no_file addr name)) (λ m. m.image) (λ m. answer.Opened m.told) (λ disks image. disks.data_new addr old sectors name image)
 row (access.DataOpen addr name) = finding_row addr is_of_opening (answer.Opened (no_file addr name)) answer.Opened (λ disks image. disks.data_open addr name image)
-row (access.DataSave slot values) = placing_row slot (λ disks image. disks.data_save slot values image)
-row (access.DataEnd slot) = placing_row slot (λ disks image. disks.data_end slot image)
+row (access.DataSave slot values) = placing_row slot.addr slot.pos (λ disks image. disks.data_save slot values image)
+row (access.DataEnd slot) = placing_row slot.addr slot.pos (λ disks image. disks.data_end slot image)
 row (access.DataLoad slot kinds) = finding_row slot.addr is_of_loading answer.AtEnd loaded_answer (λ disks image. disks.data_load slot kinds image)
 row (access.Skip slot way) = finding_row slot.addr is_of_place (answer.Moved slot.pos) answer.Moved (λ disks image. disks.skip slot way image)
 row (access.SaveProgram addr old name from to) =
@@ -446,6 +450,11 @@ row (access.LoadProgram addr name replace declared homes) =
       does = λ disks who holder.
           Look (object.Platter addr) (inr (inr (in_right (object.Platter addr) (borrows (homes_marked homes)) (disk_and_name addr declared) (inr (inl refl))))) (loads_from who homes addr declared (disks.load_program name replace));
     }
+row (access.RawSave addr at values) = placing_row addr at (λ disks image. disks.raw_save at values image)
+row (access.RawEnd addr at) = placing_row addr at (λ disks image. disks.raw_end at image)
+row (access.RawLoad addr at kinds) = finding_row addr is_of_loading answer.AtEnd loaded_answer (λ disks image. disks.raw_load at kinds image)
+row (access.BlockSave addr at bytes) = placing_row addr at (λ disks image. disks.block_save at bytes image)
+row (access.BlockLoad addr at) = finding_row addr is_of_block (answer.Block no_block) answer.Block (λ disks image. disks.block_load at image)
 row (access.MovePlatter from to) = moving_row from to (λ disks. disks.move_platter)
 row (access.MoveFile from name to) = moving_row from to (λ disks. disks.move_file name)
 

@@ -82,6 +82,12 @@ is_of_loading answer.AtEnd = true
 is_of_loading (answer.Refused c) = true
 is_of_loading x = false
 
+-- the bytes of a sector, or a code
+abbrev pub is_of_block : Answer → Bool
+is_of_block (answer.Block bytes) = true
+is_of_block (answer.Refused c) = true
+is_of_block x = false
+
 -- what the search for a name comes to
 abbrev pub is_of_search : Answer → Bool
 is_of_search (answer.Holder p) = true

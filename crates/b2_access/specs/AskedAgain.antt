@@ -37,6 +37,11 @@ IsAskedAgain (access.DataLoad slot kinds) x = view.loading_came (access.DataLoad
 IsAskedAgain (access.Skip slot way) x = view.place_came (access.Skip slot way) x ≡ view.PlaceLater
 IsAskedAgain (access.SaveProgram addr old name from to) x = view.change_came (access.SaveProgram addr old name from to) x ≡ view.ChangeLater
 IsAskedAgain (access.LoadProgram addr name replace declared homes) x = view.program_came (access.LoadProgram addr name replace declared homes) x ≡ view.ProgramLater
+IsAskedAgain (access.RawSave addr at values) x = view.sectors_came (access.RawSave addr at values) x ≡ view.SectorsLater
+IsAskedAgain (access.RawEnd addr at) x = view.sectors_came (access.RawEnd addr at) x ≡ view.SectorsLater
+IsAskedAgain (access.RawLoad addr at kinds) x = view.raw_came (access.RawLoad addr at kinds) x ≡ view.RawLater
+IsAskedAgain (access.BlockSave addr at bytes) x = view.sectors_came (access.BlockSave addr at bytes) x ≡ view.SectorsLater
+IsAskedAgain (access.BlockLoad addr at) x = view.block_came (access.BlockLoad addr at) x ≡ view.BlockLater
 IsAskedAgain (access.MovePlatter from to) x = view.change_came (access.MovePlatter from to) x ≡ view.ChangeLater
 IsAskedAgain (access.MoveFile from name to) x = view.change_came (access.MoveFile from name to) x ≡ view.ChangeLater
 

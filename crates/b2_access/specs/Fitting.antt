@@ -1,6 +1,7 @@
 -- What an answer says fits what was asked. A file that was opened is on the disk that was asked for, and its place, as every place
 -- after an access at one, isn't before the file's first sector. Values that were loaded are as many as were asked, of the asked kinds.
-use Rattle.std.specs.Prelude.{◌≡◌, ◌≤◌, ℕ, List, [], ◌∷◌, Some}
+-- The bytes of a sector are 256.
+use Rattle.std.specs.Prelude.{◌≡◌, ◌≤◌, ℕ, List, [], ◌∷◌, length, Some}
 use Rattle.b2_base.specs.declared.files.Slot.{Slot}
 use Rattle.b2_dec.specs.declared.values.Kind.{Kind}
 use Rattle.b2_dec.specs.declared.values.Kind.TheVariants as kind
@@ -37,6 +38,8 @@ AnswerFits (access.DataSave slot values) (answer.Moved place) = slot.start ≤ p
 AnswerFits (access.DataEnd slot) (answer.Moved place) = slot.start ≤ place
 AnswerFits (access.DataLoad slot kinds) (answer.Values values place) = AreOfKinds kinds values × (slot.start ≤ place)
 AnswerFits (access.Skip slot way) (answer.Moved place) = slot.start ≤ place
+AnswerFits (access.RawLoad addr at kinds) (answer.Values values next) = AreOfKinds kinds values
+AnswerFits (access.BlockLoad addr at) (answer.Block bytes) = length bytes ≡ 256
 AnswerFits a x = Unit {0}
 
 -- each platter that a store lists is one that its disks may have

@@ -48,7 +48,7 @@ HeldIsOutOfReach = (disks : DiskWork) (who p : ℕ) (d : List ℕ) (a : Access) 
     → ((serves disks s who a).answer ≡ (serves disks t who a).answer) × AgreeBut d (serves disks s who a).after (serves disks t who a).after
 
 -- The image that an access may change: that of the disk on which it scratches a file, which it formats, on which it makes a data file,
--- saves a record or a program or writes an end mark, or to which it moves files. It leaves every other one, and other accesses leave every image as it is.
+-- saves a record or a program or writes an end mark or a sector, or to which it moves files. It leaves every other one, and other accesses leave every image as it is.
 abbrev pub image_changed : Access → Option (List ℕ)
 image_changed (access.Scratch addr name) = Some addr
 image_changed (access.Format addr index end) = Some addr
@@ -56,6 +56,9 @@ image_changed (access.DataNew addr old sectors name) = Some addr
 image_changed (access.DataSave slot values) = Some slot.addr
 image_changed (access.DataEnd slot) = Some slot.addr
 image_changed (access.SaveProgram addr old name from to) = Some addr
+image_changed (access.RawSave addr at values) = Some addr
+image_changed (access.RawEnd addr at) = Some addr
+image_changed (access.BlockSave addr at bytes) = Some addr
 image_changed (access.MovePlatter from to) = Some to
 image_changed (access.MoveFile from name to) = Some to
 image_changed a = None

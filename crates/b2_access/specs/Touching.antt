@@ -38,7 +38,7 @@ abbrev pub IsName : List ℕ → Type 0
 IsName name = (is_name8 name ≡ true) × (length name ≡ 8)
 
 -- Lines have numbers up to 9999; a new file has at least two sectors, and one that is made has a name; a place in a file is none before
--- its first sector; what is saved a record may have; and files are moved to another disk.
+-- its first sector; what is saved a record may have; a sector gets at most 256 bytes; and files are moved to another disk.
 abbrev pub IsLegal : Access → Type 0
 IsLegal (access.PutLine line atoms homes) = line ≤ 9999
 IsLegal (access.DataNew addr None sectors name) = (2 ≤ sectors) × IsName name
@@ -48,12 +48,14 @@ IsLegal (access.DataEnd slot) = slot.start ≤ slot.pos
 IsLegal (access.DataLoad slot kinds) = slot.start ≤ slot.pos
 IsLegal (access.Skip slot way) = slot.start ≤ slot.pos
 IsLegal (access.SaveProgram addr old name from to) = IsName name
+IsLegal (access.RawSave addr at values) = list_all is_short values ≡ true
+IsLegal (access.BlockSave addr at bytes) = length bytes ≤ 256
 IsLegal (access.MovePlatter from to) = from ≢ to
 IsLegal (access.MoveFile from name to) = from ≢ to
 IsLegal a = Unit {0}
 
 -- Which accesses may want memory: those that put bytes, a line, a name, or one more who stands inside a text, where there may be no room
--- kept for them; one that lays out bytes; and those that read records or programs or lay them out. A key is taken, lines are taken out,
+-- kept for them; one that lays out bytes; and those that read records, sectors or programs, or lay out programs. A key is taken, lines are taken out,
 -- names are given up, texts are left and given back, devices are taken and freed, and disks are looked at and changed else without any.
 abbrev pub MayWantMemory : Access → Type 0
 MayWantMemory (access.Show term bytes column) = Unit {0}
@@ -68,5 +70,7 @@ MayWantMemory (access.DataLoad slot kinds) = Unit {0}
 MayWantMemory (access.Skip slot way) = Unit {0}
 MayWantMemory (access.SaveProgram addr old name from to) = Unit {0}
 MayWantMemory (access.LoadProgram addr name replace declared homes) = Unit {0}
+MayWantMemory (access.RawLoad addr at kinds) = Unit {0}
+MayWantMemory (access.BlockLoad addr at) = Unit {0}
 MayWantMemory (access.MovePlatter from to) = Unit {0}
 MayWantMemory a = ⊥

@@ -1,6 +1,6 @@
 -- What came of an access, as those see it who asked for it: each view tells the answers that one kind of statement looks at, and no
 -- others. So an access or an answer that comes later touches no statement that has nothing to do with it.
-use Rattle.std.specs.Prelude.{ℕ, Bool, true, false, List, Option, Some, None}
+use Rattle.std.specs.Prelude.{ℕ, ◌+◌, Bool, true, false, List, Option, Some, None}
 use Rattle.b2_base.specs.declared.files.Slot.{Slot}
 use Rattle.b2_dec.specs.declared.values.Value.{Value}
 use Rattle.b2_access.specs.declared.accesses.Access.{Access}
@@ -152,6 +152,47 @@ loading_came (access.DataLoad slot kinds) (answer.Values values place) = ValuesL
 loading_came (access.DataLoad slot kinds) answer.AtEnd = RecordsEnded
 loading_came (access.DataLoad slot kinds) (answer.Refused c) = LoadingRefused c
 loading_came x a = LoadingLater
+
+-- what came of writing sectors by their number: they are written, up to the next one, or it was refused with a code; or it is asked for
+-- again
+pub data SectorsCame : Type 0 where
+  SectorsWritten : ℕ → SectorsCame
+  SectorsRefused : ℕ → SectorsCame
+  SectorsLater : SectorsCame
+
+abbrev pub sectors_came : Access → Answer → SectorsCame
+sectors_came (access.RawSave addr at values) (answer.Moved next) = SectorsWritten next
+sectors_came (access.RawSave addr at values) (answer.Refused c) = SectorsRefused c
+sectors_came (access.RawEnd addr at) (answer.Moved next) = SectorsWritten next
+sectors_came (access.RawEnd addr at) (answer.Refused c) = SectorsRefused c
+sectors_came (access.BlockSave addr at bytes) (answer.Moved next) = SectorsWritten next
+sectors_came (access.BlockSave addr at bytes) (answer.Refused c) = SectorsRefused c
+sectors_came x a = SectorsLater
+
+-- what came of loading a record from sectors by their number: values, and the sector after it, or an end mark is there, or a code; or it is
+-- asked for again
+pub data RawCame : Type 0 where
+  RawLoaded : List Value → ℕ → RawCame
+  RawEnded : RawCame
+  RawRefused : ℕ → RawCame
+  RawLater : RawCame
+
+abbrev pub raw_came : Access → Answer → RawCame
+raw_came (access.RawLoad addr at kinds) (answer.Values values next) = RawLoaded values next
+raw_came (access.RawLoad addr at kinds) answer.AtEnd = RawEnded
+raw_came (access.RawLoad addr at kinds) (answer.Refused c) = RawRefused c
+raw_came x a = RawLater
+
+-- what came of reading a sector by its number: its bytes, and the next sector, or a code; or it is asked for again
+pub data BlockCame : Type 0 where
+  BlockRead : List ℕ → ℕ → BlockCame
+  BlockRefused : ℕ → BlockCame
+  BlockLater : BlockCame
+
+abbrev pub block_came : Access → Answer → BlockCame
+block_came (access.BlockLoad addr at) (answer.Block bytes) = BlockRead bytes (at + 1)
+block_came (access.BlockLoad addr at) (answer.Refused c) = BlockRefused c
+block_came x a = BlockLater
 
 -- what came of loading a program: its lines are in the text, or another stands inside that, or a code; or it is asked for again
 pub data ProgramCame : Type 0 where

@@ -158,6 +158,34 @@ pub enum Access {
         declared: Option<Name8>,
         homes: u16,
     },
+    /// A record of these values is written to the sectors of a platter from one on, after its catalogue.
+    RawSave {
+        addr: Addr,
+        at: u32,
+        values: ValueList,
+    },
+    /// The end mark is written to a sector of a platter after its catalogue.
+    RawEnd {
+        addr: Addr,
+        at: u32,
+    },
+    /// Values of these kinds are loaded from the record in the sectors of a platter from one on.
+    RawLoad {
+        addr: Addr,
+        at: u32,
+        kinds: KindList,
+    },
+    /// Bytes are written to a sector of a platter after its catalogue, and 00 to its end.
+    BlockSave {
+        addr: Addr,
+        at: u32,
+        bytes: ByteList,
+    },
+    /// The bytes of a sector of a platter are read.
+    BlockLoad {
+        addr: Addr,
+        at: u32,
+    },
     /// All live files of a platter are moved to another.
     MovePlatter {
         from: Addr,
@@ -189,13 +217,15 @@ pub enum Answer {
     Four(i64, i64, i64, i64),
     /// Bytes that were laid out.
     Bytes(ByteList),
+    /// The bytes of a sector.
+    Block(ByteList),
     /// A data file is open.
     Opened(Slot),
-    /// The place in an open file is now this one.
+    /// The place in an open file is now this one, or this is the sector after those that were written.
     Moved(u32),
-    /// Values were loaded, and the place in the file is now this one.
+    /// Values were loaded, and the place in the file is now this one, or this is the sector after their record.
     Values(ValueList, u32),
-    /// The records of the file end at its place.
+    /// The records of the file end at its place, or an end mark is in the sector.
     AtEnd,
     /// This partition holds the name.
     Holder(Part),

@@ -141,6 +141,11 @@ pub fn reached_by(access: &Access) -> Reached
         | Access::DataEnd { .. }
         | Access::DataLoad { .. }
         | Access::Skip { .. }
+        | Access::RawSave { .. }
+        | Access::RawEnd { .. }
+        | Access::RawLoad { .. }
+        | Access::BlockSave { .. }
+        | Access::BlockLoad { .. }
         | Access::MovePlatter { .. }
         | Access::MoveFile { .. } => reaches_nothing(),
     }
@@ -190,6 +195,11 @@ pub fn devices_reached(access: &Access) -> Devices<'_>
         | Access::Format { addr, .. }
         | Access::DataNew { addr, .. }
         | Access::DataOpen { addr, .. }
+        | Access::RawSave { addr, .. }
+        | Access::RawEnd { addr, .. }
+        | Access::RawLoad { addr, .. }
+        | Access::BlockSave { addr, .. }
+        | Access::BlockLoad { addr, .. }
         | Access::SaveProgram { addr, .. }
         | Access::LoadProgram { addr, .. } => Devices::Disk(*addr),
         Access::DataSave { slot, .. }
@@ -321,6 +331,11 @@ pub fn written_by(access: &Access) -> Written
         | Access::DataEnd { .. }
         | Access::DataLoad { .. }
         | Access::Skip { .. }
+        | Access::RawSave { .. }
+        | Access::RawEnd { .. }
+        | Access::RawLoad { .. }
+        | Access::BlockSave { .. }
+        | Access::BlockLoad { .. }
         | Access::SaveProgram { .. }
         | Access::MovePlatter { .. }
         | Access::MoveFile { .. } => writes_nothing(),
@@ -364,6 +379,8 @@ pub fn devices_written(access: &Access) -> DevicesWritten<'_>
         | Access::DataOpen { .. }
         | Access::DataLoad { .. }
         | Access::Skip { .. }
+        | Access::RawLoad { .. }
+        | Access::BlockLoad { .. }
         | Access::LoadProgram { .. } => DevicesWritten::NoDevice,
         Access::PrintTo { addr, .. } => DevicesWritten::Printer(*addr),
         Access::OpenDevices { addrs } | Access::CloseDevices { addrs } => {
@@ -372,6 +389,9 @@ pub fn devices_written(access: &Access) -> DevicesWritten<'_>
         Access::Scratch { addr, .. }
         | Access::Format { addr, .. }
         | Access::DataNew { addr, .. }
+        | Access::RawSave { addr, .. }
+        | Access::RawEnd { addr, .. }
+        | Access::BlockSave { addr, .. }
         | Access::SaveProgram { addr, .. } => DevicesWritten::Platter(*addr),
         Access::MovePlatter { to, .. } | Access::MoveFile { to, .. } => {
             DevicesWritten::Platter(*to)

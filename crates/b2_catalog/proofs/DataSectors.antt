@@ -23,7 +23,7 @@ use Rattle.b2_catalog.specs.Catalogue.{Catalogue, entry_at, named_entry, catalog
 use Rattle.b2_catalog.proofs.Looking.{FileSlot-from, Holds-from}
 use Rattle.b2_catalog.proofs.Scratching.{stands, entry_end, entry_start}
 
-filter_map-same : {B : Type 0} (f g : ℕ → Option B) (a n : ℕ) → ((k : ℕ) → a ≤ k → k < a + n → f k ≡ g k) → filter_map f (range_with_len a n) ≡ filter_map g (range_with_len a n)
+pub filter_map-same : {B : Type 0} (f g : ℕ → Option B) (a n : ℕ) → ((k : ℕ) → a ≤ k → k < a + n → f k ≡ g k) → filter_map f (range_with_len a n) ≡ filter_map g (range_with_len a n)
 filter_map-same f g a zero h = refl
 filter_map-same f g a (suc n) h =
     rw (h a (omega arith) (omega arith), filter_map-same f g (a + 1) n (λ k low high. h k (omega (arith, low)) (omega (arith, high)))) refl

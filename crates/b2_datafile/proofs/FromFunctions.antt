@@ -14,9 +14,11 @@ use Rattle.b2_dec.specs.declared.values.Value.{Value}
 use Rattle.b2_platter.specs.Image.{sector}
 use Rattle.b2_record.specs.Reading.{record_at}
 use Rattle.b2_record.proofs.ReadBack.{at-read, read-none}
-use Rattle.b2_datafile.specs.Files.{IsEndOfRecords, end_mark, ends_records}
+use Rattle.b2_datafile.specs.Files.{IsEndOfRecords, ends_records}
+use Rattle.b2_record.specs.EndSector.{end_mark}
+use Rattle.b2_record.specs.Asking.{agree, first_asked}
 use Rattle.b2_datafile.specs.Slots.{file_of}
-use Rattle.b2_datafile.specs.Loading.{IsRecordAt, LoadFails, Loads, LoadsRecord, RecordFails, agree, first_asked, loaded_from, values_loaded}
+use Rattle.b2_datafile.specs.Loading.{IsRecordAt, LoadFails, Loads, LoadsRecord, RecordFails, loaded_from, values_loaded}
 use Rattle.b2_datafile.specs.Moving.{Ahead, Behind, IsNoRecordBefore, IsRecordBefore, Moves, NoMove, NoneAhead, NoneBehind, SkipFails, moved_in, over, place_ahead, place_behind, place_moved, record_before}
 use Rattle.b2_datafile.proofs.Functions.{before-value, ends-yes, found-before}
 

@@ -16,10 +16,13 @@ use Rattle.b2_platter.specs.Image.{sector, sectors_at}
 use Rattle.b2_platter.specs.Reading.{Unspelled}
 use Rattle.b2_record.specs.Records.{IsNoRecord, Spells}
 use Rattle.b2_record.specs.Reading.{record_at}
+use Rattle.b2_record.proofs.Fitting.{all-fit, other-kind, too-few}
 use Rattle.b2_record.proofs.ReadBack.{at-read, none-read, read-at}
-use Rattle.b2_datafile.specs.Files.{IsEndOfRecords, end_mark, ends_records}
+use Rattle.b2_datafile.specs.Files.{IsEndOfRecords, ends_records}
+use Rattle.b2_record.specs.EndSector.{end_mark}
+use Rattle.b2_record.specs.Asking.{agree, first_asked}
 use Rattle.b2_datafile.specs.Slots.{file_of}
-use Rattle.b2_datafile.specs.Loading.{IsRecordAt, LoadFails, LoadsRecord, RecordFails, agree, first_asked, loaded_from, values_loaded}
+use Rattle.b2_datafile.specs.Loading.{IsRecordAt, LoadFails, LoadsRecord, RecordFails, loaded_from, values_loaded}
 use Rattle.b2_datafile.specs.Moving.{Ahead, Behind, IsNoRecordBefore, IsRecordBefore, NoneAhead, NoneBehind, ending_before, moved_in, of_length, over, place_ahead, place_behind, place_moved, record_before}
 use Rattle.b2_datafile.proofs.SkippedRecords.{before-number, before-some}
 
@@ -50,15 +53,6 @@ before-end : (image : List ℕ) (e : Entry) (pos : ℕ) (kinds : List Kind) (fil
 before-end image e pos kinds file is on =
     ap (loaded_from image pos kinds) is
     ∙ ap (λ (b : Bool). if b then Ok None else first_asked kinds pos (record_at image pos (e.end - 1))) (ends-no image e pos on)
-
-all-fit : (kinds : List Kind) (pos n : ℕ) (values : List Value) → agree kinds values ≡ true → length kinds ≤ length values → first_asked kinds pos (Some (values, n)) ≡ Ok (Some (take (length kinds) values, pos + n))
-all-fit kinds pos n values fit enough = rw (fit, le-ltb (length values) (length kinds) enough) refl
-
-other-kind : (kinds : List Kind) (pos n : ℕ) (values : List Value) → agree kinds values ≡ false → first_asked kinds pos (Some (values, n)) ≡ Err X74_OTHER_KIND
-other-kind kinds pos n values other = rw other refl
-
-too-few : (kinds : List Kind) (pos n : ℕ) (values : List Value) → agree kinds values ≡ true → length values < length kinds → first_asked kinds pos (Some (values, n)) ≡ Err X70_TOO_LITTLE
-too-few kinds pos n values fit few = rw (fit, lt-ltb (length values) (length kinds) few) refl
 
 record-value : (image : List ℕ) (e : Entry) (pos : ℕ) (kinds : List Kind) (asked : List Value) (next : ℕ) → LoadsRecord image e pos kinds asked next
     → first_asked kinds pos (record_at image pos (e.end - 1)) ≡ Ok (Some (asked, next))

@@ -14,7 +14,7 @@ use Rattle.b2_platter.proofs.Layouts.{own_good}
 use Rattle.b2_platter.proofs.OwnSectors.{layout-kept, own-good}
 use Rattle.b2_catalog.proofs.DataSectors.{InImage, catalogue-from, catalogue-kept, get-put, in-image}
 use Rattle.b2_catalog.proofs.Using.{used-good, used-files}
-use Rattle.b2_datafile.specs.Files.{end_mark}
+use Rattle.b2_record.specs.EndSector.{end_mark}
 use Rattle.b2_platter.specs.Checks.{IsGood}
 use Rattle.b2_platter.specs.Image.{sector, sectors_at}
 use Rattle.b2_platter.proofs.Goodness.{sectors_of_good}
@@ -24,7 +24,8 @@ use Rattle.b2_catalog.specs.Changes.{control_sector}
 use Rattle.std.specs.FinMap.{get, insert}
 use Rattle.b2_catalog.proofs.Spelled.{control_long}
 use Rattle.b2_platter.proofs.SectorRuns.{PutFrom, put-from}
-use Rattle.b2_datafile.proofs.Fronts.{long-record, fills-same, fills-more, fills-le}
+use Rattle.b2_record.proofs.Whole.{long-record}
+use Rattle.b2_datafile.proofs.Fronts.{fills-same, fills-more, fills-le}
 use Rattle.b2_datafile.proofs.SkippedRecords.{some-groups}
 use Rattle.b2_record.proofs.Unique.{record-length, length-unique, values-unique}
 use Rattle.std.proofs.lemmas.Bool.{cases_order}

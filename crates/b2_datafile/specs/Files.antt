@@ -1,5 +1,5 @@
 -- A data file: records one after the other, and an end mark.
-use Rattle.std.specs.Prelude.{◌≡◌, ℕ, ◌+◌, ◌-◌, ◌≤◌, ◌⊎◌, Bool, false, ◌||◌, nat_le, List, [], ◌∷◌, replicate, Option, Result, Ok, Err}
+use Rattle.std.specs.Prelude.{◌≡◌, ℕ, ◌+◌, ◌-◌, ◌≤◌, ◌⊎◌, Bool, false, ◌||◌, nat_le, List, [], ◌∷◌, Option, Result, Ok, Err}
 use Rattle.std.specs.Str.{bytes_eq}
 use Rattle.b2_dec.specs.declared.values.Value.{Value}
 use Rattle.b2_platter.specs.Layout.{layout_of}
@@ -9,13 +9,9 @@ use Rattle.b2_base.specs.declared.files.Slot.{Slot}
 use Rattle.b2_catalog.specs.declared.entry.Entry.{Entry}
 use Rattle.b2_catalog.specs.Changes.{control_sector}
 use Rattle.b2_catalog.specs.Making.{MakesFile, file_made}
+use Rattle.b2_record.specs.EndSector.{end_mark}
 use Rattle.b2_record.specs.Records.{Spells}
 use Rattle.b2_datafile.specs.Slots.{opened}
-use Rattle.b2_datafile.specs.declared.end_sector.TheConstants.{END_MARK}
-
--- the sector that ends a file's records
-abbrev pub end_mark : List ℕ
-end_mark = END_MARK ∷ replicate 255 0
 
 -- records fill the sectors from one on, up to another
 abbrev pub Fills : List ℕ → ℕ → ℕ → List (List Value) → Type 0

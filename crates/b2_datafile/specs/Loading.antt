@@ -1,5 +1,5 @@
 -- What is loaded from a place of a file, and why nothing is.
-use Rattle.std.specs.Prelude.{◌≡◌, ℕ, ◌+◌, ◌-◌, ◌<◌, ◌≤◌, ◌⊎◌, Bool, true, false, not, ◌&&◌, nat_lt, List, [], ◌∷◌, length, take, Option, Some, None, option_map, Result, Ok, Err, if◌then◌else◌}
+use Rattle.std.specs.Prelude.{◌≡◌, ℕ, ◌+◌, ◌-◌, ◌<◌, ◌≤◌, ◌⊎◌, true, false, List, length, take, Option, Some, None, Result, Ok, Err, if◌then◌else◌}
 use Rattle.std.specs.Global.{Vec as GlobalVec}
 use Rattle.b2_base.specs.declared.codes.Fault.{Fault}
 use Rattle.b2_base.specs.declared.codes.Fault.TheVariants as fault
@@ -7,26 +7,13 @@ use Rattle.b2_base.specs.declared.codes.TheConstants.{D80_NOT_OPEN, D88_FORMAT, 
 use Rattle.b2_base.specs.declared.files.Slot.{Slot}
 use Rattle.b2_catalog.specs.declared.entry.Entry.{Entry}
 use Rattle.b2_dec.specs.declared.values.Value.{Value}
-use Rattle.b2_dec.specs.declared.values.Value.TheVariants as value
 use Rattle.b2_dec.specs.declared.values.Kind.{Kind}
-use Rattle.b2_dec.specs.declared.values.Kind.TheVariants as kind
 use Rattle.b2_platter.specs.Image.{sectors_at}
+use Rattle.b2_record.specs.Asking.{agree, first_asked}
 use Rattle.b2_record.specs.Records.{Spells, IsNoRecord}
 use Rattle.b2_record.specs.Reading.{record_at}
 use Rattle.b2_datafile.specs.Files.{IsEndOfRecords, ends_records}
 use Rattle.b2_datafile.specs.Slots.{file_of}
-
-abbrev pub is_of : Kind → Value → Bool
-is_of kind.Number (value.Number x) = true
-is_of kind.Number (value.Alpha bytes) = false
-is_of kind.Alpha (value.Number x) = false
-is_of kind.Alpha (value.Alpha bytes) = true
-
--- values are of the kinds that are asked, as far as there are both
-abbrev pub agree : List Kind → List Value → Bool
-agree [] values = true
-agree (k ∷ kinds) [] = true
-agree (k ∷ kinds) (v ∷ values) = is_of k v && agree kinds values
 
 -- a record stands at a place of a file, before its control sector
 pub record IsRecordAt (image : List ℕ) (e : Entry) (pos : ℕ) (values : List Value) (n : ℕ) : Type 0 where
@@ -61,17 +48,6 @@ LoadFails image slot kinds (fault.Code code) =
     ((code ≡ D80_NOT_OPEN) × (file_of image slot ≡ None))
     ⊎ ((e : Entry) × (file_of image slot ≡ Some e) × ¬ IsEndOfRecords image e slot.pos × RecordFails image e slot.pos kinds code)
 LoadFails image slot kinds fault.NoMemory = Unit {0}
-
--- the values that are loaded and the place after their record, as one value
-abbrev pub as_values : Option (GlobalVec Value × ℕ) → Option (List Value × ℕ)
-as_values given = option_map (λ found. (found.0.items, found.1)) given
-
--- what is loaded of the record that was read at a place
-abbrev pub first_asked : List Kind → ℕ → Option (List Value × ℕ) → Result (Option (List Value × ℕ)) ℕ
-first_asked kinds pos None = Err D88_FORMAT
-first_asked kinds pos (Some found) =
-    if not (agree kinds found.0) then Err X74_OTHER_KIND
-    else (if nat_lt (length found.0) (length kinds) then Err X70_TOO_LITTLE else Ok (Some (take (length kinds) found.0, pos + found.1)))
 
 -- what is loaded at a place of a file
 abbrev pub loaded_from : List ℕ → ℕ → List Kind → Option Entry → Result (Option (List Value × ℕ)) ℕ

@@ -6,12 +6,11 @@
 //! the catalogue has no live data file of the slot's name and start, the answer is D80. A refusal changes nothing.
 //!
 //! Stands on `b2_base` for slots and codes, `b2_dec` for values, `b2_platter` and `b2_catalog` for the disk and its files,
-//! and `b2_record` for records. The definitions are in `specs/`: `Files` for the records of a file, `Slots` for what a slot
+//! and `b2_record` for records and the end mark. The definitions are in `specs/`: `Files` for the records of a file, `Slots` for what a slot
 //! opens and what is refused, `Loading` and `Moving` for what is read, and `Laws` for where the laws of saving hold. What a
 //! call gives is a function of the image, and a relation besides; `laws` says that the functions say what the relations do.
 #![tactic(auto)]
 
-pub mod end_sector;
 pub mod laws;
 mod loading;
 mod moving;

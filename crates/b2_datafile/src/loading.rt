@@ -3,16 +3,16 @@ ghost use Rattle.std.specs.Prelude.{◌≡◌, ◌↔◌, ◌<◌, ◌≤◌, Is
 ghost use Rattle.b2_platter.specs.Own.{sectors_of};
 ghost use Rattle.b2_datafile.specs.Files.{IsEndOfRecords};
 ghost use Rattle.b2_catalog.specs.Results.{FailsBy};
-ghost use Rattle.b2_datafile.specs.Loading.{Loads, LoadFails, agree, as_values, is_of, values_loaded};
+ghost use Rattle.b2_record.specs.Asking.{as_values};
+ghost use Rattle.b2_datafile.specs.Loading.{Loads, LoadFails, values_loaded};
 
-use crate::end_sector;
 use crate::opening::file_of;
 use b2_base::codes::{D80_NOT_OPEN, X70_TOO_LITTLE, X74_OTHER_KIND};
 use b2_base::{Code, Fault, Slot};
 use b2_catalog::Entry;
 use b2_dec::{Kind, Value};
 use b2_platter::Platter;
-use b2_record::take;
+use b2_record::{agree, end_sector, take};
 use std::alloc::Global;
 
 /// Whether the records of a file end at a place: that of its control sector, one after it, or one with the end mark.
@@ -21,33 +21,6 @@ pub(crate) fn is_end_of_records(p: &Platter, e: &Entry, pos: u32) -> bool
     ensures { IsTrue result ↔ IsEndOfRecords p.now e.now pos }
 {
     e.end <= pos || end_sector::is_end_mark(p.sector(pos))
-}
-
-/// Whether a value is of a kind.
-fn is_of(kind: Kind, value: &Value) -> bool
-    ensures { result ≡ is_of kind value.now }
-{
-    match value {
-        Value::Number(_) => kind == Kind::Number,
-        Value::Alpha(_) => kind == Kind::Alpha,
-    }
-}
-
-/// Whether each value is of the kind that is asked at its place, as far as there are both.
-fn agree(kinds: &[Kind], values: &[Value]) -> bool
-    ensures { result ≡ agree kinds.now values.now }
-{
-    let mut rest = values;
-    for kind in kinds {
-        let Some((value, after)) = rest.split_first() else {
-            return true;
-        };
-        if !is_of(*kind, value) {
-            return false;
-        }
-        rest = after;
-    }
-    true
 }
 
 /// Loads the record at a slot's place: its first values, as many as there are kinds, and the place after it; None where

@@ -10,14 +10,13 @@ ghost use Rattle.b2_record.specs.Writing.{record_of};
 ghost use Rattle.b2_datafile.specs.Files.{with_end};
 ghost use Rattle.b2_datafile.specs.Slots.{file_of, write_refusal};
 
-use crate::end_sector;
 use crate::opening::file_of;
 use b2_base::codes::{D80_NOT_OPEN, D81_FILE_FULL};
 use b2_base::{Code, Slot};
 use b2_catalog::{Entry, set_used};
 use b2_dec::Value;
 use b2_platter::Platter;
-use b2_record::{put_next, sectors_of};
+use b2_record::{end_sector, put_next, sectors_of};
 
 /// Writes the record of these values from a sector on.
 fn put_record(p: &mut Platter, at: u32, values: &[Value], count: u32)

@@ -141,7 +141,7 @@ fn place_at(slot: &mut Option<Slot>, sheet: &mut Sheet<'_>) {
 }
 
 /// Shows a place, or a code.
-fn show_place(sheet: &mut Sheet<'_>, outcome: Result<u32, Code>) {
+pub fn show_place(sheet: &mut Sheet<'_>, outcome: Result<u32, Code>) {
     match outcome {
         Ok(pos) => show_number(sheet, pos),
         Err(code) => sheet.show_code(code),
@@ -149,7 +149,7 @@ fn show_place(sheet: &mut Sheet<'_>, outcome: Result<u32, Code>) {
 }
 
 /// Reads values that may stand in a record; none where one of them may not.
-fn next_record(sheet: &mut Sheet<'_>) -> Vec<Value>
+pub fn next_record(sheet: &mut Sheet<'_>) -> Vec<Value>
     ensures { list_all is_short result.items ≡ true }
 {
     let values = values_left(sheet);

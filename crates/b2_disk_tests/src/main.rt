@@ -13,6 +13,7 @@ mod data_files;
 mod each;
 mod images;
 mod programs;
+mod raws;
 mod records;
 mod sessions;
 mod values;

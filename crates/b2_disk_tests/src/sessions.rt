@@ -1,5 +1,5 @@
 // The calls of a row, one after the other.
-use crate::{catalogs, data_files, each, images, programs, records};
+use crate::{catalogs, data_files, each, images, programs, raws, records};
 use b2_base::cut;
 use b2_cases::{Cells, Sheet, str_of};
 use b2_datafile::Slot;
@@ -128,6 +128,7 @@ fn is_answered(session: &mut Session, call: &str, sheet: &mut Sheet<'_>) -> bool
     images::is_answered(&mut session.disk, call, sheet)
         || catalogs::is_answered(&mut session.disk, call, sheet)
         || records::is_answered(&mut session.disk, call, sheet)
+        || raws::is_answered(&mut session.disk, call, sheet)
         || data_files::is_answered(&mut session.disk, &mut session.slot, call, sheet)
         || programs::is_answered(session, call, sheet)
 }

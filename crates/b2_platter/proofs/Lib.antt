@@ -12,6 +12,8 @@ pub mod Layouts
 pub mod Volumes
 pub mod DataSectors
 pub mod OwnSectors
+pub mod SpareSectors
 pub mod SectorRuns
+pub mod SpareRuns
 pub mod Zeros
 pub mod Reading

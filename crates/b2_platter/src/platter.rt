@@ -2,7 +2,7 @@
 ghost use Rattle.std.specs.Prelude.{◌≡◌, ◌+◌, ◌*◌, ◌<◌, ◌≤◌, All, IfOk, MatchResult, true, Some, length};
 ghost use Rattle.b2_platter.specs.Layout.{layout_of, by_version, version_of, most_sectors};
 ghost use Rattle.b2_platter.specs.Image.{sector};
-ghost use Rattle.b2_platter.specs.Own.{sectors_of};
+ghost use Rattle.b2_platter.specs.Own.{end_of, sectors_of};
 ghost use Rattle.b2_platter.specs.Checks.{own_check, IsGood};
 ghost use Rattle.b2_platter.specs.Volume.{image as spelling, volume};
 ghost use Rattle.b2_platter.specs.Edits.{blank_image, formatted, CanFormat, put_sector, put_sectors, is_data_sector};
@@ -63,6 +63,14 @@ impl Platter {
         image::total(self.layout(), self.image())
     }
 
+    /// The first sector after its catalogue.
+    pub fn catalogue_end(&self) -> u32
+        ensures value { result ≡ end_of self.now }
+        ensures good { IsGood self.now }
+    {
+        image::catalogue_end(self.layout(), self.image())
+    }
+
     /// Sector n.
     pub fn sector(&self, n: u32) -> &[u8; 256]
         requires { n < sectors_of self.now }
@@ -107,6 +115,15 @@ impl Platter {
     /// Puts the bytes of a file's data sector in place.
     pub fn put_file(&mut self, n: u32, b: &[u8; 256])
         requires { is_data_sector (layout_of self.old) self.old n ≡ true }
+        ensures { self.new ≡ put_sector self.old n b.now }
+    {
+        edits::put_sector(&mut self.bytes, n as usize, b);
+    }
+
+    /// Puts the bytes of a sector after the catalogue in place. No file has it.
+    pub fn put_spare(&mut self, n: u32, b: &[u8; 256])
+        requires low { end_of self.old ≤ n }
+        requires high { n < sectors_of self.old }
         ensures { self.new ≡ put_sector self.old n b.now }
     {
         edits::put_sector(&mut self.bytes, n as usize, b);

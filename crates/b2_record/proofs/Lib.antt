@@ -4,3 +4,7 @@ pub mod Parsing
 pub mod Reading
 pub mod Unique
 pub mod ReadBack
+pub mod EndSector
+pub mod Whole
+pub mod Placing
+pub mod Fitting

@@ -2,3 +2,5 @@ pub mod Items
 pub mod Records
 pub mod Writing
 pub mod Reading
+pub mod EndSector
+pub mod Asking

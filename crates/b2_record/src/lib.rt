@@ -7,19 +7,23 @@
 //!
 //! `sectors_of` counts the sectors of a record, `put` writes one of them, `put_next` writes one after the other, and `take`
 //! reads the record at a place: it gives the one list of values whose record stands there, and D88 exactly where none does.
+//! `agree` says whether values are of the kinds that are asked, and `end_sector` has the sector that ends records.
 //! `laws` says that a list of values has one record, that at one place one record begins at most, and that what a function
 //! of the image reads there is that record.
 //!
 //! Stands on `b2_base` for codes, on `b2_dec` for values, on `b2_platter` for sectors, and on `arrayvec` for a sector that
 //! is being written. The definitions are in `specs/`: `Items` for the bytes of values, `Records` for the grammar, a relation
-//! between values and sectors, `Writing` for the one spelling of a list of values, and `Reading` for the record at a place, as
-//! a function of the image.
+//! between values and sectors, `Writing` for the one spelling of a list of values, `Reading` for the record at a place, as a
+//! function of the image, `Asking` for the first values as they are asked, and `EndSector` for the end mark.
 #![tactic(auto)]
 
+mod asking;
+pub mod end_sector;
 mod items;
 pub mod laws;
 mod records;
 mod sectors;
 
+pub use asking::agree;
 pub use items::{all_short, is_short};
 pub use records::{put, put_next, sectors_of, take};

@@ -1,6 +1,6 @@
 -- What the store does keeps numbers: an access leaves all `@` variables as they are or clears them, and what it answers are numbers; and a
 -- loan puts back what it left.
-use Rattle.std.proofs.Common.{◌≡◌, ℕ, Bool, true, false, List, [], ◌∷◌, ◌++◌, length, Option, Some, None, IfSome, option_map, Result, Ok, Err, refl, sym, subst, ◌∙◌, inl, inr}
+use Rattle.std.proofs.Common.{◌≡◌, ℕ, ◌-◌, Bool, true, false, List, [], ◌∷◌, ◌++◌, length, Option, Some, None, IfSome, option_map, Result, Ok, Err, refl, sym, subst, ◌∙◌, inl, inr}
 use Rattle.std.specs.List.{All}
 use Rattle.std.proofs.lemmas.Bool.{false≢true}
 use Rattle.std.proofs.lemmas.List.Elements.{All-cons, All-nil, All-take}
@@ -11,7 +11,9 @@ use Rattle.b2_dec.specs.declared.values.Value.TheVariants as value_kind
 use Rattle.b2_text.specs.Program.{TextState}
 use Rattle.b2_vars.specs.Globals.{Globals}
 use Rattle.b2_vars.specs.Tables.{VarsState}
+use Rattle.b2_platter.specs.Own.{sectors_of}
 use Rattle.b2_record.specs.Items.{AllStorable, IsStorable}
+use Rattle.b2_record.proofs.ReadBack.{at-read}
 use Rattle.b2_datafile.specs.Loading.{values_loaded}
 use Rattle.b2_datafile.proofs.FromFunctions.{some-loaded}
 use Rattle.b2_access.specs.AccessRows.{clears, clears_and_gives_back, clears_both, clears_own, clears_text, finds_in_image, gives_back, gives_back_from, gives_up, gives_up_if, holder_at, is_held_by, loaded_answer, row, says_or_refuses}
@@ -40,8 +42,8 @@ use Rattle.b2_access.proofs.RowLaws.{leaves}
 use Rattle.b2_access.proofs.Unwritten.{unwritten, writes_kind}
 use Rattle.b2_machine.specs.Step.{lent_to_begin, seen_by}
 use Rattle.b2_store.specs.DiskWork.{disks, serves}
-use Rattle.b2_store.specs.FileWork.{record_loaded}
-use Rattle.b2_store.proofs.Answered.{loaded-is}
+use Rattle.b2_store.specs.FileWork.{raw_loaded, record_loaded}
+use Rattle.b2_store.proofs.Answered.{loaded-is, raw-first}
 use Rattle.b2_stmt_file.specs.SavedNumbers.{HoldsNumbers, IsAnyNumber}
 use Rattle.b2_sched.proofs.NumbersAssigned.{empty_holds}
 use Rattle.b2_sched.specs.Numbers.{AnswerHolds, GlobalsHold}
@@ -161,34 +163,44 @@ storable_numbers : (xs : List Value) → AllStorable xs → All IsAnyNumber xs
 storable_numbers [] are = All-nil IsAnyNumber
 storable_numbers (x ∷ xs) are = All-cons IsAnyNumber x xs (storable_number x are.0) (storable_numbers xs are.1)
 
-module _ (s : StoreState) (slot : Slot) (kinds : List Kind) where
-  -- the values that are loaded are the first of a record
-  loaded_holds : (image : List ℕ) (o : Option Loaded) → record_loaded slot kinds image ≡ Ok o → AnswerHolds (loaded_answer o)
-  loaded_holds image None is = tt
-  loaded_holds image (Some l) is =
-      let r = (some-loaded image slot kinds (l.values, l.place) (loaded-is (values_loaded image slot kinds) l is)).3 in
-      subst (All IsAnyNumber) (sym r.first_ones) (All-take IsAnyNumber (length kinds) r.values (storable_numbers r.values r.there.spelled.storable))
+-- the values that are loaded are the first of a record, at the place in a file and in sectors
+loaded_holds : (slot : Slot) (kinds : List Kind) (image : List ℕ) (o : Option Loaded) → record_loaded slot kinds image ≡ Ok o → AnswerHolds (loaded_answer o)
+loaded_holds slot kinds image None is = tt
+loaded_holds slot kinds image (Some l) is =
+    let r = (some-loaded image slot kinds (l.values, l.place) (loaded-is (values_loaded image slot kinds) l is)).3 in
+    subst (All IsAnyNumber) (sym r.first_ones) (All-take IsAnyNumber (length kinds) r.values (storable_numbers r.values r.there.spelled.storable))
 
-  found_holds : (r : Result (Option Loaded) ℕ) → ((o : Option Loaded) → r ≡ Ok o → AnswerHolds (loaded_answer o)) → AnswerHolds (performs (says_or_refuses slot.addr loaded_answer r) s).answer
+raw_holds : (n : ℕ) (kinds : List Kind) (image : List ℕ) (o : Option Loaded) → raw_loaded n kinds image ≡ Ok o → AnswerHolds (loaded_answer o)
+raw_holds n kinds image None is = tt
+raw_holds n kinds image (Some l) is =
+    let f = raw-first n kinds image l is in
+    let spelled = (at-read image n (sectors_of image - 1) f.read f.was).0 in
+    subst (All IsAnyNumber) (sym f.first_ones) (All-take IsAnyNumber (length kinds) f.read.0 (storable_numbers f.read.0 spelled.storable))
+
+module _ (s : StoreState) (addr : List ℕ) where
+  found_holds : (r : Result (Option Loaded) ℕ) → ((o : Option Loaded) → r ≡ Ok o → AnswerHolds (loaded_answer o)) → AnswerHolds (performs (says_or_refuses addr loaded_answer r) s).answer
   found_holds (Ok o) each = each o refl
   found_holds (Err code) each = tt
 
-  in_image : (o : Option (List ℕ)) → AnswerHolds (performs (finds_in_image slot.addr answer.AtEnd loaded_answer (record_loaded slot kinds) o) s).answer
-  in_image None = tt
-  in_image (Some image) = found_holds (record_loaded slot kinds image) (loaded_holds image)
+  in_image : (finds : List ℕ → Result (Option Loaded) ℕ) → ((image : List ℕ) (o : Option Loaded) → finds image ≡ Ok o → AnswerHolds (loaded_answer o)) → (o : Option (List ℕ))
+      → AnswerHolds (performs (finds_in_image addr answer.AtEnd loaded_answer finds o) s).answer
+  in_image finds each None = tt
+  in_image finds each (Some image) = found_holds (finds image) (each image)
 
   unless_first : (first inside : Option ℕ) (g : Gives StoreState) → AnswerHolds g.answer → AnswerHolds (unless_stopped (stop_by first inside) g s).answer
   unless_first (Some q) inside g h = tt
   unless_first None (Some q) g h = tt
   unless_first None None g h = h
 
--- none but the access that loads answers values
+-- none but the accesses that load answer values
 abbrev loads_values : Access → Bool
 loads_values (access.DataLoad slot kinds) = true
+loads_values (access.RawLoad addr n kinds) = true
 loads_values a = false
 
 never_values : (a : Access) (values : List Value) (to : ℕ) → loads_values a ≡ false → can_answer a (answer.Values values to) ≡ false
 never_values (access.DataLoad slot kinds) values to never = cc
+never_values (access.RawLoad addr n kinds) values to never = cc
 never_values a values to never = refl
 
 other_answer : (a : Access) (x : Answer) → loads_values a ≡ false → can_answer a x ≡ true → AnswerHolds x
@@ -198,7 +210,12 @@ other_answer a x never can = tt
 pub answered_holds : (s : StoreState) (who : ℕ) (a : Access) → AnswerHolds (serves s who a).answer
 answered_holds s who (access.DataLoad slot kinds) =
     let a = access.DataLoad slot kinds in
-    unless_first s slot kinds (first_other who (first_there (row a).reach s)) (inside_edited who (row a).reach.text s) _ (in_image s slot kinds (content s (object.Platter slot.addr)))
+    unless_first s slot.addr (first_other who (first_there (row a).reach s)) (inside_edited who (row a).reach.text s) _
+    (in_image s slot.addr (record_loaded slot kinds) (loaded_holds slot kinds) (content s (object.Platter slot.addr)))
+answered_holds s who (access.RawLoad addr n kinds) =
+    let a = access.RawLoad addr n kinds in
+    unless_first s addr (first_other who (first_there (row a).reach s)) (inside_edited who (row a).reach.text s) _
+    (in_image s addr (raw_loaded n kinds) (raw_holds n kinds) (content s (object.Platter addr)))
 answered_holds s who a = other_answer a (serves s who a).answer refl (serves_by_row disks s who a)
 
 -- ---- loans

@@ -18,16 +18,22 @@ use Rattle.b2_catalog.proofs.DataSectors.{InImage, in-image}
 use Rattle.b2_catalog.proofs.FileMade.{allowed-ok}
 use Rattle.b2_record.specs.Writing.{record_of}
 use Rattle.b2_datafile.specs.Files.{emptied_and_opened, new_opened, with_end}
-use Rattle.b2_datafile.specs.Loading.{agree, is_of, values_loaded}
+use Rattle.b2_platter.specs.Own.{sectors_of}
+use Rattle.b2_record.specs.Asking.{agree, is_of}
+use Rattle.b2_record.specs.Reading.{record_at}
+use Rattle.b2_record.proofs.Fitting.{FirstOf}
+use Rattle.b2_datafile.specs.Loading.{values_loaded}
 use Rattle.b2_datafile.specs.Moving.{Ahead, Behind, Moves}
 use Rattle.b2_datafile.specs.Slots.{file_of, open_file, open_refusal, opened, write_refusal}
 use Rattle.b2_datafile.proofs.FromFunctions.{place-goes, some-loaded}
+use Rattle.b2_raw.proofs.ReadBack.{block-long, loaded-some}
+use Rattle.b2_raw.specs.Raw.{loaded}
 use Rattle.b2_access.specs.declared.accesses.Access.{Access}
 use Rattle.b2_access.specs.declared.accesses.Access.TheVariants as access
 use Rattle.b2_access.specs.declared.accesses.Answer.{Answer}
 use Rattle.b2_access.specs.declared.accesses.Answer.TheVariants as answer
 use Rattle.b2_access.specs.declared.objects.Object.TheVariants as object
-use Rattle.b2_access.specs.AccessRows.{holder_at, loaded_answer, no_file, reach, row}
+use Rattle.b2_access.specs.AccessRows.{holder_at, loaded_answer, no_block, no_file, reach, row}
 use Rattle.b2_access.specs.Disks.{Loaded, Made}
 use Rattle.b2_access.specs.Fitting.{AnswerFits, AnswersFit, AreOfKinds, IsOfKind, IsOpenOn}
 use Rattle.b2_access.specs.Serving.{itself, performs, unless_stopped}
@@ -36,9 +42,9 @@ use Rattle.b2_access.specs.Stopping.{first_other, first_there, inside_edited, st
 use Rattle.b2_access.specs.Store.{StoreState, content}
 use Rattle.b2_access.specs.Touching.{IsLegal}
 use Rattle.b2_access.proofs.Fitting.{change_fits, finding_fits, unless_fits}
-use Rattle.b2_store.specs.Asked.{IsGoodIfSkipped}
+use Rattle.b2_store.specs.Asked.{IsGoodIfRead, IsGoodIfSkipped}
 use Rattle.b2_store.specs.DiskWork.{disks, serves}
-use Rattle.b2_store.specs.FileWork.{as_made, entry_ended, entry_opened, file_ended, file_opened, loaded_or, new_file, place_skipped, record_loaded, record_saved}
+use Rattle.b2_store.specs.FileWork.{as_made, block_loaded, entry_ended, entry_opened, file_ended, file_opened, loaded_or, new_file, place_skipped, raw_loaded, record_loaded, record_saved}
 
 pub ok-same : {A : Type 0} (x y : A) → ◌≡◌ {A = Result A ℕ} (Ok x) (Ok y) → x ≡ y
 ok-same x y h = cc
@@ -175,43 +181,69 @@ load-fits slot kinds image (Some l) low h =
     let after = r.after in
     (subst (AreOfKinds kinds) (sym r.first_ones) (kinds-are kinds r.values r.fit r.enough), omega (arith, low, after))
 
--- ---- each access, where the platter is good on which a place is moved
+-- those that are loaded from sectors are the first of the record there
+pub raw-first : (at : ℕ) (kinds : List Kind) (image : List ℕ) (l : Loaded) → raw_loaded at kinds image ≡ Ok (Some l) → FirstOf kinds at (record_at image at (sectors_of image - 1)) (l.values, l.place)
+raw-first at kinds image l h = loaded-some image at kinds (l.values, l.place) (loaded-is (loaded image at kinds) l h)
 
-pub served-fits : (s : StoreState) (who : ℕ) (a : Access) → IsLegal a → IsGoodIfSkipped a s → AnswerFits a (serves s who a).answer
-served-fits s who (access.DataNew addr old sectors name) legal good =
+raw-fits : (addr : List ℕ) (at : ℕ) (kinds : List Kind) (image : List ℕ) (o : Option Loaded) → raw_loaded at kinds image ≡ Ok o → AnswerFits (access.RawLoad addr at kinds) (loaded_answer o)
+raw-fits addr at kinds image None h = tt
+raw-fits addr at kinds image (Some l) h =
+    let f = raw-first at kinds image l h in
+    subst (AreOfKinds kinds) (sym f.first_ones) (kinds-are kinds f.read.0 f.fit f.enough)
+
+-- ---- sectors
+
+no-block-long : length no_block ≡ 256
+unfolding no_block
+no-block-long = refl
+
+-- ---- each access, where the platter is good on which a place is moved or of which a sector is read
+
+pub served-fits : (s : StoreState) (who : ℕ) (a : Access) → IsLegal a → IsGoodIfSkipped a s → IsGoodIfRead a s → AnswerFits a (serves s who a).answer
+served-fits s who (access.DataNew addr old sectors name) legal good read =
     let a = access.DataNew addr old sectors name in
     unless_fits a s (first_other who (first_there (row a).reach s)) (inside_edited who (row a).reach.text s) _
     (change_fits a s addr (answer.Opened (no_file addr name)) (refl, omega arith) (λ m. m.image) (λ m. answer.Opened m.told) (new_file addr old sectors name) (content s (object.Platter addr))
     (λ image there m is. (let p = new-parts image addr old sectors name m.image m.told (as-made-is (new_opened image addr old sectors name) m is) in is-open addr m.told p.0.1 p.3)))
-served-fits s who (access.DataOpen addr name) legal good =
+served-fits s who (access.DataOpen addr name) legal good read =
     let a = access.DataOpen addr name in
     unless_fits a s (first_other who (first_there (row a).reach s)) (inside_edited who (row a).reach.text s) _
     (finding_fits a s addr (answer.Opened (no_file addr name)) (refl, omega arith) answer.Opened (file_opened addr name) (content s (object.Platter addr))
     (λ image there slot is. found-open addr (get (catalogue image) name) slot is))
-served-fits s who (access.DataSave slot values) legal good =
+served-fits s who (access.DataSave slot values) legal good read =
     let a = access.DataSave slot values in
     unless_fits a s (first_other who (first_there (row a).reach s)) (inside_edited who (row a).reach.text s) _
     (change_fits a s slot.addr (answer.Moved slot.pos) legal.1 (λ m. m.image) (λ m. answer.Moved m.told) (record_saved slot values) (content s (object.Platter slot.addr))
     (λ image there m is. save-low slot values image m legal.1 is))
-served-fits s who (access.DataEnd slot) legal good =
+served-fits s who (access.DataEnd slot) legal good read =
     let a = access.DataEnd slot in
     unless_fits a s (first_other who (first_there (row a).reach s)) (inside_edited who (row a).reach.text s) _
     (change_fits a s slot.addr (answer.Moved slot.pos) legal (λ m. m.image) (λ m. answer.Moved m.told) (file_ended slot) (content s (object.Platter slot.addr))
     (λ image there m is. end-low slot image m legal is))
-served-fits s who (access.DataLoad slot kinds) legal good =
+served-fits s who (access.DataLoad slot kinds) legal good read =
     let a = access.DataLoad slot kinds in
     unless_fits a s (first_other who (first_there (row a).reach s)) (inside_edited who (row a).reach.text s) _
     (finding_fits a s slot.addr answer.AtEnd tt loaded_answer (record_loaded slot kinds) (content s (object.Platter slot.addr))
     (λ image there o is. load-fits slot kinds image o legal is))
-served-fits s who (access.Skip slot way) legal good =
+served-fits s who (access.Skip slot way) legal good read =
     let a = access.Skip slot way in
     unless_fits a s (first_other who (first_there (row a).reach s)) (inside_edited who (row a).reach.text s) _
     (finding_fits a s slot.addr (answer.Moved slot.pos) legal answer.Moved (place_skipped slot way) (content s (object.Platter slot.addr))
     (λ image there to is. skip-low image slot way to (good slot way refl image there) legal is))
-served-fits s who a legal good = tt
+served-fits s who (access.RawLoad addr at kinds) legal good read =
+    let a = access.RawLoad addr at kinds in
+    unless_fits a s (first_other who (first_there (row a).reach s)) (inside_edited who (row a).reach.text s) _
+    (finding_fits a s addr answer.AtEnd tt loaded_answer (raw_loaded at kinds) (content s (object.Platter addr))
+    (λ image there o is. raw-fits addr at kinds image o is))
+served-fits s who (access.BlockLoad addr at) legal good read =
+    let a = access.BlockLoad addr at in
+    unless_fits a s (first_other who (first_there (row a).reach s)) (inside_edited who (row a).reach.text s) _
+    (finding_fits a s addr (answer.Block no_block) no-block-long answer.Block (block_loaded at) (content s (object.Platter addr))
+    (λ image there bytes is. block-long image at bytes (read addr at refl image there) is))
+served-fits s who a legal good read = tt
 
 pub answers-fit : AnswersFit itself IsGood serves
-answers-fit s who a legal images = served-fits s who a legal (λ slot way is image there. images slot.addr image there)
+answers-fit s who a legal images = served-fits s who a legal (λ slot way is image there. images slot.addr image there) (λ addr at is image there. images addr image there)
 
 -- What is so of the answer that is given is so of what stops the access, and where nothing does of what its row does.
 module _ (s : StoreState) (who : ℕ) (a : Access) (IsSo : Answer → Type 0) (given : IsSo (serves s who a).answer) where

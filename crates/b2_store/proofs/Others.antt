@@ -36,11 +36,12 @@ use Rattle.b2_access.specs.Touching.{IsLegal}
 use Rattle.b2_access.proofs.Held.{other_images_stay}
 use Rattle.b2_store.specs.DiskWork.{disks, scratched_image, serves}
 use Rattle.b2_store.specs.Files.{AreGood, HasFile, IsAbout, OtherFilesStay, OtherRecordsStay, StaysAs}
-use Rattle.b2_store.specs.FileWork.{file_ended, file_moved, new_file, record_saved, text_saved}
+use Rattle.b2_store.specs.FileWork.{block_saved, file_ended, file_moved, new_file, raw_ended, raw_saved, record_saved, text_saved}
 use Rattle.b2_store.proofs.Answered.{IsFileOf, as-made-is, end-told, file-parts, ok-same, save-told}
 use Rattle.b2_store.proofs.Kept.{Keeps, end-keeps, put-keeps, scratch-keeps}
 use Rattle.b2_store.proofs.Made.{MadeOf, file-keeps, name-kept, new-data, program-keeps}
 use Rattle.b2_store.proofs.Records.{allowed-room, ends-at, record-long}
+use Rattle.b2_store.proofs.Sectors.{NoFile, block-keeps, mark-keeps, raw-keeps}
 
 pub same-bytes : (a b : List ℕ) → (a ≡ b) ⊎ (a ≡ b → ⊥)
 same-bytes a b = by (bytes_eq a b) refl
@@ -192,6 +193,27 @@ module _ (s : StoreState) (addr image : List ℕ) (e : Entry) (there : content s
       elim (same-bytes d addr) as (λ _. Left (serves s who a).after) [
         | inl is ↦ unless-left (stop who (row a).reach s) _
             (save-left d is (MadeOf old name) (λ same. about (is, same)) who (text_saved old name from to) (λ t n made. program-keeps image old name (lines_within from to t.lines) n good legal made))
+        | inr apart ↦ elsewhere who a d refl apart
+      ]
+  left who (access.RawSave d at values) legal all about =
+      let a = access.RawSave d at values in
+      elim (same-bytes d addr) as (λ _. Left (serves s who a).after) [
+        | inl is ↦ unless-left (stop who (row a).reach s) _
+            (change-left d is NoFile (λ never. never) (answer.Moved at) (λ m. m.image) (λ m. answer.Moved m.told) (raw_saved at values) (λ m made. raw-keeps image at values m good legal made))
+        | inr apart ↦ elsewhere who a d refl apart
+      ]
+  left who (access.RawEnd d at) legal all about =
+      let a = access.RawEnd d at in
+      elim (same-bytes d addr) as (λ _. Left (serves s who a).after) [
+        | inl is ↦ unless-left (stop who (row a).reach s) _
+            (change-left d is NoFile (λ never. never) (answer.Moved at) (λ m. m.image) (λ m. answer.Moved m.told) (raw_ended at) (λ m made. mark-keeps image at m good made))
+        | inr apart ↦ elsewhere who a d refl apart
+      ]
+  left who (access.BlockSave d at bytes) legal all about =
+      let a = access.BlockSave d at bytes in
+      elim (same-bytes d addr) as (λ _. Left (serves s who a).after) [
+        | inl is ↦ unless-left (stop who (row a).reach s) _
+            (change-left d is NoFile (λ never. never) (answer.Moved at) (λ m. m.image) (λ m. answer.Moved m.told) (block_saved at bytes) (λ m made. block-keeps image at bytes m good legal made))
         | inr apart ↦ elsewhere who a d refl apart
       ]
   left who (access.MovePlatter from to) legal all about = elsewhere who (access.MovePlatter from to) to refl about

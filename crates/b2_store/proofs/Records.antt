@@ -1,6 +1,6 @@
 -- Records that are saved, ended and loaded through the store.
 use Rattle.std.proofs.Common.{◌≡◌, ℕ, zero, suc, ◌+◌, ◌-◌, ◌≤◌, ◌&&◌, Bool, true, false, if◌then◌else◌, List, [], ◌∷◌, ◌++◌, length, Option, Some, None, Ok, refl, sym, ap, ap₂, subst, ◌∙◌, inl, inr, arith}
-use Rattle.std.specs.Prelude.{nat_le, get_or}
+use Rattle.std.specs.Prelude.{nat_le}
 use Rattle.std.specs.FinMap.{get}
 use Rattle.std.specs.List.{list_all}
 use Rattle.std.proofs.lemmas.Bool.{and_parts, eq-eqb, leb-true}
@@ -17,16 +17,18 @@ use Rattle.b2_catalog.specs.declared.entry.Entry.{Entry}
 use Rattle.b2_catalog.specs.Catalogue.{Catalogue, catalogue}
 use Rattle.b2_catalog.proofs.DataSectors.{get-put}
 use Rattle.b2_record.specs.Items.{AllStorable, is_short}
-use Rattle.b2_record.specs.Records.{Spells, is_none, is_record, sector_kind, sector_of, sectors_from}
+use Rattle.b2_record.specs.Records.{Spells, sectors_from}
 use Rattle.b2_record.specs.Writing.{groups_of, record_of}
 use Rattle.b2_record.proofs.Groups.{parted-groups, record-spelled}
 use Rattle.b2_record.proofs.Unique.{record-length}
-use Rattle.b2_datafile.specs.Files.{IsEndOfRecords, IsFront, end_mark, with_end}
+use Rattle.b2_datafile.specs.Files.{IsEndOfRecords, IsFront, with_end}
 use Rattle.b2_datafile.specs.Laws.{EndsAt, SavesAt}
 use Rattle.b2_datafile.specs.Loading.{LoadsRecord, values_loaded}
 use Rattle.b2_datafile.specs.Moving.{Moves}
 use Rattle.b2_datafile.specs.Slots.{file_of, open_file, write_refusal}
-use Rattle.b2_datafile.proofs.Fronts.{fills-more, long-groups}
+use Rattle.b2_datafile.proofs.Fronts.{fills-more}
+use Rattle.b2_record.proofs.EndSector.{no-mark}
+use Rattle.b2_record.proofs.Whole.{long-groups}
 use Rattle.b2_datafile.proofs.FromFunctions.{place-goes, some-loaded}
 use Rattle.b2_datafile.proofs.Functions.{record-loaded}
 use Rattle.b2_datafile.proofs.SkippedRecords.{some-groups}
@@ -150,18 +152,6 @@ ended-whole who slot to s e records legal opens front told =
     )
 
 -- ---- a record that is loaded
-
--- where a record stands, its sectors have no end mark
-first-byte : (g : List Value) (groups : List (List Value)) → sector_of (sector_kind true (is_none groups)) 1 g ≡ end_mark → ⊥
-first-byte g [] h = let same = ap (λ (xs : List ℕ). get_or xs 0 0) h in absurd (omega (arith, same))
-first-byte g (h ∷ groups) e = let same = ap (λ (xs : List ℕ). get_or xs 0 0) e in absurd (omega (arith, same))
-
-no-mark : (image : List ℕ) (pos n : ℕ) (groups : List (List Value)) → is_record groups ≡ true → sectors_from 1 groups ≡ sectors_at image pos n → sector image pos ≡ end_mark → ⊥
-no-mark image pos n [] split same mark = cc
-no-mark image pos zero (g ∷ groups) split same mark = cc
-no-mark image pos (suc n) (g ∷ groups) split same mark =
-    let first : sector_of (sector_kind true (is_none groups)) 1 g ≡ sector image pos = ap (λ (xs : List (List ℕ)). get_or xs 0 []) same in
-    first-byte g groups (first ∙ mark)
 
 no-end : (image : List ℕ) (e : Entry) (pos : ℕ) (kinds : List Kind) (asked : List Value) (to : ℕ) → LoadsRecord image e pos kinds asked to → IsEndOfRecords image e pos → ⊥
 no-end image e pos kinds asked to r (inl past) =

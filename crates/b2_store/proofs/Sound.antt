@@ -38,10 +38,11 @@ use Rattle.b2_access.specs.Touching.{IsLegal}
 use Rattle.b2_access.proofs.Held.{other_images_stay}
 use Rattle.b2_store.specs.DiskWork.{can_format, disks, serves, with_index}
 use Rattle.b2_store.specs.Files.{AreSound, IsSound, PlattersStaySound}
-use Rattle.b2_store.specs.FileWork.{file_ended, file_moved, files_moved, new_file, record_saved, text_saved}
+use Rattle.b2_store.specs.FileWork.{block_saved, file_ended, file_moved, files_moved, new_file, raw_ended, raw_saved, record_saved, text_saved}
 use Rattle.b2_store.proofs.Answered.{as-made-is}
 use Rattle.b2_store.proofs.Kept.{Keeps}
 use Rattle.b2_store.proofs.Made.{file-keeps, new-data, program-keeps}
+use Rattle.b2_store.proofs.Sectors.{NoFile, block-keeps, mark-keeps, raw-keeps}
 use Rattle.b2_store.proofs.Others.{ended-keeps, same-bytes, saved-keeps, scratched-keeps}
 
 -- ---- images
@@ -193,6 +194,18 @@ module _ (s : StoreState) (all : AreSound s) where
       let a = access.SaveProgram d old name from to in
       unless-sound (stop who (row a).reach s) _ (save-by who d (text_saved old name from to)
       (λ t image n sound made. kept-sound image n _ sound (program-keeps image old name (lines_within from to t.lines) n sound.0 legal made)) (content s (object.Platter d)) refl)
+  stay who (access.RawSave d at values) legal =
+      let a = access.RawSave d at values in
+      unless-sound (stop who (row a).reach s) _ (change-sound d (answer.Moved at) (λ m. m.image) (λ m. answer.Moved m.told) (raw_saved at values)
+      (λ image m sound made. kept-sound image m.image NoFile sound (raw-keeps image at values m sound.0 legal made)))
+  stay who (access.RawEnd d at) legal =
+      let a = access.RawEnd d at in
+      unless-sound (stop who (row a).reach s) _ (change-sound d (answer.Moved at) (λ m. m.image) (λ m. answer.Moved m.told) (raw_ended at)
+      (λ image m sound made. kept-sound image m.image NoFile sound (mark-keeps image at m sound.0 made)))
+  stay who (access.BlockSave d at bytes) legal =
+      let a = access.BlockSave d at bytes in
+      unless-sound (stop who (row a).reach s) _ (change-sound d (answer.Moved at) (λ m. m.image) (λ m. answer.Moved m.told) (block_saved at bytes)
+      (λ image m sound made. kept-sound image m.image NoFile sound (block-keeps image at bytes m sound.0 legal made)))
   stay who (access.MovePlatter from to) legal =
       let a = access.MovePlatter from to in
       unless-sound (stop who (row a).reach s) _ (move-by from to files_moved (λ source image n first second made. moved-sound source image n first second made) (content s (object.Platter from)) refl)

@@ -14,7 +14,7 @@ use Rattle.b2_catalog.specs.Ways.{slot_found}
 use Rattle.b2_access.specs.AccessRows.{no_limits}
 use Rattle.b2_access.specs.Disks.{DiskWork, FourNumbers}
 use Rattle.b2_access.specs.Serving as serving
-use Rattle.b2_store.specs.FileWork.{file_ended, file_moved, file_opened, files_moved, lines_loaded, new_file, place_skipped, record_loaded, record_saved, text_saved}
+use Rattle.b2_store.specs.FileWork.{block_loaded, block_saved, file_ended, file_moved, file_opened, files_moved, lines_loaded, new_file, place_skipped, raw_ended, raw_loaded, raw_saved, record_loaded, record_saved, text_saved}
 use Rattle.b2_access.specs.Sharing.{ServingOf}
 use Rattle.b2_access.specs.Store.{StoreState}
 
@@ -57,6 +57,11 @@ disks = record {
   data_end = file_ended;
   data_load = record_loaded;
   skip = place_skipped;
+  raw_save = raw_saved;
+  raw_end = raw_ended;
+  raw_load = raw_loaded;
+  block_save = block_saved;
+  block_load = block_loaded;
   save_program = text_saved;
   load_program = lines_loaded;
   move_platter = files_moved;

@@ -1,4 +1,4 @@
--- What disks do with data files and programs, by the definitions of the crates of files.
+-- What disks do with data files, programs and sectors, by the definitions of the crates of files and of sectors.
 use Rattle.std.specs.Prelude.{ℕ, ◌+◌, Bool, List, length, Result, Ok, Err, Option, Some, None}
 use Rattle.std.specs.FinMap.{get}
 use Rattle.b2_base.specs.declared.codes.TheConstants.{D80_NOT_OPEN, D82_NO_FILE}
@@ -20,6 +20,7 @@ use Rattle.b2_progfile.specs.Loading.{text_loaded}
 use Rattle.b2_progfile.specs.Moving.{file_refusal, with_copy}
 use Rattle.b2_progfile.specs.MovingAll.{platter_moved}
 use Rattle.b2_progfile.specs.Saving.{lines_within, program_saved}
+use Rattle.b2_raw.specs.Raw.{block_at, block_put, ended, loaded, saved}
 use Rattle.b2_access.specs.Disks.{Loaded, Made}
 
 -- an image that was made, with what is told of that
@@ -66,6 +67,22 @@ record_loaded slot kinds image = loaded_or (values_loaded image slot kinds)
 
 abbrev pub place_skipped : Slot → By → List ℕ → Result ℕ ℕ
 place_skipped slot way image = place_moved image slot way
+
+-- a record, an end mark or bytes in sectors from one on, and the next sector; what is loaded from one on, and the bytes of one
+abbrev pub raw_saved : ℕ → List Value → List ℕ → Result (Made ℕ) ℕ
+raw_saved at values image = as_made (saved image at values)
+
+abbrev pub raw_ended : ℕ → List ℕ → Result (Made ℕ) ℕ
+raw_ended at image = as_made (ended image at)
+
+abbrev pub raw_loaded : ℕ → List Kind → List ℕ → Result (Option Loaded) ℕ
+raw_loaded at kinds image = loaded_or (loaded image at kinds)
+
+abbrev pub block_saved : ℕ → List ℕ → List ℕ → Result (Made ℕ) ℕ
+block_saved at bytes image = as_made (block_put image at bytes)
+
+abbrev pub block_loaded : ℕ → List ℕ → Result (List ℕ) ℕ
+block_loaded at image = block_at image at
 
 -- the lines of a text that are saved, and those that are loaded
 abbrev pub text_saved : Option (List ℕ) → List ℕ → ℕ → ℕ → TextState → List ℕ → Result (List ℕ) ℕ

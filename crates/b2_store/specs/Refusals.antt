@@ -1,5 +1,5 @@
 -- How a fault is answered.
-use Rattle.std.specs.Prelude.{◌≡◌, ℕ, Result, Ok, Err}
+use Rattle.std.specs.Prelude.{◌≡◌, ℕ, List, Result, Ok, Err}
 use Rattle.b2_base.specs.declared.codes.Fault.{Fault}
 use Rattle.b2_base.specs.declared.files.Slot.{Slot}
 use Rattle.b2_base.specs.declared.codes.Fault.TheVariants as fault
@@ -26,3 +26,6 @@ opened_answer r = found_answer answer.Opened r
 
 abbrev pub moved_answer : Result ℕ ℕ → Answer
 moved_answer r = found_answer answer.Moved r
+
+abbrev pub block_answer : Result (List ℕ) ℕ → Answer
+block_answer r = found_answer answer.Block r

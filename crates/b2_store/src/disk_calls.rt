@@ -2,7 +2,7 @@
 ghost use Rattle.std.specs.Prelude.{◌≡◌, ◌≤◌, ℕ, true, None, IfOk};
 ghost use Rattle.std.specs.List.{list_all};
 ghost use Rattle.b2_access.specs.Touching.{is_short};
-ghost use Rattle.b2_store.specs.Asked.{IsGoodToSkip};
+ghost use Rattle.b2_store.specs.Asked.{IsGoodAt};
 ghost use Rattle.b2_store.specs.Doing.{Does};
 
 use crate::data_files::{
@@ -131,7 +131,7 @@ pub(crate) fn data_load<S: Lookups>(
 /// Moves the place in a file, on a platter that is good by its type.
 pub(crate) fn skip<S: Lookups>(store: &S, slot: &Slot, by: By) -> Result<Answer, NoMemory>
     requires { slot.now.start ≤ slot.now.pos }
-    ensures good { IsGoodToSkip slot.now (S.state store.now) }
+    ensures good { IsGoodAt slot.now.addr (S.state store.now) }
     ensures done { (who : ℕ) → IfOk result (Does who (Access.Skip slot.now by) (S.state store.now) (S.state store.now)) }
 {
     match store.platter_at(slot.addr) {

@@ -6,7 +6,7 @@ ghost use Rattle.b2_store.specs.DiskWork.{serves};
 ghost use Rattle.b2_store.specs.Files.{EndedFilesAreWhole, LoadedRecordsFollow, MadeFilesAreEmpty, MovedPlacesGoOver, OtherFilesStay, OtherRecordsStay, PlattersStaySound, SavedRecordsFollow};
 
 /// What is answered fits what was asked: a file that is opened stands on the disk that was asked for, no place is before the first
-/// sector of its file, and values are as many as were asked and of the asked kinds.
+/// sector of its file, values are as many as were asked and of the asked kinds, and the bytes of a sector are 256.
 pub fn law_answers_fit()
     ensures { AnswersFit itself IsGood serves }
 {}

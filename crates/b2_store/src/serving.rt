@@ -3,7 +3,7 @@ ghost use Rattle.std.specs.Prelude.{◌≡◌, true, IfOk, IfErr};
 ghost use Rattle.b2_access.specs.Answering.{can_answer};
 ghost use Rattle.b2_access.specs.Fitting.{AnswerFits};
 ghost use Rattle.b2_access.specs.Touching.{IsLegal, MayWantMemory};
-ghost use Rattle.b2_store.specs.Asked.{IsGoodIfSkipped};
+ghost use Rattle.b2_store.specs.Asked.{IsGoodIfRead, IsGoodIfSkipped};
 ghost use Rattle.b2_store.specs.Doing.{Does, Serves};
 
 use crate::device_calls::{close_devices, open_devices, print};
@@ -12,6 +12,7 @@ use crate::disk_calls::{
 };
 use crate::lookups::Lookups;
 use crate::name_calls::{declare, find_part};
+use crate::sector_calls::{block_load, block_save, raw_end, raw_load, raw_save};
 use crate::stops::stop;
 use crate::terminal_calls::{insert, read_line, release, show, take_key};
 use crate::text_calls::{clear_all, enter, erase, give_texts_back, leave, load_program, put_line};
@@ -24,6 +25,7 @@ fn perform<S: Lookups>(store: &mut S, who: Part, access: &Access) -> Result<Answ
     ensures done { IfOk result (Does who access.now (S.state store.old) (S.state store.new)) }
     ensures memory { IfErr result (λ _. MayWantMemory access.now) }
     ensures good { IsGoodIfSkipped access.now (S.state store.old) }
+    ensures good_read { IsGoodIfRead access.now (S.state store.old) }
 {
     match access {
         Access::Show { term, bytes, .. } => show(store, *term, bytes.bytes()),
@@ -74,6 +76,11 @@ fn perform<S: Lookups>(store: &mut S, who: Part, access: &Access) -> Result<Answ
             declared,
             homes,
         } => load_program(store, who, *addr, *name, *replace, *declared, *homes),
+        Access::RawSave { addr, at, values } => Ok(raw_save(store, *addr, *at, values.values())),
+        Access::RawEnd { addr, at } => Ok(raw_end(store, *addr, *at)),
+        Access::RawLoad { addr, at, kinds } => raw_load(store, *addr, *at, kinds.kinds()),
+        Access::BlockSave { addr, at, bytes } => Ok(block_save(store, *addr, *at, bytes.bytes())),
+        Access::BlockLoad { addr, at } => block_load(store, *addr, *at),
         Access::MovePlatter { from, to } => store.move_files(*from, *to, None),
         Access::MoveFile { from, name, to } => store.move_files(*from, *to, Some(*name)),
     }

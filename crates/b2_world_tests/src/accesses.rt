@@ -1,5 +1,5 @@
 // Accesses, as rows spell them: at terminals, at disks and to names. Those to texts stand in `texts.rt`, and those of devices in
-// `devices.rt`, and those to programs on disks in `files.rt`.
+// `devices.rt`, those to programs on disks in `files.rt`, and those to sectors of disks in `sectors.rt`.
 //
 // `show TERMINAL BYTES`, `read TERMINAL`, `insert TERMINAL BYTES`, `key TERMINAL`, `release TERMINAL`; `limits ADDRESS [NAME]`, `list ADDRESS`, `scratch
 // ADDRESS NAME`, `format ADDRESS SECTORS END`; `declare NAME [OLD]`, `find NAME`.
@@ -7,7 +7,7 @@ ghost use Rattle.std.specs.Prelude.{IfSome};
 ghost use Rattle.b2_access.specs.Touching.{IsLegal};
 
 use crate::pieces::word;
-use crate::{devices, files, texts};
+use crate::{devices, files, sectors, texts};
 use b2_access::Access;
 use b2_base::{Addr, ByteList, Name8, Term};
 use b2_cases::{Sheet, small_of, str_of, whole_of};
@@ -87,6 +87,7 @@ pub fn access_of(sheet: &mut Sheet<'_>, spelled: &[u8]) -> Option<Access>
         "print" => devices::printing(sheet, rest),
         "hold" | "free" => devices::taking(kind, rest),
         "save" | "load" | "chain" | "move" => files::at_programs(kind, rest),
+        "record" | "end" | "records" | "block" | "sector" => sectors::at_sectors(sheet, kind, rest),
         "enter" | "leave" | "drop" => texts::at_borrowers(kind, rest),
         _ => texts::edit(sheet, kind, rest),
     }

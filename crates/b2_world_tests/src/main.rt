@@ -14,6 +14,7 @@ mod partitions;
 mod pieces;
 mod places;
 mod screens;
+mod sectors;
 mod stores;
 mod terminals;
 mod texts;

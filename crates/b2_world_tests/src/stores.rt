@@ -25,6 +25,7 @@ use b2_base::lexical::{first_bytes, rest_after};
 use b2_base::{Addr, Name8, NoMemory, Part, Term};
 use b2_cases::{Sheet, small_of, str_of, whole_of};
 use b2_catalog::enter;
+use b2_dec::{Value, whole};
 use b2_platter::Platter;
 use b2_store::{Ends, StoreBoot};
 use b2_term::{KeyItem, PartList, is_order};
@@ -122,6 +123,47 @@ fn show_numbers(sheet: &mut Sheet<'_>, numbers: &[i64]) {
     }
 }
 
+/// Shows values, each with a blank before it.
+fn show_values(sheet: &mut Sheet<'_>, values: &[Value]) {
+    for value in values {
+        sheet.show(" ");
+        match value {
+            Value::Number(number) => match whole(*number) {
+                Some(number) => sheet.show_signed(number),
+                None => sheet.show("no whole number"),
+            },
+            Value::Alpha(bytes) => sheet.show_bytes(bytes.bytes()),
+        }
+    }
+}
+
+/// Shows how many bytes there are, and those up to the last that isn't 00.
+fn show_block(sheet: &mut Sheet<'_>, bytes: &[u8]) {
+    sheet.show_number(bytes.len() as u64);
+    sheet.show(" bytes ");
+    let mut used = 0;
+    for (place, byte) in bytes.iter().enumerate() {
+        if *byte != 0 {
+            used = place + 1;
+        }
+    }
+    show_each(sheet, first_bytes(bytes, used));
+}
+
+/// Shows each byte in hexadecimal digits.
+fn show_each(sheet: &mut Sheet<'_>, bytes: &[u8]) {
+    for byte in bytes {
+        sheet.show_hex(*byte);
+    }
+}
+
+/// Shows the values of a record, and the place after it.
+fn show_record(sheet: &mut Sheet<'_>, values: &[Value], place: u32) {
+    sheet.show("values");
+    show_values(sheet, values);
+    show_count(sheet, " then ", u64::from(place));
+}
+
 /// Shows an answer.
 pub fn show_answer(sheet: &mut Sheet<'_>, answer: &Answer) {
     match answer {
@@ -143,6 +185,10 @@ pub fn show_answer(sheet: &mut Sheet<'_>, answer: &Answer) {
             );
         }
         Answer::Bytes(bytes) => show_named(sheet, "bytes", bytes.bytes()),
+        Answer::Block(bytes) => show_block(sheet, bytes.bytes()),
+        Answer::Moved(place) => show_count(sheet, "moved ", u64::from(*place)),
+        Answer::Values(values, place) => show_record(sheet, values.values(), *place),
+        Answer::AtEnd => sheet.show("at end"),
         Answer::Holder(part) => show_part(sheet, "held by ", *part),
         Answer::NoPart => sheet.show("held by nobody"),
         Answer::Entered(part, spot) => {
@@ -211,6 +257,9 @@ fn answered_at_once<S: Ends>(stores: &mut S, who: Part, access: &Access) -> Opti
         | Access::CloseDevices { .. }
         | Access::Limits { .. }
         | Access::Scratch { .. }
+        | Access::RawSave { .. }
+        | Access::RawEnd { .. }
+        | Access::BlockSave { .. }
         | Access::Format { .. } => {
             match asked(stores, who, access) {
                 Ok(answer) => Some(answer),
@@ -304,9 +353,7 @@ fn show_platter<S: Ends>(sheet: &mut Sheet<'_>, stores: &S, address: Addr, numbe
     sheet.show_number(u64::from(platter.sectors()));
     sheet.show(" sectors ");
     let from = rest_after(platter.image(), whole_of(place) as usize);
-    for byte in first_bytes(from, whole_of(count) as usize) {
-        sheet.show_hex(*byte);
-    }
+    show_each(sheet, first_bytes(from, whole_of(count) as usize));
 }
 
 /// Shows what the printer of an address printed, or that there is none.

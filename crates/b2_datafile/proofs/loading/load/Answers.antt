@@ -1,6 +1,7 @@
 use Rattle.std.proofs.Common.{◌≡◌, ◌∙◌, true, false, refl, sym, ap, arith, inl, inr}
 use Rattle.b2_datafile.specs.Files.{IsEndOfRecords}
-use Rattle.b2_datafile.specs.Loading.{IsRecordAt, agree}
+use Rattle.b2_record.specs.Asking.{agree}
+use Rattle.b2_datafile.specs.Loading.{IsRecordAt}
 use Rattle.b2_datafile.proofs.Functions.{load-code, nothing-loaded, record-loaded, unspelled-load}
 use Rattle.b2_datafile.proofs.loading.load.Goals as goal
 

@@ -5,7 +5,7 @@ use Rattle.b2_platter.specs.Edits.{put_sector}
 use Rattle.b2_catalog.specs.Catalogue.{Catalogue, catalogue}
 use Rattle.b2_catalog.specs.Changes.{control_sector}
 use Rattle.b2_catalog.proofs.DataSectors.{in-image, catalogue-kept}
-use Rattle.b2_datafile.specs.Files.{end_mark}
+use Rattle.b2_record.specs.EndSector.{end_mark}
 use Rattle.b2_datafile.proofs.Saved.{with_end-own}
 use Rattle.b2_datafile.proofs.saving.put_end.Goals as goal
 

@@ -2,7 +2,7 @@ use Rattle.std.proofs.Common.{◌≡◌, ℕ, ◌+◌, ◌≤◌, ◌∷◌, ◌
 use Rattle.b2_record.specs.Writing.{record_of, sectors_left}
 use Rattle.b2_record.proofs.Groups.{left-some}
 use Rattle.b2_platter.specs.Edits.{put_from}
-use Rattle.b2_datafile.proofs.Writing.{put-next, drop-next, drop-all}
+use Rattle.b2_record.proofs.Placing.{put-next, drop-next, drop-all}
 use Rattle.b2_platter.proofs.OwnSectors.{own-data, own-good}
 use Rattle.b2_datafile.proofs.saving.put_record.Goals as goal
 

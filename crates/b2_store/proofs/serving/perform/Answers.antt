@@ -59,3 +59,16 @@ returns-in-Leave-clause-done g c = subst (λ a. Does c.args.who a (g.S.Lookups.s
 
 pub returns-in-Drop-clause-done : goal.returns-in-Drop-clause-done
 returns-in-Drop-clause-done g c = subst (λ a. Does c.args.who a (g.S.Lookups.state c.args.store.now) (g.S.Lookups.state c.give_texts_back.new.store) c.give_texts_back.result) (sym c.in-Drop.is) c.give_texts_back.ensures
+
+pub returns-in-RawSave-clause-done : goal.returns-in-RawSave-clause-done
+returns-in-RawSave-clause-done g c =
+    let asked = c.in-RawSave.is ∙ ap (λ vs. access.RawSave c.in-RawSave.addr c.in-RawSave.at vs) (sym c.values-in-RawSave.ensures) in
+    subst (λ a. Does c.args.who a (g.S.Lookups.state c.args.store.now) (g.S.Lookups.state c.raw_save.new.store) c.raw_save.result) (sym asked) (c.raw_save.ensures c.args.who)
+
+pub returns-in-RawEnd-clause-done : goal.returns-in-RawEnd-clause-done
+returns-in-RawEnd-clause-done g c = subst (λ a. Does c.args.who a (g.S.Lookups.state c.args.store.now) (g.S.Lookups.state c.raw_end.new.store) c.raw_end.result) (sym c.in-RawEnd.is) (c.raw_end.ensures c.args.who)
+
+pub returns-in-BlockSave-clause-done : goal.returns-in-BlockSave-clause-done
+returns-in-BlockSave-clause-done g c =
+    let asked = c.in-BlockSave.is ∙ ap (λ bs. access.BlockSave c.in-BlockSave.addr c.in-BlockSave.at bs) (sym c.bytes-in-BlockSave.ensures) in
+    subst (λ a. Does c.args.who a (g.S.Lookups.state c.args.store.now) (g.S.Lookups.state c.block_save.new.store) c.block_save.result) (sym asked) (c.block_save.ensures c.args.who)

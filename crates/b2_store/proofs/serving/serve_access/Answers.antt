@@ -28,4 +28,4 @@ pub returns-in-None-clause-fits : goal.returns-in-None-clause-fits
 returns-in-None-clause-fits g c =
     let s = g.S.Lookups.state c.args.store.now in
     let a = c.args.access.now in
-    IfOk-weaker c.perform.result _ _ (λ x is. done-so s c.args.who a (AnswerFits a) (served-fits s c.args.who a c.requires.legal c.perform.ensures.good) _ (sym c.stop.ensures ∙ c.in-None.is) is) c.perform.ensures.done
+    IfOk-weaker c.perform.result _ _ (λ x is. done-so s c.args.who a (AnswerFits a) (served-fits s c.args.who a c.requires.legal c.perform.ensures.good c.perform.ensures.good_read) _ (sym c.stop.ensures ∙ c.in-None.is) is) c.perform.ensures.done

@@ -1,6 +1,6 @@
 use Rattle.std.proofs.Common.{◌≡◌, drop}
-use Rattle.b2_datafile.specs.Loading.{agree}
-use Rattle.b2_datafile.proofs.loading.agree.Given as goal
+use Rattle.b2_record.specs.Asking.{agree}
+use Rattle.b2_record.proofs.asking.agree.Given as goal
 
 -- all agree exactly where the rest does
 abbrev pub invariant-loop-kind : goal.invariant-loop-kind

@@ -1,8 +1,8 @@
 use Rattle.std.proofs.Common.{◌≡◌, ◌∙◌, drop, sym}
 use Rattle.std.specs.List.{list_all}
 use Rattle.b2_platter.specs.Layout.{is_zero}
-use Rattle.b2_datafile.proofs.EndSector.{mark-told, mark-zeros}
-use Rattle.b2_datafile.proofs.end_sector.is_end_mark.Goals as goal
+use Rattle.b2_record.proofs.EndSector.{mark-told, mark-zeros}
+use Rattle.b2_record.proofs.end_sector.is_end_mark.Goals as goal
 
 pub returns-then-sector-eq-END_MARK : goal.returns-then-sector-eq-END_MARK
 returns-then-sector-eq-END_MARK c =

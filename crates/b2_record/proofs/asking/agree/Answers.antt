@@ -1,8 +1,8 @@
 use Rattle.std.proofs.Common.{◌≡◌, ◌∙◌, List, [], ◌∷◌, length, drop, true, refl}
 use Rattle.b2_dec.specs.declared.values.Value.{Value}
 use Rattle.b2_dec.specs.declared.values.Kind.{Kind}
-use Rattle.b2_datafile.specs.Loading.{agree}
-use Rattle.b2_datafile.proofs.loading.agree.Goals as goal
+use Rattle.b2_record.specs.Asking.{agree}
+use Rattle.b2_record.proofs.asking.agree.Goals as goal
 
 none : (kinds : List Kind) (values : List Value) → length values ≡ 0 → true ≡ agree kinds values
 none [] values h = refl
