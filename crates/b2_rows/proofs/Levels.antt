@@ -170,8 +170,8 @@ short_part n t h = let e = part_no_longer n t in omega (arith, e, h)
 pub short_list : (s : Start) (n : ℕ) (t : Text) → length t ≤ 256 → length (after_list s n t) ≤ 256
 short_list s n t h = let e = list_no_longer s n t in omega (arith, e, h)
 
-pub is_short : (t : Text) → length t ≤ 256 → fits_unit t ≡ true
-is_short t h = grind (arith, nat_tests)
+pub short_fits : (t : Text) → length t ≤ 256 → fits_unit t ≡ true
+short_fits t h = grind (arith, nat_tests)
 
 pub short_of : (t : Text) → fits_unit t ≡ true → length t ≤ 256
 short_of t h = grind (arith, nat_tests)

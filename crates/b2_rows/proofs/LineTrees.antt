@@ -29,7 +29,7 @@ use Rattle.b2_atom.proofs.lines.LineLaws.{spells_tree, atoms_back}
 use Rattle.b2_rows.specs.Rows.{reading_row, tree_of, is_phrase, tree_at, after_phrase}
 use Rattle.b2_rows.specs.Laws.{IsRow, IsRowOnTree}
 use Rattle.b2_rows.specs.Following.{line_tree, tree_units, further_on}
-use Rattle.b2_rows.proofs.Levels.{is_short}
+use Rattle.b2_rows.proofs.Levels.{short_fits}
 use Rattle.b2_rows.proofs.Standing.{row_stands}
 use Rattle.b2_rows.proofs.Units.{each_tree_unit_is_its_row, line_short}
 
@@ -196,7 +196,7 @@ error_told u h k = byte_by word.ERROR row.ERROR u.position (atoms u.tree) u.row 
 pub unit_is_row : (n : ℕ) (bytes : Text) → length bytes ≤ 255 → IsReadBy n bytes → IsRow n bytes (tree_at n bytes)
 unfolding is_phrase tree_at after_phrase reading_row
 unit_is_row n bytes short h = record {
-  part = both _ _ (is_short bytes (let e : length bytes ≤ 256 = omega (arith, short) in e)) (ap is_ok h.read);
+  part = both _ _ (short_fits bytes (let e : length bytes ≤ 256 = omega (arith, short) in e)) (ap is_ok h.read);
   tree = refl;
   whole = ap left_after h.read;
 }

@@ -10,7 +10,7 @@ use Rattle.b2_atom.specs.declared.forms.Start.{Start}
 use Rattle.b2_atom.proofs.Booleans.{and_left, and_right, both, false_true}
 use Rattle.b2_rows.specs.Rows.{reading_row, reading_list, tree_of, fits_unit, is_phrase, tree_at, after_phrase, is_list, list_at, after_list, Goes, Ends}
 use Rattle.b2_rows.specs.Laws.{EachListSteps}
-use Rattle.b2_rows.proofs.Levels.{Up, many_up, reading_no_longer, is_short, short_of}
+use Rattle.b2_rows.proofs.Levels.{Up, many_up, reading_no_longer, short_fits, short_of}
 
 going : (s : Start) (n : ℕ) (t : Text) (o u w : Outcome) → length t ≤ 256 → reading_row n t ≡ o → many (reader Atoms) s (reading_row n) 255 (left_after o) ≡ u → reading_list s n (left_after o) ≡ w
     → Up u w → reading_list s n t ≡ and_then (under 1 o) (many (reader Atoms) s (reading_row n) 255) → is_ok (reading_list s n t) ≡ true → Goes s n t
@@ -23,8 +23,8 @@ going s n t (Ok p) (Ok q) w short is_o is_u is_w up is ok =
     let less : length p.1 ≤ 256 = (let e : length (left_after (reading_row n t)) ≤ length t = reading_no_longer n t in let f : length (left_after (reading_row n t)) ≡ length p.1 = ap (λ (x : Outcome). length (left_after x)) is_o in omega (arith, e, f, short)) in
     let at : after_phrase n t ≡ p.1 = ap left_after is_o in
     record {
-      part = both _ _ (is_short t short) (ap is_ok is_o);
-      list = subst (λ (x : Text). (fits_unit x && is_ok (reading_list s n x)) ≡ true) (sym at) (both _ _ (is_short p.1 less) (ap is_ok same));
+      part = both _ _ (short_fits t short) (ap is_ok is_o);
+      list = subst (λ (x : Text). (fits_unit x && is_ok (reading_list s n x)) ≡ true) (sym at) (both _ _ (short_fits p.1 less) (ap is_ok same));
       tree = ap tree_of whole ∙ sym (ap (λ (x : Outcome). In 1 (tree_of x) (tree_of (reading_list s n (left_after x)))) is_o ∙ ap (λ (x : Outcome). In 1 p.0 (tree_of x)) same);
       rest = ap left_after whole ∙ sym (ap (λ (x : Outcome). left_after (reading_list s n (left_after x))) is_o ∙ ap left_after same);
     }

@@ -18,7 +18,7 @@ use Rattle.b2_atom.proofs.Booleans.{and_left, and_right, both}
 use Rattle.b2_rows.specs.Leaves.{put_leaf, after_leaf}
 use Rattle.b2_rows.specs.Rows.{reading_row, reading_list, tree_of, fits_unit, is_phrase, tree_at, after_phrase, is_list, list_at, after_list, When, Stands, tree_by, rest_by, RowStands}
 use Rattle.b2_rows.specs.Laws.{EachRowStands}
-use Rattle.b2_rows.proofs.Levels.{no_statement, in_parentheses, at_level, up_level, up_nest, list_up, short_drop, short_leaf, short_part, short_list, is_short, short_of}
+use Rattle.b2_rows.proofs.Levels.{no_statement, in_parentheses, at_level, up_level, up_nest, list_up, short_drop, short_leaf, short_part, short_list, short_fits, short_of}
 use Rattle.b2_rows.proofs.Items.{Holds, holds_preceded, holds_map, symbol_case, among_case, short_case, nothing_case, end_case, leaf_case, part_case, list_case}
 
 -- what the items of a row say of a text, of a tree and of a rest
@@ -37,12 +37,12 @@ when_false true x y h k = cc
 part_at : (b n : ℕ) (t : Text) (q : Parser Text) (v : Trees → Text → Type 0) → length t ≤ 256
     → (is_phrase n t ≡ true → Holds (λ c r. v (In b (tree_at n t) c) r) (q (after_phrase n t))) → Holds v (and_then (under b (at_level 39 n t)) q)
 unfolding is_phrase tree_at after_phrase reading_row
-part_at b n t q v short h = part_case b (at_level 39 n t) (reading_row n t) q v (up_level 39 n t) (λ ok. h (both _ _ (is_short t short) ok))
+part_at b n t q v short h = part_case b (at_level 39 n t) (reading_row n t) q v (up_level 39 n t) (λ ok. h (both _ _ (short_fits t short) ok))
 
 nest_at : (b n : ℕ) (t : Text) (q : Parser Text) (v : Trees → Text → Type 0) → length t ≤ 256
     → (is_phrase n t ≡ true → Holds (λ c r. v (In b (tree_at n t) c) r) (q (after_phrase n t))) → Holds v (and_then (under b (in_parentheses n t)) q)
 unfolding is_phrase tree_at after_phrase
-nest_at b n t q v short h = part_case b (in_parentheses n t) (reading_row n t) q v (up_nest n t) (λ ok. h (both _ _ (is_short t short) ok))
+nest_at b n t q v short h = part_case b (in_parentheses n t) (reading_row n t) q v (up_nest n t) (λ ok. h (both _ _ (short_fits t short) ok))
 
 by_start : (b : Bool) (o u : Outcome) (q : Parser Text) (v : Trees → Text → Type 0) → (b ≡ true → Holds v (and_then o q)) → (b ≡ false → Holds v (and_then u q))
     → Holds v (and_then (if b then o else u) q)
@@ -52,7 +52,7 @@ by_start false o u q v h k = k refl
 list_in : (s : Start) (n : ℕ) (t : Text) (q : Parser Text) (v : Trees → Text → Type 0) → length t ≤ 256
     → (is_list s n t ≡ true → Holds (λ c r. v (also (list_at s n t) c) r) (q (after_list s n t))) → Holds v (and_then (many (reader Atoms) s (at_level 39 n) (length t) t) q)
 unfolding is_list list_at after_list reading_list
-list_in s n t q v short h = list_case (many (reader Atoms) s (at_level 39 n) (length t) t) _ q v (list_up s n t short) (λ ok. h (both _ _ (is_short t short) ok))
+list_in s n t q v short h = list_case (many (reader Atoms) s (at_level 39 n) (length t) t) _ q v (list_up s n t short) (λ ok. h (both _ _ (short_fits t short) ok))
 
 abbrev in_row : List Item → Parser Text
 in_row is t = items no_statement in_parentheses (at_level 39) (reader Atoms) is t

@@ -21,7 +21,7 @@ use Rattle.b2_atom.proofs.reading.Sound.{takes_statement}
 use Rattle.b2_atom.proofs.lines.EachUnit.{each_unit, tree_is_cut}
 use Rattle.b2_rows.specs.Rows.{reading_row, tree_of, is_phrase, tree_at, after_phrase}
 use Rattle.b2_rows.specs.Laws.{IsRow, IsRowUnit, EachUnitIsARow, IsRowOnTree, EachTreeUnitIsItsRow}
-use Rattle.b2_rows.proofs.Levels.{no_longer, is_short}
+use Rattle.b2_rows.proofs.Levels.{no_longer, short_fits}
 
 -- a statement that is read is its row
 same_row : (m n : ℕ) (a t : Trees) → In m a Done ≡ In n t Done → m ≡ n
@@ -37,7 +37,7 @@ of_under m n t rest (Err e) is = cc
 row_of_reading : (n : ℕ) (u : Text) (t : Trees) (o : Outcome) → length u ≤ 256 → reading_row n u ≡ o → o ≡ Ok (t, []) → IsRow n u t
 unfolding is_phrase tree_at after_phrase
 row_of_reading n u t o short is_o is = record {
-  part = both _ _ (is_short u short) (ap is_ok (is_o ∙ is));
+  part = both _ _ (short_fits u short) (ap is_ok (is_o ∙ is));
   tree = ap tree_of (is_o ∙ is);
   whole = ap left_after (is_o ∙ is);
 }
