@@ -1,5 +1,5 @@
 -- After a step a name leads to whom it led before, or to the partition of the step.
-use Rattle.std.specs.Prelude.{◌≡◌, ◌⊎◌, ℕ, List, None, if◌then◌else◌}
+use Rattle.std.specs.Prelude.{◌≡◌, ◌⊎◌, ℕ, List, None}
 use Rattle.std.proofs.Common.{sym, ap, ◌∙◌, inl, inr}
 use Rattle.b2_flow.specs.declared.frame.Place.{Place}
 use Rattle.b2_vars.specs.Globals.{Globals, unreached}

@@ -21,7 +21,7 @@ use Rattle.b2_machine.specs.Step.{StepEnd, executes, executes_by, goes_through, 
 use Rattle.b2_machine.specs.Turn.{turn_from}
 use Rattle.b2_machine.specs.declared.statements.Progress.TheVariants as progress
 use Rattle.b2_machine.proofs.Lent.{texts_same}
-use Rattle.b2_machine.proofs.StraightLine.{led_more, led_none, nothing}
+use Rattle.b2_machine.proofs.StraightLine.{led_more, led_none}
 use Rattle.b2_machine.proofs.Presence.{presence_kept}
 use Rattle.b2_machine.proofs.StepPart.{steps_keep_part}
 use Rattle.b2_machine.proofs.Turns.{by_first, first_same}

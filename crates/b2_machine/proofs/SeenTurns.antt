@@ -1,5 +1,5 @@
 -- A step, by cases on its six rules, and a turn, by its steps, over a store that is seen as another one.
-use Rattle.std.specs.Prelude.{◌≡◌, ℕ, zero, suc, Option, Some, None, refl, if◌then◌else◌}
+use Rattle.std.specs.Prelude.{◌≡◌, ℕ, zero, suc, Option, Some, None, refl}
 use Rattle.std.proofs.Common.{sym, ap, subst, ◌∙◌}
 use Rattle.b2_vars.specs.Globals.{Globals, unreached}
 use Rattle.b2_flow.specs.declared.frame.Place.{Place}

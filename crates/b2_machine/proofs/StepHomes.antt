@@ -1,5 +1,5 @@
 -- A step names no partition as a home but its own, those that were named before, and those to whom a name leads that it touches.
-use Rattle.std.proofs.Common.{◌≡◌, ℕ, ◌∙◌, sym, ap, subst, nat_lt, Bool, true, false, not, if◌then◌else◌, List, [], ◌∷◌, length, Option, Some, None, is_some, Result, Ok, Err, refl}
+use Rattle.std.proofs.Common.{◌≡◌, ℕ, ◌∙◌, sym, ap, subst, nat_lt, Bool, true, false, not, List, [], ◌∷◌, length, Option, Some, None, is_some, Result, Ok, Err, refl}
 use Rattle.std.specs.Prelude.{◌&&◌, ◌++◌, ◌+◌}
 use Rattle.std.specs.Option.{option_map, option_and_then}
 use Rattle.b2_flow.specs.Frames.{is_immediate_loop}

@@ -1,5 +1,5 @@
 -- A step asks at the terminal of its partition alone, and leaves which one that is.
-use Rattle.std.proofs.Common.{◌≡◌, ◌∙◌, refl, ap, ℕ, Bool, true, false, if◌then◌else◌, List, Option, Some, None, is_some}
+use Rattle.std.proofs.Common.{◌≡◌, ◌∙◌, refl, ap, ℕ, Bool, true, false, List, Option, Some, None, is_some}
 use Rattle.std.specs.Str.{bytes_eq}
 use Rattle.b2_flow.specs.declared.frame.Place.{Place}
 use Rattle.b2_syntax.specs.Reading.{reads}
@@ -32,7 +32,7 @@ use Rattle.b2_machine.specs.Messages.{prints_text, shows_text}
 use Rattle.b2_machine.specs.Moving.{ends_by, ends_onward}
 use Rattle.b2_machine.specs.Readiness.{gives_back, without_halt}
 use Rattle.b2_machine.specs.Statements.{Begun, begins, begins_where, begun_by, builder_of, finish_by, finishes, leaves, plan_by}
-use Rattle.b2_machine.specs.Step.{StepEnd, carries_out, lent_to_begin, line_read, seen_by, step, steps_by, text_in, whose_by}
+use Rattle.b2_machine.specs.Step.{StepEnd, carries_out, lent_to_begin, line_read, seen_by, steps_by, text_in, whose_by}
 use Rattle.b2_machine.specs.Touched.{StepsAskAtTerminal, access_asked, asks_by}
 use Rattle.b2_machine.specs.Typing.{inserts_literal, on_own_line, output_pending, put_by, puts_numbered, shown_by, shows_output, shows_pending, takes_or_refuses, typed_by_key}
 use Rattle.b2_machine.proofs.OwnRules.{Own, StaysOwn, ended_stays, line_stays, onward_stays, pressed_stays, put_stays, shown_stays, typed_stays}

@@ -137,11 +137,11 @@ module _ (ways : Ways) (lawful : AreLawful ways) (before : Private) where
     by_rule : (r : Rule) (m : M) → Unless (steps_by ways store serving lending r before m).end (steps_by ways store serving lending r before m).me
     by_rule rule.Reset m h = let counted = reset_counts (is_ready before) in cc
     by_rule rule.Halt m h = cc
-    by_rule rule.Show m = shown (shows_output before) _
-    by_rule rule.Insert m = typed _
-    by_rule rule.Read m = let g = serving m before.part (access.ReadLine before.term) in read g.answer g.after
-    by_rule rule.Put m = put _
-    by_rule (rule.Execute p) m = executed p m
+    by_rule rule.Show m h = shown (shows_output before) _ h
+    by_rule rule.Insert m h = typed _ h
+    by_rule rule.Read m h = let g = serving m before.part (access.ReadLine before.term) in read g.answer g.after h
+    by_rule rule.Put m h = put _ h
+    by_rule (rule.Execute p) m h = executed p m h
 
 module _ (ways : Ways) (lawful : AreLawful ways) {M : Type 0} (store : M → StoreState) (serving : ServingOf M) (lending : Loan M) where
   pub uncounted_steps_change_nothing : UncountedStepsChangeNothing ways store serving lending

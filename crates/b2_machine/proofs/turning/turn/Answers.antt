@@ -1,4 +1,3 @@
-use Rattle.b2_machine.proofs.Kept.{same_kept}
 use Rattle.b2_machine.proofs.turning.turn.Goals as goal
 
 pub take_steps-requires-clause-present : goal.take_steps-requires-clause-present
