@@ -293,6 +293,7 @@ fn write_entered(
 }
 
 /// Marks that names are written. Memory fails only where there is one.
+#[inline(always)]
 fn write_names(
     seen: &mut Seen,
     who: Part,
@@ -322,6 +323,7 @@ fn write_holders(seen: &mut Seen, who: Part, addresses: &[Addr]) -> Result<(), N
 }
 
 /// Marks the devices that an access writes. Memory fails only there.
+#[inline(always)]
 fn write_devices(seen: &mut Seen, who: Part, access: &Access) -> Result<(), NoMemory>
     ensures written { OnOk result (seen.new ≡ write_all who (devices_changed access.now) seen.old) }
     ensures memory { IfErr result (λ _. GrowsMarks access.now) }
@@ -336,6 +338,7 @@ fn write_devices(seen: &mut Seen, who: Part, access: &Access) -> Result<(), NoMe
 
 /// Marks what an access writes where nothing stops it. Memory fails only where it may write a device or a name.
 #[tactic(auto, using(crate::proofs::InParts::written_in_parts))]
+#[inline(always)]
 fn mark_each_written(
     seen: &mut Seen,
     who: Part,

@@ -342,6 +342,7 @@ pub fn begin_with<L: Language>(
 }
 
 /// It ends by the answer to its access, over what is lent again.
+#[inline(always)]
 pub fn finish_over<L: Language>(
     alloc: Global,
     me: &mut Private,
