@@ -10,7 +10,7 @@ pub mod Served
 pub mod Records
 pub mod Kept
 pub mod Made
-pub mod Sectors
+pub mod SectorsKept
 pub mod Others
 pub mod Sound
 pub mod Spares

@@ -41,7 +41,7 @@ use Rattle.b2_store.proofs.Answered.{IsFileOf, as-made-is, end-told, file-parts,
 use Rattle.b2_store.proofs.Kept.{Keeps, end-keeps, put-keeps, scratch-keeps}
 use Rattle.b2_store.proofs.Made.{MadeOf, file-keeps, name-kept, new-data, program-keeps}
 use Rattle.b2_store.proofs.Records.{allowed-room, ends-at, record-long}
-use Rattle.b2_store.proofs.Sectors.{NoFile, block-keeps, mark-keeps, raw-keeps}
+use Rattle.b2_store.proofs.SectorsKept.{NoFile, block-keeps, mark-keeps, raw-keeps}
 
 pub same-bytes : (a b : List ℕ) → (a ≡ b) ⊎ (a ≡ b → ⊥)
 same-bytes a b = by (bytes_eq a b) refl

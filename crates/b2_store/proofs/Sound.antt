@@ -42,7 +42,7 @@ use Rattle.b2_store.specs.FileWork.{block_saved, file_ended, file_moved, files_m
 use Rattle.b2_store.proofs.Answered.{as-made-is}
 use Rattle.b2_store.proofs.Kept.{Keeps}
 use Rattle.b2_store.proofs.Made.{file-keeps, new-data, program-keeps}
-use Rattle.b2_store.proofs.Sectors.{NoFile, block-keeps, mark-keeps, raw-keeps}
+use Rattle.b2_store.proofs.SectorsKept.{NoFile, block-keeps, mark-keeps, raw-keeps}
 use Rattle.b2_store.proofs.Others.{ended-keeps, same-bytes, saved-keeps, scratched-keeps}
 
 -- ---- images
