@@ -1,5 +1,5 @@
 -- Sectors that are written by their number leave an image good, with an index as long, and every file as it is.
-use Rattle.std.proofs.Common.{◌≡◌, ℕ, ◌≤◌, List, [], ◌∷◌, length, Ok, ap, ◌∙◌, arith}
+use Rattle.std.proofs.Common.{◌≡◌, ℕ, ◌≤◌, true, List, [], ◌∷◌, length, Ok, ap, ◌∙◌, arith}
 use Rattle.std.specs.FinMap.{get}
 use Rattle.std.specs.List.{list_all}
 use Rattle.b2_dec.specs.declared.values.Value.{Value}
