@@ -199,7 +199,8 @@ pub fn finish(
         return Ok(Outcome::Repeat);
     }
     match unit.row {
-        rows::PRINT | rows::PRINTUSING => Ok(after_show_or_print(me, access, answer)),
+        rows::PRINT => Ok(after_show_or_print(me, access, answer)),
+        rows::PRINTUSING => Ok(after_show_or_print(me, access, answer)),
         rows::KEYIN => {
             let goes = after_key(home, place, access, answer, unit.bytes);
             let Some(key) = key_byte(access, answer) else {
