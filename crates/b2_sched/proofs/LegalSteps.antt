@@ -1,7 +1,7 @@
 -- What a step asks for may be asked for.
 use Rattle.std.specs.Prelude.{◌≤◌, min, ℕ, Option, Some, None, if◌then◌else◌}
 use Rattle.std.specs.Str.{bytes_eq}
-use Rattle.std.proofs.Common.{refl, arith}
+use Rattle.std.proofs.Common.{refl, arith, unwrap_or}
 use Rattle.b2_access.proofs.Choice.{either}
 use Rattle.b2_access.specs.Partition.{terminal_address}
 use Rattle.b2_access.specs.Store.{StoreState}

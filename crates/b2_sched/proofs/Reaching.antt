@@ -141,7 +141,7 @@ module _ (among : ℕ → Bool) (may : ℕ → Access → Type 0) (Fine : Object
         λ n. ap (λ (t : StoreState). content t (object.Name n)) (begun_store itself serves lends (λ who home at m l. refl) me.part p.home whose s left) ∙ names_left p.home whose left.vars s n in
         both front back (begin_fine me.part p.home whose s w.part h (λ n q i. led n q (in_left (object.Name n) front back i)))
         (carried_fine me.part b.progress p whose b.me u w.part h asks (λ n q i leads. led n q (in_right (object.Name n) front back i) (sym (names n) ∙ leads)))
-    each_rule r me s is w = by_rule me.part (asks_by ways r me s) s w.part
+    each_rule r me s is w led asks = by_rule me.part (asks_by ways r me s) s w.part led asks
 
     -- ALL THAT A STEP TOUCHES is so, where each name that it touches leads to one among them
     pub stepped : (me : Private) (s : StoreState) → IsWithin among me → Reached me.part (told ways itself serves lends me s) (asking ways me s) s
