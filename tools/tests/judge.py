@@ -12,7 +12,7 @@ PATIENCE = 120
 
 # The line of each status, of which a name, or what stands for it, is told apart.
 LINES = {
-    0: rb'', 1: rb'usage\n', 2: rb'missing (?P<name>\S+)\n', 3: rb'read fault (?P<name>\S+)\n', 4: rb'bad boot ([1-9]|1[0-4])\n',
+    0: rb'', 1: rb'usage\n', 2: rb'missing (?P<name>\S+)\n', 3: rb'read fault (?P<name>\S+)\n', 4: rb'bad boot ([1-9]|1[0-5])\n',
     5: rb'bad log (?P<line>[1-9]\d*) [1-6]\n', 6: rb'bad image (?P<address>[3BD][0-9A-F]{2}) (?P<check>[1-9])\n',
     7: rb'write fault (?P<output>\S*)\n', 8: rb'no memory\n', 9: rb'too long (?P<name>\S+) (?P<limit>\d+)\n',
     11: rb'no memory for (?P<output>\S*)\n',

@@ -113,6 +113,8 @@ class Maker:
             case 'Among':
                 texts = grammar.known_words()[1]
                 return self.one(texts[texts.index(values[0]):texts.index(values[1]) + 1])
+            case 'ShortWord':
+                return values[0]
             case 'Ignored':
                 return values[0] if self.happens(.5) else ''
             case 'Comma':
